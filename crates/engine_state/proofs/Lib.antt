@@ -14,6 +14,7 @@ pub mod GroupEnds
 pub mod Grouping
 pub mod Known
 pub mod MadeTexts
+pub mod ValueTexts
 pub mod MeaningTexts
 pub mod CuttingReadings
 pub mod Pulling

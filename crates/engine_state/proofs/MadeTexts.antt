@@ -1,6 +1,6 @@
 -- Texts by which the list that is made grows, piece by piece.
 use Rattle.std.proofs.Common.{◌≡◌, ℕ, List, [], ◌∷◌, ◌++◌, refl, sym, ap, ◌∙◌, subst, append_assoc, append-nil, Bool, true, false}
-use Rattle.std.specs.Prelude.{Option, Some, MatchBool, ◌||◌}
+use Rattle.std.specs.Prelude.{Option, Some, MatchBool, ◌||◌, if◌then◌else◌}
 use Rattle.std.proofs.lemmas.List.{map-append}
 use Rattle.tex_defs.specs.declared.Sizes.{Sizes}
 use Rattle.tex_defs.specs.declared.Full.{Full}
@@ -13,7 +13,12 @@ use Rattle.plain_tokens.specs.Meanings.{seen_as, token_meaning, whole_meaning}
 use Rattle.plain_tokens.specs.Pending.{all_puts}
 use Rattle.plain_tokens.specs.Printed.{Style, meaning_head, token_text, list_from, places_after, last_after}
 use Rattle.plain_machine.specs.Plan.{Page}
+use Rattle.plain_machine.proofs.GroupNumbers.{fetched_same}
 use Rattle.plain_machine.proofs.Ties.{text_let}
+use Rattle.equivalents.specs.declared.values.Loc.{Loc}
+use Rattle.equivalents.specs.Locations.{SeenValue, value_seen}
+use Rattle.equivalents.specs.Tables.{Tables, get}
+use Rattle.rows.specs.Internal.{is_fetchable, IsFetchable, value_text}
 use Rattle.input_state.specs.HeldLists.{made as made_list}
 use Rattle.input_state.specs.Stored.{Stored}
 use Rattle.engine_state.specs.declared.engine.Engine.{Engine}
@@ -21,7 +26,7 @@ use Rattle.engine_state.specs.declared.text.Made.{Made}
 use Rattle.engine_state.specs.declared.text.Made.TheVariants as make
 use Rattle.engine_state.specs.Book.{Book}
 use Rattle.engine_state.specs.Stands.{IsSound, page_of, own_style}
-use Rattle.engine_state.specs.Making.{HasGrown, GrowsNot, IsInFront, characters_of, characters_in}
+use Rattle.engine_state.specs.Making.{HasGrown, GrowsNot, IsInFront, characters_of, characters_in, text_at}
 use Rattle.engine_state.proofs.TextPutting.{grown_none, grown_both, later_not, first_not, not_by, front_sound}
 
 -- whether there was a character, of two parts
@@ -127,6 +132,11 @@ characters_are sizes e book sound (make.Number n) = refl
 characters_are sizes e book sound (make.Roman n) = refl
 characters_are sizes e book sound (make.Spelling t) = refl
 characters_are sizes e book sound (make.Meaning x) = text_let book.number book.macros e.input.groups (all_puts e.input.pending) e.input.lists sound.tied (own_style e) x
+characters_are sizes e book sound (make.Value l) = ap (λ (v : SeenValue). if is_fetchable l then value_text l v else []) (fetched_same book.number e.input.groups.now l)
+
+-- what stands at a location that is there
+pub text_there : (m : Tables) (l : Loc) → IsFetchable l → text_at m l ≡ value_text l (value_seen (get m l))
+text_there m l there = rw there refl
 
 -- before and behind what begins a text
 pub characters_behind : (sizes : Sizes) (e e1 : Engine) (book : Book) → IsInFront e e1 → IsSound sizes e book.number book.macros → (m : Made) → characters_of (page_of e book) m ≡ characters_in e1 m

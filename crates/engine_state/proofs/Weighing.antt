@@ -5,16 +5,15 @@ use Rattle.std.proofs.lemmas.List.{append-nil}
 use Rattle.tex_defs.specs.declared.Seen.{Seen}
 use Rattle.tex_defs.specs.declared.Token.{Token}
 use Rattle.rows.specs.declared.words.Kind.{Kind as Begun}
-use Rattle.rows.specs.declared.words.Kind.TheVariants.{Command, Integer, Text, Definition}
+use Rattle.rows.specs.declared.words.Kind.TheVariants.{Command, Integer, Keyword, Text, Definition}
 use Rattle.rows.specs.declared.words.Value.{Value}
 use Rattle.rows.specs.declared.command.Call.{Call}
 use Rattle.rows.specs.declared.command.Effect.TheVariants.{ExpandBehind}
 use Rattle.rows.specs.Readings.{Ask, Inner, Done, Acts}
 use Rattle.plain_readings.specs.Readings.{Kind, Reads, Spelling, FileName, Behind, Arguments, Reading, ask}
-use Rattle.plain_readings.specs.Laws.{BeginsNoCommand, rank}
+use Rattle.plain_readings.specs.Laws.{rank}
 use Rattle.plain_readings.specs.Weights.{frame_weight, value_weight, act_weight}
-use Rattle.plain_readings.proofs.Lower.{lower}
-use Rattle.plain_readings.proofs.Weights.{no_command_low}
+use Rattle.plain_readings.proofs.Lower.{begun_low as begun_rank}
 use Rattle.reading_frames.specs.Resumes.{resume}
 use Rattle.reading_frames.specs.Stack.{asks_in}
 use Rattle.reading_frames.specs.Stands as frames
@@ -36,12 +35,14 @@ lighter e e' none none' same less =
 begun_low : (k : Begun) → rank (Reads k) < 1 → begun_weight (opening.Reads k) ≡ 0
 begun_low (Command c) h = absurd (omega (arith, h))
 begun_low Integer h = refl
+begun_low (Keyword w) h = refl
 begun_low (Text name expanded) h = refl
 begun_low (Definition name expanded) h = refl
 
 with_low : (k : Begun) → rank (Reads k) < 1 → begun_with_weight (opening.Reads k) ≡ 19
 with_low (Command c) h = absurd (omega (arith, h))
 with_low Integer h = refl
+with_low (Keyword w) h = refl
 with_low (Text name expanded) h = refl
 with_low (Definition name expanded) h = refl
 
@@ -51,7 +52,7 @@ inner_low (f ∷ fs) held [] k begins st asks = absurd st
 inner_low (f ∷ fs) held (r ∷ rs) k begins st asks =
     let now : ask r.kind r.fed ≡ resume f held [] = ap (ask r.kind) (sym (append-nil r.fed)) ∙ st.0.goes_on [] in
     let is : resume f held [] ≡ Inner k begins = cc asks in
-    no_command_low k begins (subst BeginsNoCommand (now ∙ is) (lower r.kind r.fed))
+    begun_rank r.kind r.fed k begins (now ∙ is)
 
 -- EACH RULE, by what the calls say
 

@@ -1,5 +1,5 @@
 -- The list that is made grows.
-use Rattle.std.specs.Prelude.{◌≡◌, ℕ, List, ◌++◌, map, Option, None, Some}
+use Rattle.std.specs.Prelude.{◌≡◌, ℕ, List, [], ◌++◌, map, Option, None, Some, if◌then◌else◌}
 use Rattle.tex_defs.specs.Places.{World}
 use Rattle.tex_defs.specs.declared.Full.{Full}
 use Rattle.tex_defs.specs.declared.Sizes.{Sizes}
@@ -8,6 +8,10 @@ use Rattle.plain_tokens.specs.Meanings.{meaning_to_let}
 use Rattle.plain_tokens.specs.Numerals.{whole_number, roman}
 use Rattle.plain_tokens.specs.Printed.{meaning_text}
 use Rattle.plain_state.specs.Reports.{string_text}
+use Rattle.equivalents.specs.declared.values.Loc.{Loc}
+use Rattle.equivalents.specs.Locations.{value_seen}
+use Rattle.equivalents.specs.Tables.{Tables, get}
+use Rattle.rows.specs.Internal.{is_fetchable, value_text}
 use Rattle.plain_machine.specs.Plan.{Page, style_of, job_in, meaning_characters, macro_tokens}
 use Rattle.plain_machine.specs.States.{Move, ListGrown}
 use Rattle.plain_machine.specs.Does.{Did}
@@ -50,6 +54,10 @@ pub record IsInFront (e e' : Engine) : Type 0 where
 
 -- WHAT A TEXT IS MADE OF
 
+-- what stands at a location; of one that isn't there nothing
+abbrev pub text_at : Tables → Loc → List ℕ
+text_at m l = if is_fetchable l then value_text l (value_seen (get m l)) else []
+
 -- its characters, by what the machine has
 abbrev pub characters_of : Page → Made → List ℕ
 characters_of page make.JobName = job_in page.strings
@@ -57,6 +65,7 @@ characters_of page (make.Number n) = whole_number n
 characters_of page (make.Roman n) = roman n
 characters_of page (make.Spelling t) = string_text (style_of page) t
 characters_of page (make.Meaning x) = meaning_characters page x
+characters_of page (make.Value l) = text_at page.now l
 
 -- and by what the engine has, where macros have other numbers
 abbrev pub characters_in : Engine → Made → List ℕ
@@ -65,3 +74,4 @@ characters_in e (make.Number n) = whole_number n
 characters_in e (make.Roman n) = roman n
 characters_in e (make.Spelling t) = string_text (own_style e) t
 characters_in e (make.Meaning x) = meaning_text (own_style e) (macro_tokens e.input.lists) (meaning_to_let e.input.groups.now.meanings x)
+characters_in e (make.Value l) = text_at e.input.groups.now l

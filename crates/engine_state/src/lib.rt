@@ -17,6 +17,7 @@ mod next;
 mod outcome;
 mod readings;
 mod text;
+mod values;
 mod views;
 mod writing;
 

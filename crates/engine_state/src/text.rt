@@ -19,7 +19,7 @@ ghost use Rattle.plain_machine.specs.Plan.{put_made, put_characters, macro_token
 ghost use Rattle.plain_machine.specs.Does.{Did};
 ghost use Rattle.input_state.specs.HeldLists.{made};
 ghost use Rattle.engine_state.specs.Book.{Book};
-ghost use Rattle.engine_state.specs.Making.{HasGrown, GrowsNot, IsInFront, characters_in, characters_of};
+ghost use Rattle.engine_state.specs.Making.{HasGrown, GrowsNot, IsInFront, characters_in, characters_of, text_at};
 ghost use Rattle.engine_state.specs.Stands.{Counts, IsSound, SameStore, SameOthers, SameFrames, state_of, page_of};
 ghost use Rattle.engine_state.specs.Rules.{Cuts};
 ghost use Rattle.engine_state.specs.Steps.{pending_weight};
@@ -27,8 +27,10 @@ ghost use Rattle.engine_state.specs.Steps.{pending_weight};
 use crate::broken::Broken;
 use crate::engine::Engine;
 use crate::meaning::name_of;
+use crate::values::text_at;
 use crate::views::{ESCAPE_CHARACTER, NEW_LINE_CHARACTER, names_view};
 use char_text::{Roman, Text, whole_number_length};
+use equivalents::Loc;
 use input_state::{Input, walks_stay};
 use name_table::NameTable;
 use tex_defs::{Full, Meaning, Name, Seen, Sizes, Token};
@@ -47,6 +49,8 @@ pub enum Made {
     Spelling(Token),
     /// What the token means.
     Meaning(Seen),
+    /// What stands at the location.
+    Value(Loc),
 }
 
 /// The token of a character of a made text: a space token, or a character of category 12.
@@ -237,6 +241,17 @@ fn grow_shown(input: &mut Input, names: &NameTable, x: Seen) -> Result<bool, Ful
     grow_meaning(input, view, x)
 }
 
+/// The list that is made gets the characters of what stands at a location. Answers whether there was one.
+fn grow_value(input: &mut Input, loc: Loc) -> Result<bool, Full>
+    requires { IsSome input.old.making }
+    ensures ok { OnOk result (HasGrown input.old input.new (made_text (text_at input.old.groups.now loc))) }
+    ensures err { IfErr result (λ full. GrowsNot input.old input.new (made_text (text_at input.old.groups.now loc)) full) }
+    ensures some { IfOk result (λ some. MatchBool some (text_at input.old.groups.now loc ≢ []) (text_at input.old.groups.now loc ≡ [])) }
+{
+    let text = text_at(input, loc);
+    grow_bytes(input, text.bytes())
+}
+
 impl Engine {
     /// The finished lists in front go, and the list that is made is begun.
     fn begin_text(&mut self) -> Result<(), Broken>
@@ -284,11 +299,12 @@ impl Engine {
             Made::Roman(n) => grow_roman(&mut self.input, n),
             Made::Spelling(token) => grow_spelling(&mut self.input, &self.names, token),
             Made::Meaning(x) => grow_shown(&mut self.input, &self.names, x),
+            Made::Value(loc) => grow_value(&mut self.input, loc),
         }
     }
 
     /// Puts such a text in front: a list of its characters is begun, grown and put, once the finished lists in front have gone; one without
-    /// characters goes. *The TeXbook*, chapter 20 (`\jobname`, `\number`, `\romannumeral`, `\string`, `\meaning`).
+    /// characters goes. *The TeXbook*, chapter 20 (`\jobname`, `\number`, `\romannumeral`, `\string`, `\meaning`, `\the`).
     ///
     /// # Errors
     /// The main memory or the input stack is full: of the list there is what had room.

@@ -21,7 +21,7 @@ ghost use Rattle.gullet.specs.Stepping.{IsLight, ExpandsTo, is_expansion, expand
 use crate::call_name::call_name;
 use engine_state::{Broken, Engine, Made, Next, Ruled, name_of};
 use reading_frames::Opening;
-use rows::{Call, Kind};
+use rows::{Call, Head, Kind};
 use tex_defs::{Frozen, Meaning, Name, Seen, Token};
 use tex_syntax::{Outcome, Report, Want};
 use world_io::Sink;
@@ -98,12 +98,12 @@ fn is_expandable(number: u16) -> bool
     (54..=84).contains(&number)
 }
 
-/// The command that a token means, a primitive, without prefixes.
-pub fn call_of(token: Token, number: u16) -> Call
-    ensures { result ≡ plain_call token number }
+/// The command that a token's name means, without prefixes.
+pub fn call_of(token: Token, head: Head) -> Call
+    ensures { result ≡ plain_call token head }
 {
     Call {
-        primitive: number,
+        head,
         name: name_of(token),
         long: false,
         outer: false,
@@ -117,7 +117,7 @@ fn primitive_expansion(token: Token, number: u16) -> Expansion
     ensures light { IsLight result }
     ensures which { is_expansion result ≡ true }
 {
-    let call = call_of(token, number);
+    let call = call_of(token, Head::Primitive(number));
     match number {
         CSNAME => Expansion::Begin(Opening::Spelling(call)),
         JOBNAME => Expansion::JobName(Opening::Reads(Kind::Command(call))),

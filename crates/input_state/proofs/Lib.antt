@@ -39,6 +39,7 @@ pub mod Demands
 pub mod Behind
 pub mod Spares
 pub mod Letting
+pub mod Listless
 pub mod Grouping
 pub mod Closing
 pub mod Walking

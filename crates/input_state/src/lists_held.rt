@@ -1,7 +1,6 @@
 // The lists in front, those that are being made and gathered, the lines of the files beneath them, and what stands at all locations.
 ghost use Rattle.std.specs.Prelude.{◌≡◌, ◌≢◌, ℕ, ◌≤◌, ◌<◌, ◌+◌, ◌++◌, ◌↔◌, true, List, [], ◌∷◌, Option, None, Some, Ok, IsSome, IfSome, IsTrue, IfOk, OnOk, OnErr, IfErr, MatchResult, MatchBool, MatchOption, length, drop, replicate, option_to_list, vec_capacity, slice_index_or, pos};
 ghost use Rattle.tex_defs.specs.Sizes.{first_out_of_range};
-ghost use Rattle.tex_defs.specs.declared.Meaning.TheVariants as means;
 ghost use Rattle.plain_tokens.specs.Meanings.{is_listed, location, name_meaning, seen, met, meaning_to_let};
 ghost use Rattle.equivalents.specs.declared.values.Loc.TheVariants as loc;
 ghost use Rattle.equivalents.specs.declared.values.Val.TheVariants as val;
@@ -25,7 +24,7 @@ ghost use Rattle.token_lists.specs.Refusals.{IsFull};
 ghost use Rattle.input_state.specs.Counted.{HaveHolders};
 ghost use Rattle.input_state.specs.HeldLists.{HeldLists, KeepsHeld, call_refusal, put_refusal, first_list, is_empty, made, words_held, gathered_held, level_held, puts_held, settle_held, pending_of, outer_in, ahead_of, AreInBuffer, GoFurther, over_held, at_line, opened_over};
 ghost use Rattle.input_state.specs.FileLeft.{FileLeft};
-ghost use Rattle.meanings.specs.Kept.{IsPlaced};
+ghost use Rattle.meanings.specs.Kept.{IsPlaced, without_list};
 ghost use Rattle.input_state.specs.HeldViews.{IsDefined};
 ghost use Rattle.input_state.specs.Macros.{HasNameRoom, IsPlaceOf, list_at};
 ghost use Rattle.input_state.specs.Calls.{call_kind, called_put, called, put_of, text_of, begun_lists, Defines};
@@ -49,6 +48,7 @@ use eqtb_save::{Closed, Eqtb, GroupKind, Loc, Val, Value, name_loc};
 use input_stack::{InputStack, Pulled as Given};
 use line_lexer::{Ahead, Lexed, Line};
 use macro_args::Args;
+use meanings::without_list;
 use std::alloc::{AllocError, Global};
 use std::marker::Model;
 use std::mem;
@@ -703,15 +703,20 @@ impl Held {
         Ok(())
     }
 
-    /// A name becomes this primitive.
+    /// A name gets this meaning, which is no macro's.
     ///
     /// # Errors
     /// The save stack is full; nothing has changed.
-    pub fn set_primitive(&mut self, name: Name, number: u16, global: bool) -> Result<(), Full>
+    pub fn set_meaning(
+        &mut self,
+        name: Name,
+        meaning: Meaning<()>,
+        global: bool,
+    ) -> Result<(), Full>
         requires calls { self.old.call ≡ NotCalling }
         requires assignable { IsPlaced (location name) (length self.old.groups.now.meanings) }
         ensures refused { MatchResult result (λ _. refused self.old.sizes (name_demands global self.old.groups name) ≡ None) (λ full. refused self.old.sizes (name_demands global self.old.groups name) ≡ Some full) }
-        ensures ok { OnOk result (self.new ≡ record self.old { groups = set_name global self.old.groups name (means.Prim number); lists = self.new.lists }) }
+        ensures ok { OnOk result (self.new ≡ record self.old { groups = set_name global self.old.groups name (without_list meaning); lists = self.new.lists }) }
         ensures err { OnErr result (self.new ≡ self.old) }
         ensures macros { KeepsHeld self.old self.new }
     {
@@ -721,7 +726,7 @@ impl Held {
             &mut self.lists,
             global,
             loc,
-            Val::Meant(Meaning::Prim(number)),
+            Val::Meant(without_list(meaning)),
         );
         Ok(())
     }

@@ -3,7 +3,6 @@ ghost use Rattle.std.specs.Prelude.{◌≡◌, ◌≢◌, ℕ, true, false, ◌�
 ghost use Rattle.std.specs.Bool.{OnTrue};
 ghost use Rattle.std.specs.Option.{option_map};
 ghost use Rattle.tex_defs.specs.Sizes.{first_out_of_range};
-ghost use Rattle.tex_defs.specs.declared.Meaning.TheVariants as means;
 ghost use Rattle.plain_tokens.specs.Tokens.{character_codes};
 ghost use Rattle.plain_tokens.specs.Meanings.{is_listed, location, name_meaning, seen, met, meaning_to_let};
 ghost use Rattle.equivalents.specs.declared.values.Val.TheVariants as val;
@@ -22,7 +21,7 @@ ghost use Rattle.token_lists.specs.Table.{tokens_at, IsHeld};
 ghost use Rattle.token_lists.specs.Table as table;
 ghost use Rattle.token_lists.specs.Ids.{build_id, id_of};
 ghost use Rattle.input_state.specs.HeldLists.{KeepsHeld, first_list, is_empty, made, ahead_of};
-ghost use Rattle.meanings.specs.Kept.{IsPlaced};
+ghost use Rattle.meanings.specs.Kept.{IsPlaced, without_list};
 ghost use Rattle.input_state.specs.declared.answer.CallKind.TheVariants.{AtOnce, Gathers};
 ghost use Rattle.input_state.specs.HeldViews.{IsDefined};
 ghost use Rattle.input_state.specs.Macros.{HasNameRoom, list_at};
@@ -49,7 +48,7 @@ use eqtb_save::{GroupKind, Loc, Val};
 use line_lexer::{Ahead, Line, LineState};
 use std::alloc::{AllocError, Global};
 use std::marker::Model;
-use tex_defs::{Full, Name, Seen, Sizes, Table, Token};
+use tex_defs::{Full, Meaning, Name, Seen, Sizes, Table, Token};
 use token_lists::{Build, ListRef, Lists};
 
 /// All lists of a run, and all that is still to be read: files beneath files, each with the rest of its line and the lists in
@@ -699,20 +698,25 @@ impl Input {
         self.held.let_name(name, x, global)
     }
 
-    /// A name becomes this primitive, as an undefined name that `\csname` makes becomes `\relax`. The list of what the name
-    /// meant is let go, or saved.
+    /// A name gets this meaning, which is no macro's, as an undefined name that `\csname` makes becomes `\relax`. The list of what the
+    /// name meant is let go, or saved.
     ///
     /// # Errors
     /// The save stack is full; nothing has changed.
-    pub fn set_primitive(&mut self, name: Name, number: u16, global: bool) -> Result<(), Full>
+    pub fn set_meaning(
+        &mut self,
+        name: Name,
+        meaning: Meaning<()>,
+        global: bool,
+    ) -> Result<(), Full>
         requires calls { self.old.call ≡ NotCalling }
         requires assignable { IsPlaced (location name) (length self.old.groups.now.meanings) }
         ensures refused { MatchResult result (λ _. refused self.old.sizes (name_demands global self.old.groups name) ≡ None) (λ full. refused self.old.sizes (name_demands global self.old.groups name) ≡ Some full) }
-        ensures ok { OnOk result (self.new ≡ record self.old { groups = set_name global self.old.groups name (means.Prim number); lists = self.new.lists }) }
+        ensures ok { OnOk result (self.new ≡ record self.old { groups = set_name global self.old.groups name (without_list meaning); lists = self.new.lists }) }
         ensures err { OnErr result (self.new ≡ self.old) }
         ensures macros { KeepsMacros self.old self.new }
     {
-        self.held.set_primitive(name, number, global)
+        self.held.set_meaning(name, meaning, global)
     }
 
     /// A code of a character, an integer or a dimension (in sp) gets this number, which suits it. *The TeXbook*, chapter 24; *TeX: The

@@ -1,7 +1,9 @@
-//! What meanings stand for where a number is read.
+//! What meanings stand for where a number is read, and what arithmetic comes to.
 
 use equivalents::{CodeKind, Loc};
-use rows::{Bank, Internal, byte_of, internal_of, is_mu};
+use rows::{
+    Bank, Internal, Operation, byte_of, computed, internal_of, is_dimension, is_mu, variable_of,
+};
 use tex_defs::{Meaning, RegisterKind};
 use tex_syntax::Report;
 
@@ -136,4 +138,56 @@ fn glue_in_mu_is_told_apart(rt: HostRuntime) {
     let mu = is_mu(Loc::Glue(15)) && is_mu(register(RegisterKind::Muskip, 0));
     let other = is_mu(Loc::Glue(14)) || is_mu(register(RegisterKind::Skip, 0));
     assert!(rt; mu && !other);
+}
+
+#[test]
+fn dimensions_are_told_apart(rt: HostRuntime) {
+    let dimension = is_dimension(Loc::Dimension(0))
+        && is_dimension(register(RegisterKind::Dimen, 0));
+    let other = is_dimension(Loc::Integer(0)) || is_dimension(register(RegisterKind::Count, 0));
+    assert!(rt; dimension && !other);
+}
+
+/// The location that arithmetic changes behind this meaning alone, if it changes one.
+fn changed(meaning: Meaning<()>) -> Option<Loc> {
+    match variable_of(meaning) {
+        Some(Internal::At(loc)) => Some(loc),
+        _ => None,
+    }
+}
+
+#[test]
+fn arithmetic_changes_integers(rt: HostRuntime) {
+    let kind = RegisterKind::Count;
+    let own = changed(Meaning::Register { kind, no: 7 });
+    assert!(rt; own == Some(register(kind, 7)));
+    assert!(rt; changed(Meaning::Prim(139)) == Some(Loc::Integer(54)));
+    assert!(rt; changed(Meaning::CharGiven(65)).is_none());
+}
+
+/// What arithmetic comes to: at its bounds, with signs, and by 0.
+const RESULTS: [(Operation, i32, i32, Option<i32>); 9] = [
+    (Operation::Advance, 2147483646, 1, Some(2147483647)),
+    (Operation::Advance, 2147483647, 1, None),
+    (Operation::Advance, -2147483647, -1, None),
+    (Operation::Multiply, 65536, -32767, Some(-2147418112)),
+    (Operation::Multiply, 65536, 65536, None),
+    (Operation::Multiply, -65536, 32768, None),
+    (Operation::Divide, -7, 2, Some(-3)),
+    (Operation::Divide, 7, -2, Some(-3)),
+    (Operation::Divide, 7, 0, None),
+];
+
+fn are_computed() -> bool {
+    for (operation, value, number, wanted) in &RESULTS {
+        if computed(*operation, *value, *number) != *wanted {
+            return false;
+        }
+    }
+    true
+}
+
+#[test]
+fn arithmetic_keeps_its_bounds(rt: HostRuntime) {
+    assert!(rt; are_computed());
 }

@@ -10,7 +10,7 @@ use crate::token_show_tests::{BRACKETS, append_all, categories};
 use char_text::Text;
 use std::alloc::Global;
 use tex_defs::{Meaning, Name, Token};
-use tex_syntax::Report;
+use tex_syntax::{Report, UnitTaken};
 use token_lists::{Build, ListRef};
 use token_show::{NamesView, View};
 use transcript::{
@@ -145,15 +145,50 @@ static GROUP_REPORTS: [(Report, &[u8]); 4] = [
     (Report::MissingRightBrace, b"! Missing } inserted.\nl.5\n"),
 ];
 
+// The reports of arithmetic, of `\the` and of units, as TeX words them.
+static VALUE_REPORTS: [(Report, &[u8]); 8] = [
+    (
+        Report::BadMathchar(32768),
+        b"! Bad mathchar (32768).\nl.5\n",
+    ),
+    (
+        Report::CantUseAfter(Meaning::RelaxMarked, 62),
+        b"! You can't use `\\relax' after \\the.\nl.5\n",
+    ),
+    (
+        Report::CantUseAfter(
+            Meaning::Char {
+                cat: 11,
+                code: b'a',
+            },
+            32,
+        ),
+        b"! You can't use `the letter a' after \\advance.\nl.5\n",
+    ),
+    (Report::ArithmeticOverflow, b"! Arithmetic overflow.\nl.5\n"),
+    (Report::DimensionTooLarge, b"! Dimension too large.\nl.5\n"),
+    (
+        Report::IllegalUnit(UnitTaken::Pt),
+        b"! Illegal unit of measure (pt inserted).\nl.5\n",
+    ),
+    (
+        Report::IllegalUnit(UnitTaken::Mu),
+        b"! Illegal unit of measure (mu inserted).\nl.5\n",
+    ),
+    (
+        Report::IllegalUnit(UnitTaken::Filll),
+        b"! Illegal unit of measure (replaced by filll).\nl.5\n",
+    ),
+];
+
 // Whether they are written like this.
-fn are_groups_reported(alloc: Global, tables: &Tables) -> bool
+fn are_reported(alloc: Global, tables: &Tables, reports: &[(Report, &[u8])]) -> bool
     requires { Knows tables.now.hash tables.now.pool.kept }
 {
     let categories = categories();
     let view = view_of(tables, &categories);
-    for k in 0..4usize {
-        let (report, wanted) = GROUP_REPORTS[k];
-        if !is_report(view, MemSink::new(alloc), report, wanted) {
+    for (report, wanted) in reports {
+        if !is_report(view, MemSink::new(alloc), *report, wanted) {
             return false;
         }
     }
@@ -163,7 +198,16 @@ fn are_groups_reported(alloc: Global, tables: &Tables) -> bool
 #[test]
 fn groups_reported(rt: HostRuntime) {
     let reported = match Tables::new(rt.alloc(), b"foo") {
-        Ok(tables) => are_groups_reported(rt.alloc(), &tables),
+        Ok(tables) => are_reported(rt.alloc(), &tables, &GROUP_REPORTS),
+        Err(_) => false,
+    };
+    assert!(rt; reported);
+}
+
+#[test]
+fn values_reported(rt: HostRuntime) {
+    let reported = match Tables::new(rt.alloc(), b"foo") {
+        Ok(tables) => are_reported(rt.alloc(), &tables, &VALUE_REPORTS),
         Err(_) => false,
     };
     assert!(rt; reported);

@@ -1,5 +1,5 @@
 -- The next token, character or line is pulled by a rule's second move, once the finished lists in front have gone, or not at all.
-use Rattle.std.proofs.Common.{◌≡◌, ℕ, ◌+◌, ◌≤◌, ◌<◌, List, [], ◌∷◌, ◌++◌, length, drop, map, slice_index_or, refl, arith, Bool, true, false}
+use Rattle.std.proofs.Common.{◌≡◌, ℕ, ℤ, ◌+◌, ◌≤◌, ◌<◌, List, [], ◌∷◌, ◌++◌, length, drop, map, slice_index_or, refl, arith, Bool, true, false}
 use Rattle.std.specs.Prelude.{Option, Some, None, if◌then◌else◌, ◌||◌, nat_eq, nat_lt}
 use Rattle.tex_syntax.specs.declared.words.Want.{Want}
 use Rattle.tex_syntax.specs.declared.words.Want.TheVariants.{Raw, Expanded, Copied, Nonblank, Command}
@@ -11,6 +11,7 @@ use Rattle.tex_syntax.specs.declared.words.Report.TheVariants as reports
 use Rattle.tex_defs.specs.declared.Seen.{Seen}
 use Rattle.tex_defs.specs.declared.Meaning.{Meaning}
 use Rattle.tex_defs.specs.declared.Meaning.TheVariants as means
+use Rattle.tex_defs.specs.declared.RegisterKind.{RegisterKind}
 use Rattle.tex_defs.specs.declared.Token.{Token}
 use Rattle.tex_defs.specs.declared.Token.TheVariants as token
 use Rattle.tex_defs.specs.declared.Fatal.TheVariants.{NoFile, HundredErrors}
@@ -27,20 +28,26 @@ use Rattle.plain_tokens.specs.Arguments.{has_parameters, arguments_in, work_in}
 use Rattle.plain_tokens.specs.Arguments as call
 use Rattle.save_stack.specs.declared.GroupKind.{GroupKind}
 use Rattle.save_stack.specs.declared.GroupKind.TheVariants.{Simple, SemiSimple}
+use Rattle.equivalents.specs.declared.values.Loc.{Loc}
 use Rattle.equivalents.specs.declared.values.Val.TheVariants as val
+use Rattle.equivalents.specs.Locations.{value_seen}
+use Rattle.equivalents.specs.Tables.{get}
 use Rattle.plain_state.specs.Reports.{string_text, hundred_line, emergency, no_file_line, token_line_bytes}
+use Rattle.rows.specs.declared.command.Head.TheVariants.{Primitive, Register}
 use Rattle.rows.specs.declared.command.Call.{Call}
 use Rattle.rows.specs.declared.command.Effect.{Effect}
 use Rattle.rows.specs.declared.command.Effect.TheVariants as effect
 use Rattle.rows.specs.declared.words.Value.{Value}
 use Rattle.rows.specs.Table.{has_row}
-use Rattle.rows.specs.Readings.{Fed, Tok, Told, Ask, More, Inner, Done, Acts, ActsOn, Defines, Ends as Closes, Calls, Fails, RunsAway, Tells, Inserts, Fetches}
+use Rattle.rows.specs.Arithmetic.{computed}
+use Rattle.rows.specs.Internal.{integer_of, value_text}
+use Rattle.rows.specs.Readings.{Fed, Tok, Told, Ask, More, Inner, Done, Acts, ActsOn, Defines, Ends as Closes, Calls, Fails, RunsAway, Tells, Inserts, Puts, Relaxes, Fetches}
 use Rattle.plain_readings.specs.Calls.{gathered}
 use Rattle.plain_readings.specs.Spelling.{endcsname_primitive}
 use Rattle.plain_readings.specs.Readings.{Kind, Reads, Spelling, FileName, Arguments, Reading, lists}
 use Rattle.plain_readings.specs.Scanning.{Scanning, scanning}
 use Rattle.plain_machine.specs.States.{State, Files, Move, Handed, Taken, FirstTaken, Settled, Skipped, FileClosed, FileEnds, FileOpened, Spelt, NameInProgress, Grows, Feeds, Completed, ListGrown, Set, Assigned, Defined, GroupOpened, Begun, Ended, Closed, Written, Stopped}
-use Rattle.plain_machine.specs.Plan.{Page, page_of, style_of, met, met_outer, entered, checked, check_noted, ran_away, away_text, page_behind, reported, reported_as, behind_report, reports_room, told, put_inserted, put_one, put_made, put_text, put_characters, noting, noting_kind, token_line, finish, command, primitive, call_of, begun, csname_primitive, jobname_primitive, input_primitive, endinput_primitive, input_met, frozen_relax, is_expandable_primitive, job_in, expansion, begingroup_primitive, endgroup_primitive, put_each, group_ended, brace_met, endgroup_met, character, unless_expanded, called, called_meaning, called_list, put_body, body_put, stomach, wanted, expanded, expanded_as, feeding_kind, grown_and_fed, first_list, grown_to, opened, in_place, argument_fed, call_fed, inner_begun, given_back, value_tokens, done, arguments_put, called_with, failed, failed_away, is_global, behind_assignment, assigned, kept_for_group, acts, acts_on, acts_in, and_closed, meaning_characters, macro_defined, name_made, unless_found, input_begun, relax_if_undefined, spelt, newly_spelt, answered}
+use Rattle.plain_machine.specs.Plan.{Page, page_of, style_of, met, met_outer, entered, checked, check_noted, ran_away, away_text, page_behind, reported, reported_as, behind_report, reports_room, told, put_inserted, put_one, put_made, put_text, put_characters, noting, noting_kind, token_line, finish, command, register, primitive, call_of, begun, csname_primitive, jobname_primitive, input_primitive, endinput_primitive, input_met, frozen_relax, is_expandable_primitive, job_in, expansion, begingroup_primitive, endgroup_primitive, put_each, group_ended, brace_met, endgroup_met, character, unless_expanded, called, called_meaning, called_list, put_body, body_put, stomach, wanted, expanded, expanded_as, feeding_kind, grown_and_fed, first_list, grown_to, opened, in_place, argument_fed, call_fed, inner_begun, given_back, value_tokens, done, arguments_put, called_with, failed, failed_away, is_global, behind_assignment, assigned, kept_for_group, computed_to, short_meaning, acts, acts_on, acts_in, and_closed, meaning_characters, macro_defined, name_made, unless_found, input_begun, relax_if_undefined, spelt, newly_spelt, answered}
 use Rattle.plain_machine.specs.Runs.{step_of, steps}
 
 -- The moves that pull: they read what is pending, or open a file.
@@ -241,7 +248,7 @@ primitive_none page t n =
     let opening : List Move = if nat_eq n begingroup_primitive then GroupOpened SemiSimple ∷ [] else closing in
     let relax : List Move = if nat_eq n relax_primitive then [] else opening in
     let ending : List Move = if nat_eq n end_primitive then finish page else relax in
-    none_if (has_row n) (begun t n) ending refl
+    none_if (has_row (Primitive n)) (begun t (Primitive n)) ending refl
     (none_if (nat_eq n end_primitive) (finish page) relax refl
     (none_if (nat_eq n relax_primitive) [] opening refl
     (none_if (nat_eq n begingroup_primitive) (GroupOpened SemiSimple ∷ []) closing refl
@@ -254,16 +261,20 @@ input_none page t c = none_if page.naming (put_one t ++ put_one frozen_relax) (B
 expansion_none : (page : Page) (t : Token) (n : ℕ) → pulls (expansion page t n) ≡ 0
 expansion_none page t n =
     let name : List Move = put_characters (job_in page.strings) in
-    let job : List Move = begun t n ++ (name ++ Closed ∷ []) in
-    let ending : List Move = if nat_eq n endinput_primitive then FileEnds ∷ [] else begun t n in
-    let beginning : List Move = if nat_eq n input_primitive then input_met page t (call_of t n) else ending in
+    let job : List Move = begun t (Primitive n) ++ (name ++ Closed ∷ []) in
+    let ending : List Move = if nat_eq n endinput_primitive then FileEnds ∷ [] else begun t (Primitive n) in
+    let beginning : List Move = if nat_eq n input_primitive then input_met page t (call_of t (Primitive n)) else ending in
     let others : List Move = if nat_eq n jobname_primitive then job else beginning in
-    none_if (nat_eq n csname_primitive) (Begun (Spelling (call_of t n)) ∷ []) others refl
+    none_if (nat_eq n csname_primitive) (Begun (Spelling (call_of t (Primitive n))) ∷ []) others refl
     (none_if (nat_eq n jobname_primitive) job beginning (omega (arith, joined_none name (Closed ∷ []) (characters_none (job_in page.strings)) refl))
-    (none_if (nat_eq n input_primitive) (input_met page t (call_of t n)) ending (input_none page t (call_of t n)) (none_if (nat_eq n endinput_primitive) (FileEnds ∷ []) (begun t n) refl refl)))
+    (none_if (nat_eq n input_primitive) (input_met page t (call_of t (Primitive n))) ending (input_none page t (call_of t (Primitive n))) (none_if (nat_eq n endinput_primitive) (FileEnds ∷ []) (begun t (Primitive n)) refl refl)))
 
 unless_none : (page : Page) (t : Token) (n : ℕ) (moves : List Move) → pulls moves ≡ 0 → pulls (unless_expanded page t n moves) ≡ 0
 unless_none page t n moves h = none_if (is_expandable_primitive n) (expansion page t n) moves (expansion_none page t n) h
+
+register_none : (page : Page) (t : Token) (kind : RegisterKind) (number : ℕ) → pulls (register page t kind number) ≡ 0
+register_none page t kind number =
+    none_if (has_row (Register kind number)) (begun t (Register kind number)) (token_line page (means.Register kind number)) refl (line_none page (means.Register kind number))
 
 pub command_none : (page : Page) (t : Token) (m : Meaning Unit) → pulls (command page t m) ≡ 0
 command_none page t (means.Prim n) = primitive_none page t n
@@ -272,7 +283,7 @@ command_none page t means.Undefined = line_none page means.Undefined
 command_none page t (means.Char category code) = character_none page category code
 command_none page t (means.CharGiven code) = line_none page (means.CharGiven code)
 command_none page t (means.MathGiven code) = line_none page (means.MathGiven code)
-command_none page t (means.Register kind number) = line_none page (means.Register kind number)
+command_none page t (means.Register kind number) = register_none page t kind number
 command_none page t (means.Macro long outer list) = line_none page (means.Macro long outer list)
 
 as_none : (page : Page) (t : Token) (m : Meaning Unit) (moves : List Move) → pulls moves ≡ 0 → pulls (expanded_as page t m moves) ≡ 0
@@ -367,6 +378,12 @@ kept_for_group_none (Some kind) t = refl
 closed_assigned : (page : Page) (m : Move) → pull_of m ≡ 0 → pulls (and_closed (assigned page m)) ≡ 0
 closed_assigned page m h = and_closed_none (assigned page m) (assigned_none page m h)
 
+computed_none : (page : Page) (c : Call) (l : Loc) (o : Option ℤ) → pulls (computed_to page c l o) ≡ 0
+computed_none page c l (Some value) = closed_assigned page (Set (is_global page c) l (val.Number value)) refl
+computed_none page c l None =
+    let behind : List Move = behind_assignment page.after in
+    reported_none page reports.ArithmeticOverflow (and_closed behind) (and_closed_none behind (behind_assignment_none page.after))
+
 future_none : (page : Page) (x y : Token) (m : Move) → pull_of m ≡ 0 → pulls (put_one y ++ (put_one x ++ assigned page m)) ≡ 0
 future_none page x y m h = joined_none (put_one y) (put_one x ++ assigned page m) refl (joined_none (put_one x) (assigned page m) refl (assigned_none page m h))
 
@@ -377,12 +394,18 @@ acts_none page c (effect.FutureLet n x y) =
     let m : Move = Assigned (is_global page c) n (meaning_to_let page.now.meanings y) in
     and_closed_none (put_one y.token ++ (put_one x.token ++ assigned page m)) (future_none page x.token y.token m refl)
 acts_none page c (effect.SetNumber l value) = closed_assigned page (Set (is_global page c) l (val.Number value)) refl
+acts_none page c (effect.Compute operation l number) = computed_none page c l (computed operation (integer_of (value_seen (get page.now l))) number)
+acts_none page c (effect.Shorthand n meant) = closed_assigned page (Assigned (is_global page c) n (short_meaning meant)) refl
+acts_none page c effect.Unassigned = and_closed_none (behind_assignment page.after) (behind_assignment_none page.after)
 acts_none page c (effect.AfterGroup x) = and_closed_none (kept_for_group page.group x.token) (kept_for_group_none page.group x.token)
 acts_none page c (effect.ExpandBehind x y) = omega (arith, expanded_none page y (put_one y.token) refl)
 acts_none page c (effect.MakeNumber n) = and_closed_none (put_characters (whole_number n)) (characters_none (whole_number n))
 acts_none page c (effect.MakeRoman n) = and_closed_none (put_characters (roman n)) (characters_none (roman n))
 acts_none page c (effect.MakeString x) = and_closed_none (put_characters (string_text (style_of page) x.token)) (characters_none (string_text (style_of page) x.token))
 acts_none page c (effect.MakeMeaning x) = and_closed_none (put_characters (meaning_characters page x)) (characters_none (meaning_characters page x))
+acts_none page c (effect.MakeValue l) =
+    let text : List ℕ = value_text l (value_seen (get page.now l)) in
+    and_closed_none (put_characters text) (characters_none text)
 acts_none page c e = refl
 
 relax_none : (meanings : List (Meaning (Option ℕ))) (n : Name) → pulls (relax_if_undefined meanings n) ≡ 0
@@ -428,6 +451,8 @@ answered_none s work r (Fails report) h = failed_none (page_of s) report
 answered_none s work r (RunsAway report) h = failed_away_none (page_of s) report (scanning work s.gathered)
 answered_none s work r (Tells report back) h = told_none (page_of s) report None back r
 answered_none s work r (Inserts t report back) h = told_none (page_of s) report (Some t) back r
+answered_none s work r (Puts t more) h = joined_none (put_one t) (noting r) refl (noting_none r)
+answered_none s work r (Relaxes c n) h = omega (arith, noting_none r)
 answered_none s work r (Fetches l) h = refl
 
 -- A FILE THAT IS BEGUN BY ITS NAME opens it, and reads nothing.

@@ -1,9 +1,9 @@
 -- Each rule ends the run, begins with a step once the finished lists in front have gone, or makes the weight of the state smaller.
-use Rattle.std.proofs.Common.{◌≡◌, ℕ, ◌+◌, ◌*◌, ◌≤◌, ◌<◌, Bool, true, false, List, [], ◌∷◌, ◌++◌, length, refl, sym, ap, ◌∙◌, subst, arith}
+use Rattle.std.proofs.Common.{◌≡◌, ℕ, ℤ, ◌+◌, ◌*◌, ◌≤◌, ◌<◌, Bool, true, false, List, [], ◌∷◌, ◌++◌, length, refl, sym, ap, ◌∙◌, subst, arith}
 use Rattle.std.specs.Prelude.{Option, Some, None, if◌then◌else◌, nat_lt, ◌==◌, map, drop, slice_index_or}
 use Rattle.tex_syntax.specs.declared.words.Report.{Report}
 use Rattle.tex_syntax.specs.declared.words.Scanned.{Scanned}
-use Rattle.tex_syntax.specs.declared.words.Report.TheVariants.{InvalidCharacter, FileEnded, UndefinedName, ExtraEndcsname, TooManyBraces, ForgottenEndgroup, ExtraEndgroup, MissingRightBrace}
+use Rattle.tex_syntax.specs.declared.words.Report.TheVariants.{ArithmeticOverflow, InvalidCharacter, FileEnded, UndefinedName, ExtraEndcsname, TooManyBraces, ForgottenEndgroup, ExtraEndgroup, MissingRightBrace}
 use Rattle.tex_syntax.specs.declared.words.Outcome.{Outcome}
 use Rattle.tex_syntax.specs.declared.words.Outcome.TheVariants.{Finished, AtFatal}
 use Rattle.tex_syntax.specs.declared.words.Scanned.TheVariants as scanned
@@ -13,6 +13,7 @@ use Rattle.tex_defs.specs.declared.Seen.{Seen}
 use Rattle.tex_defs.specs.declared.Name.{Name}
 use Rattle.tex_defs.specs.declared.Meaning.{Meaning}
 use Rattle.tex_defs.specs.declared.Meaning.TheVariants as means
+use Rattle.tex_defs.specs.declared.RegisterKind.{RegisterKind}
 use Rattle.tex_defs.specs.Places.{Transcript}
 use Rattle.tex_defs.specs.declared.Fatal.TheVariants.{NoFile, HundredErrors}
 use Rattle.plain_tokens.specs.Categories.{begin_group, end_group}
@@ -28,6 +29,7 @@ use Rattle.plain_tokens.specs.Pending.{Pending, Source, Progress, Begun as Begun
 use Rattle.plain_tokens.specs.Arguments.{has_parameters}
 use Rattle.save_stack.specs.declared.GroupKind.{GroupKind}
 use Rattle.save_stack.specs.declared.GroupKind.TheVariants.{Simple, SemiSimple}
+use Rattle.equivalents.specs.declared.values.Loc.{Loc}
 use Rattle.equivalents.specs.declared.values.Val.TheVariants as val
 use Rattle.equivalents.specs.Locations.{value_seen}
 use Rattle.equivalents.specs.Tables.{get}
@@ -36,18 +38,21 @@ use Rattle.plain_state.specs.Reports.{missing_file_bytes, emergency, no_file_lin
 use Rattle.rows.specs.declared.words.Value.{Value}
 use Rattle.rows.specs.declared.words.Kind.{Kind as Begins}
 use Rattle.rows.specs.declared.words.Kind.TheVariants.{Command as Row}
+use Rattle.rows.specs.declared.command.Head.TheVariants.{Primitive, Register}
 use Rattle.rows.specs.declared.command.Call.{Call}
 use Rattle.rows.specs.declared.command.Effect.{Effect}
 use Rattle.rows.specs.declared.command.Effect.TheVariants as effect
 use Rattle.rows.specs.Table.{has_row}
-use Rattle.rows.specs.Readings.{Fed, Val, Told, Cut, Ask, More, Inner, Done, Acts, ActsOn, Defines, Ends as Closes, Calls, Fails, RunsAway, Tells, Inserts, Fetches}
+use Rattle.rows.specs.Arithmetic.{computed}
+use Rattle.rows.specs.Internal.{integer_of, value_text}
+use Rattle.rows.specs.Readings.{Fed, Val, Told, Cut, Ask, More, Inner, Done, Acts, ActsOn, Defines, Ends as Closes, Calls, Fails, RunsAway, Tells, Inserts, Puts, Relaxes, Fetches}
 use Rattle.plain_readings.specs.Readings.{Kind, Reads, Spelling, FileName, Arguments, Behind, Reading, ask, lists, fed_with}
 use Rattle.plain_readings.specs.Spelling.{endcsname_primitive}
 use Rattle.plain_readings.specs.Scanning.{Scanning, scanning}
 use Rattle.plain_readings.specs.Laws.{IsRead}
-use Rattle.plain_readings.specs.Weights.{frame_weight, value_weight, act_weight, end_weight, ask_weight, weight, IsReport, WeightsFall}
+use Rattle.plain_readings.specs.Weights.{frame_weight, value_weight, act_weight, end_weight, ask_weight, weight, IsNoted, WeightsFall}
 use Rattle.plain_machine.specs.States.{State, Files, Move, Settled, Skipped, FileClosed, FileEnds, FileOpened, Spelt, NameInProgress, Entered, Kept as KeptBytes, Grows, Feeds, Completed, Opened, ListBegun, ListGrown, Put, ListDropped, Called, Set, Assigned, Defined, GroupOpened, GroupClosed, KeptForGroup, KeptForAssignment, Written, Begun, Ended, Closed, Reported, Flawed, Stopped, Handed, made}
-use Rattle.plain_machine.specs.Plan.{Page, page_of, style_of, plan, ruled, planned, answered, handed, checked, at_line, check_noted, inserted_at, away_text, ran_away, page_behind, reported, behind_report, reports_room, finish, groups_left, stomach, command, primitive, begingroup_primitive, endgroup_primitive, right_brace, put_each, group_ended, brace_met, endgroup_met, character, expansion, expanded, expanded_as, csname_primitive, jobname_primitive, input_primitive, endinput_primitive, input_met, frozen_relax, unless_found, input_begun, is_expandable_primitive, job_in, begun, call_of, called_meaning, put_body, body_put, token_line, wanted, enters_names, feeding, given_back, grown_to, first_list, noting, noting_kind, put_one, put_text, put_made, put_characters, put_inserted, arguments_put, called_with, failed, failed_away, inner_begun, done, value_tokens, told, and_closed, expanded_behind, marked, meaning_characters, shown, is_global, behind_assignment, assigned, kept_for_group, acts, macro_defined, newly_spelt, spelt, relax_if_undefined, name_made, entered, acts_on, acts_in}
+use Rattle.plain_machine.specs.Plan.{Page, page_of, style_of, plan, ruled, planned, answered, handed, checked, at_line, check_noted, inserted_at, away_text, ran_away, page_behind, reported, behind_report, reports_room, finish, groups_left, stomach, command, register, primitive, begingroup_primitive, endgroup_primitive, right_brace, put_each, group_ended, brace_met, endgroup_met, character, expansion, expanded, expanded_as, csname_primitive, jobname_primitive, input_primitive, endinput_primitive, input_met, frozen_relax, unless_found, input_begun, is_expandable_primitive, job_in, begun, call_of, called_meaning, put_body, body_put, token_line, wanted, enters_names, feeding, given_back, grown_to, first_list, noting, noting_kind, put_one, put_text, put_made, put_characters, put_inserted, arguments_put, called_with, failed, failed_away, inner_begun, done, value_tokens, told, and_closed, expanded_behind, marked, meaning_characters, shown, is_global, behind_assignment, assigned, kept_for_group, computed_to, short_meaning, acts, macro_defined, newly_spelt, spelt, relax_if_undefined, name_made, entered, acts_on, acts_in}
 use Rattle.plain_machine.specs.Runs.{step_of, all_made}
 use Rattle.plain_machine.proofs.Settling.{pulled_settled}
 
@@ -439,17 +444,17 @@ module _ (n : ℕ) (v : State) (e : v.stopped ≡ None) (less : state_weight v <
   drops_expansion u page t number k = by (number == csname_primitive) (number == jobname_primitive) (number == input_primitive) (number == endinput_primitive) where
     by : (b c d f : Bool) →
         Drops n (
-        if b then Begun (Spelling (call_of t number)) ∷ []
-        else if c then begun t number ++ (put_characters (job_in page.strings) ++ Closed ∷ [])
-        else if d then input_met page t (call_of t number)
+        if b then Begun (Spelling (call_of t (Primitive number))) ∷ []
+        else if c then begun t (Primitive number) ++ (put_characters (job_in page.strings) ++ Closed ∷ [])
+        else if d then input_met page t (call_of t (Primitive number))
         else if f then FileEnds ∷ []
-        else begun t number
+        else begun t (Primitive number)
         ) u
-    by true c d f = drops_begun u (Spelling (call_of t number)) k tt
-    by false true d f = drops_ended u (Reads (Row (call_of t number))) (put_characters (job_in page.strings)) k (plain_text (made_text (job_in page.strings)))
-    by false false true f = drops_input u page.naming t (call_of t number) k
+    by true c d f = drops_begun u (Spelling (call_of t (Primitive number))) k tt
+    by false true d f = drops_ended u (Reads (Row (call_of t (Primitive number)))) (put_characters (job_in page.strings)) k (plain_text (made_text (job_in page.strings)))
+    by false false true f = drops_input u page.naming t (call_of t (Primitive number)) k
     by false false false true = drops_stays u (FileEnds ∷ []) k (refl, tt)
-    by false false false false = drops_begun u (Reads (Row (call_of t number))) k tt
+    by false false false false = drops_begun u (Reads (Row (call_of t (Primitive number)))) k tt
 
   drops_unless : (u : State) (b : Bool) (page : Page) (t : Token) (number : ℕ) (ms : List Move) → Kept v u → Drops n ms u → Drops n (if b then expansion page t number else ms) u
   drops_unless u true page t number ms k d = drops_expansion u page t number k
@@ -486,10 +491,10 @@ module _ (n : ℕ) (v : State) (e : v.stopped ≡ None) (less : state_weight v <
 
   drops_primitive : (u : State) (page : Page) (t : Token) (number : ℕ) → Kept v u → Drops n (primitive page t number) u
   drops_primitive u page t number k =
-      by (has_row number) (number == end_primitive) (number == relax_primitive) (number == begingroup_primitive) (number == endgroup_primitive) (number == endcsname_primitive) where
+      by (has_row (Primitive number)) (number == end_primitive) (number == relax_primitive) (number == begingroup_primitive) (number == endgroup_primitive) (number == endcsname_primitive) where
         by : (b c d o g f : Bool) →
             Drops n (
-            if b then begun t number
+            if b then begun t (Primitive number)
             else if c then finish page
             else if d then []
             else if o then GroupOpened SemiSimple ∷ []
@@ -497,7 +502,7 @@ module _ (n : ℕ) (v : State) (e : v.stopped ≡ None) (less : state_weight v <
             else if f then reported page ExtraEndcsname []
             else token_line page (means.Prim number)
             ) u
-        by true c d o g f = drops_begun u (Reads (Row (call_of t number))) k tt
+        by true c d o g f = drops_begun u (Reads (Row (call_of t (Primitive number)))) k tt
         by false true d o g f = halted_none n u (fresh_line page.in_line ++ groups_left page) Finished some
         by false false true o g f = stays u k
         by false false false true g f = drops_stays u (GroupOpened SemiSimple ∷ []) k (refl, tt)
@@ -505,8 +510,15 @@ module _ (n : ℕ) (v : State) (e : v.stopped ≡ None) (less : state_weight v <
         by false false false false false true = drops_undefined u page ExtraEndcsname k
         by false false false false false false = drops_stays u (token_line page (means.Prim number)) k (plain_line page (means.Prim number))
 
+  drops_register : (u : State) (page : Page) (t : Token) (kind : RegisterKind) (number : ℕ) → Kept v u → Drops n (register page t kind number) u
+  drops_register u page t kind number k = by (has_row (Register kind number)) where
+    by : (b : Bool) → Drops n (if b then begun t (Register kind number) else token_line page (means.Register kind number)) u
+    by true = drops_begun u (Reads (Row (call_of t (Register kind number)))) k tt
+    by false = drops_stays u (token_line page (means.Register kind number)) k (plain_line page (means.Register kind number))
+
   drops_command : (u : State) (page : Page) (t : Token) (m : Meaning Unit) → Kept v u → Drops n (command page t m) u
   drops_command u page t (means.Prim number) k = drops_primitive u page t number k
+  drops_command u page t (means.Register kind number) k = drops_register u page t kind number k
   drops_command u page t (means.Char category code) k = drops_character u page category code k
   drops_command u page t means.RelaxMarked k = stays u k
   drops_command u page t m k = drops_stays u (token_line page m) k (plain_line page m)
@@ -526,6 +538,14 @@ module _ (falls : WeightsFall) (s : State) (k : Kind) (fed : List Fed) (rs : Lis
 
     rule_assigned : (page : Page) (m : Move) → is_plain m ≡ true → Rule s (and_closed (assigned page m))
     rule_assigned page m h = rule_closed (assigned page m) (plain_assigned page m h)
+
+    -- arithmetic
+    rule_computed : (page : Page) (c : Call) (l : Loc) (o : Option ℤ) → Rule s (computed_to page c l o)
+    rule_computed page c l (Some value) = rule_assigned page (Set (is_global page c) l (val.Number value)) refl
+    rule_computed page c l None =
+        let behind : List Move = behind_assignment page.after in
+        Falls (drops_report (state_weight s) s page ArithmeticOverflow (and_closed behind) (some_weight s e)
+        (λ u h. drops_plain (state_weight s) u behind (Closed ∷ []) (plain_behind page.after) (λ v kept. falls_closed v (kept_on s u v h kept))))
 
     -- a name becomes a macro
     rule_defined : (page : Page) (c : Call) (name : Name) (ts : List Token) → Rule s (macro_defined page c name ts)
@@ -615,6 +635,9 @@ module _ (falls : WeightsFall) (s : State) (k : Kind) (fed : List Fed) (rs : Lis
           let m : Move = Assigned (is_global page c) n (meaning_to_let page.now.meanings y) in
           rule_closed h (put_one y.token ++ (put_one x.token ++ assigned page m)) (plain_future page x.token y.token m refl)
       by (effect.SetNumber l value) is h = rule_assigned h page (Set (is_global page c) l (val.Number value)) refl
+      by (effect.Compute operation l number) is h = rule_computed h page c l (computed operation (integer_of (value_seen (get page.now l))) number)
+      by (effect.Shorthand n meant) is h = rule_assigned h page (Assigned (is_global page c) n (short_meaning meant)) refl
+      by effect.Unassigned is h = rule_closed h (behind_assignment page.after) (plain_behind page.after)
       by (effect.AfterGroup x) is h = rule_closed h (kept_for_group page.group x.token) (plain_kept page.group x.token)
       by (effect.AfterAssignment x) is h = rule_closed h (KeptForAssignment (Some x.token) ∷ []) (refl, tt)
       by (effect.ExpandBehind x y) is h = rule_behind page c x y is
@@ -624,6 +647,8 @@ module _ (falls : WeightsFall) (s : State) (k : Kind) (fed : List Fed) (rs : Lis
       by (effect.MakeRoman n) is h = rule_closed h (put_characters (roman n)) (plain_text (made_text (roman n)))
       by (effect.MakeString x) is h = rule_closed h (put_characters (string_text (style_of page) x.token)) (plain_text (made_text (string_text (style_of page) x.token)))
       by (effect.MakeMeaning x) is h = rule_closed h (put_characters (meaning_characters page x)) (plain_text (made_text (meaning_characters page x)))
+      by (effect.MakeValue l) is h =
+          rule_closed h (put_characters (value_text l (value_seen (get page.now l)))) (plain_text (made_text (value_text l (value_seen (get page.now l)))))
       by f is h = rule_closed h [] tt
 
   -- another reading begins
@@ -639,10 +664,10 @@ module _ (falls : WeightsFall) (s : State) (k : Kind) (fed : List Fed) (rs : Lis
   rule_done page v back is =
       Falls (drops_plain (state_weight s) s (given_back back page.last) (Ended v (value_tokens v (lists k fed)) ∷ []) (plain_back back page.last) (λ u h. falls_ended v (value_tokens v (lists k fed)) is u h))
 
-  -- a report was written, and noted
-  module _ (reports : IsReport (ask k fed)) where
+  -- a report was written, or what was asked for done, and noted
+  module _ (notes : IsNoted (ask k fed)) where
     falls_noted : (u : State) → Kept s u → Drops (state_weight s) (Feeds Told ∷ []) u
-    falls_noted u h = rw (h.stopped, h.work, e, w) (omega (arith, h.pending, falls.noted k fed reports))
+    falls_noted u h = rw (h.stopped, h.work, e, w) (omega (arith, h.pending, falls.noted k fed notes))
 
     falls_noting : (j : Kind) (gone : List Fed) (u : State) → Kept s u → Drops (state_weight s) (noting_kind j gone) u
     falls_noting (Arguments name long number ts) gone u h = falls_noted u h
@@ -655,6 +680,9 @@ module _ (falls : WeightsFall) (s : State) (k : Kind) (fed : List Fed) (rs : Lis
         Falls (drops_plain (state_weight s) s (given_back back page.last) (put_inserted inserted ++ reported page report (noting reading)) (plain_back back page.last)
         (λ u a. drops_plain (state_weight s) u (put_inserted inserted) (reported page report (noting reading)) (plain_inserted inserted)
         (λ v b. drops_report (state_weight s) v page report (noting reading) (some_weight s e) (λ t c. falls_noting k fed t (kept_on s u t a (kept_on u v t b c))))))
+
+    rule_noting : (ms : List Move) → AllPlain ms → Rule s (ms ++ noting reading)
+    rule_noting ms h = Falls (drops_plain (state_weight s) s ms (noting reading) h (λ u a. falls_noting k fed u a))
 
   heavy_as : (a : Ask) → ask k fed ≡ a → act_weight ≤ ask_weight (end_weight k) a → act_weight ≤ weight k fed
   heavy_as a is h = omega (arith, h, ap (ask_weight (end_weight k)) is)
@@ -670,8 +698,10 @@ module _ (falls : WeightsFall) (s : State) (k : Kind) (fed : List Fed) (rs : Lis
   rule_asked (Calls args) is = rule_called (heavy_as _ is (omega arith)) k args
   rule_asked (Fails report) is = Falls (falls_failed (heavy_as _ is (omega arith)) (page_of s) report s (kept_none s))
   rule_asked (RunsAway report) is = rule_away (heavy_as _ is (omega arith)) (page_of s) report (scanning (reading ∷ rs) s.gathered)
-  rule_asked (Tells report back) is = rule_told (subst IsReport (sym is) tt) (page_of s) report None back
-  rule_asked (Inserts t report back) is = rule_told (subst IsReport (sym is) tt) (page_of s) report (Some t) back
+  rule_asked (Tells report back) is = rule_told (subst IsNoted (sym is) tt) (page_of s) report None back
+  rule_asked (Inserts t report back) is = rule_told (subst IsNoted (sym is) tt) (page_of s) report (Some t) back
+  rule_asked (Puts t more) is = rule_noting (subst IsNoted (sym is) tt) (put_one t) (plain_one t)
+  rule_asked (Relaxes c n) is = rule_noting (subst IsNoted (sym is) tt) (Assigned (is_global (page_of s) c) n (means.Prim relax_primitive) ∷ []) (refl, tt)
   rule_asked (Fetches l) is = Falls (rw (e, w) (omega (arith, falls.fetched k fed l (value_seen (get s.groups.now l)) is)))
 
 rule_work : WeightsFall → (s : State) (work : List Reading) → s.stopped ≡ None → s.work ≡ work → Rule s (planned s work)

@@ -3,7 +3,7 @@ use Rattle.std.specs.Prelude.{ℕ, zero, suc, ℤ, pos, negsuc, Bool, true, fals
 use Rattle.tex_syntax.specs.declared.words.Want.{Want}
 use Rattle.tex_syntax.specs.declared.words.Want.TheVariants.{Raw, Expanded, Copied, Nonblank, Command}
 use Rattle.tex_syntax.specs.declared.words.Report.{Report}
-use Rattle.tex_syntax.specs.declared.words.Report.TheVariants.{UndefinedName, InvalidCharacter, FileEnded, Forbidden, ExtraEndcsname, TooManyBraces, ForgottenEndgroup, ExtraEndgroup, MissingRightBrace}
+use Rattle.tex_syntax.specs.declared.words.Report.TheVariants.{ArithmeticOverflow, UndefinedName, InvalidCharacter, FileEnded, Forbidden, ExtraEndcsname, TooManyBraces, ForgottenEndgroup, ExtraEndgroup, MissingRightBrace}
 use Rattle.tex_syntax.specs.declared.words.Scanned.{Scanned}
 use Rattle.tex_syntax.specs.declared.words.Scanned.TheVariants as scanned
 use Rattle.tex_syntax.specs.declared.words.Outcome.{Outcome}
@@ -16,6 +16,8 @@ use Rattle.tex_defs.specs.declared.Frozen.TheVariants as frozen
 use Rattle.tex_defs.specs.declared.Meaning.{Meaning}
 use Rattle.tex_defs.specs.declared.Meaning.TheVariants as means
 use Rattle.tex_defs.specs.declared.Seen.{Seen}
+use Rattle.tex_defs.specs.declared.RegisterKind.{RegisterKind}
+use Rattle.equivalents.specs.declared.values.Loc.{Loc}
 use Rattle.tex_defs.specs.declared.Fatal.TheVariants.{NoEnd, NoFile, HundredErrors}
 use Rattle.tex_defs.specs.Places.{Transcript}
 use Rattle.prim_table.specs.Primitives.{primitive_names}
@@ -43,11 +45,17 @@ use Rattle.command_words.specs.Words.{job_name, file_name}
 use Rattle.rows.specs.declared.words.Value.{Value}
 use Rattle.rows.specs.declared.words.Value.TheVariants as value
 use Rattle.rows.specs.declared.words.Kind.TheVariants.{Command as Row}
+use Rattle.rows.specs.declared.command.Head.{Head}
+use Rattle.rows.specs.declared.command.Head.TheVariants.{Primitive, Register}
+use Rattle.rows.specs.declared.command.Shorthand.{Shorthand}
+use Rattle.rows.specs.declared.command.Shorthand.TheVariants as shorthand
 use Rattle.rows.specs.declared.command.Call.{Call}
 use Rattle.rows.specs.declared.command.Effect.{Effect}
 use Rattle.rows.specs.declared.command.Effect.TheVariants as effect
 use Rattle.rows.specs.Table.{has_row}
-use Rattle.rows.specs.Readings.{Fed, Tok, Told, Cut, Fetched, Ask, More, Inner, Done, Acts, ActsOn, Defines, Ends as Closes, Calls, Fails, RunsAway, Tells, Inserts, Fetches}
+use Rattle.rows.specs.Arithmetic.{computed}
+use Rattle.rows.specs.Internal.{integer_of, value_text}
+use Rattle.rows.specs.Readings.{Fed, Tok, Told, Cut, Fetched, Ask, More, Inner, Done, Acts, ActsOn, Defines, Ends as Closes, Calls, Fails, RunsAway, Tells, Inserts, Puts, Relaxes, Fetches}
 use Rattle.plain_readings.specs.Calls.{gathered, par_token}
 use Rattle.plain_readings.specs.Spelling.{endcsname_primitive}
 use Rattle.plain_readings.specs.Readings.{Kind, Reads, Spelling, FileName, Arguments, Behind, Reading, ask, lists}
@@ -180,13 +188,13 @@ called page t = called_meaning page (name_of t) (name_meaning page.now.meanings 
 
 -- PRIMITIVES
 
--- a command by its primitive and its name as it was written, without prefixes
-abbrev pub call_of : Token → ℕ → Call
-call_of t number = record { primitive = number; name = name_of t; long = false; outer = false; global = false }
+-- a command by what its name means and the name as it was written, without prefixes
+abbrev pub call_of : Token → Head → Call
+call_of t h = record { head = h; name = name_of t; long = false; outer = false; global = false }
 
 -- its reading begins, by its row
-abbrev pub begun : Token → ℕ → List Move
-begun t number = Begun (Reads (Row (call_of t number))) ∷ []
+abbrev pub begun : Token → Head → List Move
+begun t h = Begun (Reads (Row (call_of t h))) ∷ []
 
 abbrev pub csname_primitive : ℕ
 csname_primitive = 56
@@ -220,11 +228,11 @@ input_met page t c = if page.naming then put_one t ++ put_one frozen_relax else 
 -- An expansion begins its reading, which `\jobname` ends at once; by `\endinput` the innermost file is to end.
 abbrev pub expansion : Page → Token → ℕ → List Move
 expansion page t number =
-    if number == csname_primitive then Begun (Spelling (call_of t number)) ∷ []
-    else if number == jobname_primitive then begun t number ++ (put_characters (job_in page.strings) ++ Closed ∷ [])
-    else if number == input_primitive then input_met page t (call_of t number)
+    if number == csname_primitive then Begun (Spelling (call_of t (Primitive number))) ∷ []
+    else if number == jobname_primitive then begun t (Primitive number) ++ (put_characters (job_in page.strings) ++ Closed ∷ [])
+    else if number == input_primitive then input_met page t (call_of t (Primitive number))
     else if number == endinput_primitive then FileEnds ∷ []
-    else begun t number
+    else begun t (Primitive number)
 
 -- GROUPS
 
@@ -262,7 +270,7 @@ endgroup_met page t (Some Simple) = put_one t ++ (put_one right_brace ++ reporte
 -- a primitive in the stomach that isn't expanded
 abbrev pub primitive : Page → Token → ℕ → List Move
 primitive page t number =
-    if has_row number then begun t number
+    if has_row (Primitive number) then begun t (Primitive number)
     else if number == end_primitive then finish page
     else if number == relax_primitive then []
     else if number == begingroup_primitive then GroupOpened SemiSimple ∷ []
@@ -291,9 +299,15 @@ character page category code =
     else if category == end_group then brace_met page page.group
     else token_line page (means.Char category code)
 
+-- the name of a register, which is an assignment
+abbrev pub register : Page → Token → RegisterKind → (number : ℕ) → List Move
+register page t kind number =
+    if has_row (Register kind number) then begun t (Register kind number) else token_line page (means.Register kind number)
+
 -- what a token that isn't expanded comes to in the stomach
 abbrev pub command : Page → Token → Meaning Unit → List Move
 command page t (means.Prim number) = primitive page t number
+command page t (means.Register kind number) = register page t kind number
 command page t (means.Char category code) = character page category code
 command page t means.RelaxMarked = []
 command page t m = token_line page m
@@ -532,12 +546,26 @@ abbrev pub kept_for_group : Option GroupKind → Token → List Move
 kept_for_group None t = []
 kept_for_group (Some kind) t = KeptForGroup t ∷ []
 
+-- what arithmetic comes to; a result that is out of bounds is reported, and nothing assigned
+abbrev pub computed_to : Page → Call → Loc → Option ℤ → List Move
+computed_to page c l (Some n) = and_closed (assigned page (Set (is_global page c) l (val.Number n)))
+computed_to page c l None = reported page ArithmeticOverflow (and_closed (behind_assignment page.after))
+
+-- what a name means that a shorthand definition defines
+abbrev pub short_meaning : Shorthand → Meaning (Option ℕ)
+short_meaning (shorthand.Character c) = means.CharGiven c
+short_meaning (shorthand.Math c) = means.MathGiven c
+short_meaning (shorthand.Register kind n) = means.Register kind n
+
 abbrev pub acts : Page → Call → Effect → List Move
 acts page c (effect.Obey x) = Closed ∷ command page x.token x.meaning
 acts page c (effect.Show x) = and_closed (shown page x)
 acts page c (effect.Let n x) = and_closed (assigned page (Assigned (is_global page c) n (meaning_to_let page.now.meanings x)))
 acts page c (effect.FutureLet n x y) = and_closed (put_one y.token ++ (put_one x.token ++ assigned page (Assigned (is_global page c) n (meaning_to_let page.now.meanings y))))
 acts page c (effect.SetNumber l value) = and_closed (assigned page (Set (is_global page c) l (val.Number value)))
+acts page c (effect.Compute operation l n) = computed_to page c l (computed operation (integer_of (value_seen (get page.now l))) n)
+acts page c (effect.Shorthand n s) = and_closed (assigned page (Assigned (is_global page c) n (short_meaning s)))
+acts page c effect.Unassigned = and_closed (behind_assignment page.after)
 acts page c (effect.AfterGroup x) = and_closed (kept_for_group page.group x.token)
 acts page c (effect.AfterAssignment x) = and_closed (KeptForAssignment (Some x.token) ∷ [])
 acts page c (effect.ExpandBehind x y) = expanded_behind page c x y
@@ -547,6 +575,7 @@ acts page c (effect.MakeNumber n) = and_closed (put_characters (whole_number n))
 acts page c (effect.MakeRoman n) = and_closed (put_characters (roman n))
 acts page c (effect.MakeString x) = and_closed (put_characters (string_text (style_of page) x.token))
 acts page c (effect.MakeMeaning x) = and_closed (put_characters (meaning_characters page x))
+acts page c (effect.MakeValue l) = and_closed (put_characters (value_text l (value_seen (get page.now l))))
 acts page c e = Closed ∷ []
 
 -- a name becomes a macro; a macro's list has a token, and without one the reading ends
@@ -618,6 +647,8 @@ answered s work r (Fails report) = failed (page_of s) report
 answered s work r (RunsAway report) = failed_away (page_of s) report (scanning work s.gathered)
 answered s work r (Tells report back) = told (page_of s) report None back r
 answered s work r (Inserts t report back) = told (page_of s) report (Some t) back r
+answered s work r (Puts t more) = put_one t ++ noting r
+answered s work r (Relaxes c n) = Assigned (is_global (page_of s) c) n (means.Prim relax_primitive) ∷ noting r
 answered s work r (Fetches l) = Feeds (Fetched (value_seen (get s.groups.now l))) ∷ []
 
 abbrev pub planned : State → List Reading → List Move
@@ -675,7 +706,7 @@ is_rowless number =
 
 -- the primitives that mean something
 abbrev pub is_known : ℕ → Bool
-is_known number = is_rowless number || has_row number
+is_known number = is_rowless number || has_row (Primitive number)
 
 -- Where the job of a file begins, which has these bytes, if it is held, and is opened then: the primitives' names are entered, and this stands
 -- at all locations. These are the files that may be opened.

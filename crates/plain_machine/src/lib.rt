@@ -578,6 +578,93 @@ pub fn worked_internal_integers()
     ensures saved_once { Fits (record default_sizes { save_size = 2 }) (first_line_usual ++ codes "{\\count1=5 \\count1=6 }\\end") }
 {}
 
+/// The machine run on small files with arithmetic on registers and parameters, and its optional keyword.
+pub fn worked_arithmetic()
+    ensures advance { RunsSo (first_line_usual ++ codes "\\count1=5 \\advance\\count1 by2 \\message{\\the\\count1}\\end\n") (codes "7\n") 53 Finished }
+    ensures without_by { RunsSo (first_line_usual ++ codes "\\count1=5 \\advance\\count1 2 \\message{\\the\\count1}\\end\n") (codes "7\n") 52 Finished }
+    ensures capital_letters { RunsSo (first_line_usual ++ codes "\\count1=5 \\advance\\count1 BY2 \\message{\\the\\count1}\\end\n") (codes "7\n") 53 Finished }
+    ensures other_categories { Writes (first_line_usual ++ codes "\\count1=5 \\catcode`b=12 \\catcode`y=12 \\advance\\count1by2 \\message{\\the\\count1}\\catcode`y=11 \\end\n") (codes "7\n") Finished }
+    ensures spaces_before_by { Writes (first_line_usual ++ codes "\\count1=5 \\def\\s{ }\\advance\\count1 \\s\\s by \\s2 \\message{\\the\\count1}\\end\n") (codes "7\n") Finished }
+    ensures by_of_a_macro { Writes (first_line_usual ++ codes "\\count1=5 \\def\\b{b}\\advance\\count1\\b y2 \\message{\\the\\count1}\\end\n") (codes "7\n") Finished }
+    ensures half_a_keyword { RunsSo (first_line_usual ++ codes "\\count1=5 \\advance\\count1 b2 \\message{\\the\\count1}\\end\n") (codes "! Missing number, treated as zero.\nl.2\n{the letter b}\n{the character 2}\n{blank space  }\n5\n") 55 Finished }
+    ensures implicit_letter { Writes (first_line_usual ++ codes "\\let\\b=b\\advance\\count1\\b y2 \\end\n") (codes "! Missing number, treated as zero.\nl.2\n{the letter b}\n{the letter y}\n{the character 2}\n{blank space  }\n") Finished }
+    ensures negative { RunsSo (first_line_usual ++ codes "\\count1=5 \\advance\\count1 by-7 \\message{\\the\\count1}\\end\n") (codes "-2\n") 55 Finished }
+    ensures multiply { Writes (first_line_usual ++ codes "\\count1=-7 \\multiply\\count1 by3 \\message{\\the\\count1}\\end\n") (codes "-21\n") Finished }
+    ensures divide { RunsSo (first_line_usual ++ codes "\\count1=-7 \\divide\\count1 by2 \\message{\\the\\count1}\\end\n") (codes "-3\n") 55 Finished }
+    ensures divide_by_a_negative_number { Writes (first_line_usual ++ codes "\\count1=7 \\divide\\count1 by-2 \\message{\\the\\count1}\\end\n") (codes "-3\n") Finished }
+    ensures greatest { Writes (first_line_usual ++ codes "\\count1=2147483646 \\advance\\count1 1 \\message{\\the\\count1}\\end\n") (codes "2147483647\n") Finished }
+    ensures sum_too_great { Writes (first_line_usual ++ codes "\\count1=2147483647 \\advance\\count1 by1 \\message{\\the\\count1}\\end\n") (codes "! Arithmetic overflow.\nl.2\n2147483647\n") Finished }
+    ensures sum_too_small { Writes (first_line_usual ++ codes "\\count1=-2147483647 \\advance\\count1 by-1 \\message{\\the\\count1}\\end\n") (codes "! Arithmetic overflow.\nl.2\n-2147483647\n") Finished }
+    ensures product_too_great { Writes (first_line_usual ++ codes "\\count1=65536 \\multiply\\count1 by65536 \\message{\\the\\count1}\\end\n") (codes "! Arithmetic overflow.\nl.2\n65536\n") Finished }
+    ensures divided_by_zero { Writes (first_line_usual ++ codes "\\count1=5 \\divide\\count1 by0 \\message{\\the\\count1}\\end\n") (codes "! Arithmetic overflow.\nl.2\n5\n") Finished }
+    ensures behind_an_overflow { Writes (first_line_usual ++ codes "\\count1=5 \\afterassignment x\\divide\\count1 by0 \\message{\\the\\count1}\\end\n") (codes "! Arithmetic overflow.\nl.2\n{the letter x}\n5\n") Finished }
+    ensures behind_arithmetic { Writes (first_line_usual ++ codes "\\count1=5 \\afterassignment x\\advance\\count1 by1y\\message{\\the\\count1}\\end\n") (codes "{the letter x}\n{the letter y}\n6\n") Finished }
+    ensures taken_back { Writes (first_line_usual ++ codes "\\count1=5 {\\advance\\count1 by2 \\message{\\the\\count1}}\\message{\\the\\count1}\\end\n") (codes "7 5\n") Finished }
+    ensures global { Writes (first_line_usual ++ codes "\\count1=5 {\\global\\advance\\count1 by2 }\\message{\\the\\count1}\\end\n") (codes "7\n") Finished }
+    ensures parameter { Writes (first_line_usual ++ codes "\\advance\\tolerance by-1 \\message{\\the\\tolerance}\\end\n") (codes "9999\n") Finished }
+    ensures behind_long { Writes (first_line_usual ++ codes "\\long\\advance\\count1 by2 \\message{\\the\\count1}\\end\n") (codes "! You can't use `\\long' or `\\outer' with `\\advance'.\nl.2\n2\n") Finished }
+    ensures bad_register { Writes (first_line_usual ++ codes "\\advance\\count256 by2 \\message{\\the\\count0}\\end\n") (codes "! Bad register code (256).\nl.2\n2\n") Finished }
+    ensures no_variable { RunsSo (first_line_usual ++ codes "\\count1=5 \\advance\\relax\\count1=6 \\message{\\the\\count1}\\end\n") (codes "! You can't use `\\relax' after \\advance.\nl.2\n6\n") 53 Finished }
+    ensures behind_no_variable { Writes (first_line_usual ++ codes "\\afterassignment x\\multiply\\relax y\\end\n") (codes "! You can't use `\\relax' after \\multiply.\nl.2\n{the letter x}\n{the letter y}\n") Finished }
+    ensures escape_character { Writes (first_line_usual ++ codes "\\escapechar=64 \\divide\\relax\\end\n") (codes "! You can't use `@relax' after @divide.\nl.2\n") Finished }
+    ensures depth { Fills (record default_sizes { expansion_depth = 2 }) (first_line_usual ++ codes "\\advance\\count\\count1 by2 \\end") (record { table = ExpansionDepth; used = 2; size = 2 }) }
+    ensures depth_fits { Fits (record default_sizes { expansion_depth = 3 }) (first_line_usual ++ codes "\\advance\\count\\count1 by2 \\end") }
+    ensures levels_of_a_keyword { Fills (record default_sizes { input_stack_size = 2 }) (first_line_usual ++ codes "\\advance\\count1 b2 \\end") (record { table = InputStackSize; used = 2; size = 2 }) }
+    ensures levels_of_a_keyword_fit { Fits (record default_sizes { input_stack_size = 3 }) (first_line_usual ++ codes "\\advance\\count1 b2 \\end") }
+{}
+
+/// The machine run on small files with shorthand definitions, and with what these define.
+pub fn worked_shorthands()
+    ensures register { RunsSo (first_line_usual ++ codes "\\countdef\\x=5 \\x=7 \\message{\\the\\count5}\\end\n") (codes "7\n") 48 Finished }
+    ensures register_without_an_equals_sign { Writes (first_line_usual ++ codes "\\countdef\\x=5 \\x 7 \\message{\\the\\x}\\end\n") (codes "7\n") Finished }
+    ensures register_advanced { Writes (first_line_usual ++ codes "\\countdef\\x=5 \\x=7 \\advance\\x by\\x \\message{\\the\\count5}\\end\n") (codes "14\n") Finished }
+    ensures register_taken_back { Writes (first_line_usual ++ codes "\\countdef\\x=5 {\\x=7 }\\message{\\the\\x}\\end\n") (codes "0\n") Finished }
+    ensures register_globally { Writes (first_line_usual ++ codes "{\\countdef\\x=5 \\global\\x=7 }\\message{\\the\\count5}\\end\n") (codes "7\n") Finished }
+    ensures register_behind_long { Writes (first_line_usual ++ codes "\\countdef\\x=5 \\long\\x=7 \\message{\\the\\x}\\end\n") (codes "! You can't use `\\long' or `\\outer' with `\\count5'.\nl.2\n7\n") Finished }
+    ensures behind_a_register { Writes (first_line_usual ++ codes "\\countdef\\x=5 \\afterassignment a\\x=7b\\end\n") (codes "{the letter a}\n{the letter b}\n") Finished }
+    ensures register_let { Writes (first_line_usual ++ codes "\\countdef\\x=3 \\let\\y=\\x \\y=4 \\message{\\the\\count3,\\meaning\\y}\\end\n") (codes "4,\\count3\n") Finished }
+    ensures register_shown { Writes (first_line_usual ++ codes "\\countdef\\x=5 \\show\\x\\end\n") (codes "> \\x=\\count5.\nl.2\n") Finished }
+    ensures character { RunsSo (first_line_usual ++ codes "\\chardef\\a=65 \\message{\\the\\a}\\end\n") (codes "65\n") 44 Finished }
+    ensures character_meant { Writes (first_line_usual ++ codes "\\chardef\\a=65 \\message{\\meaning\\a}\\end\n") (codes "\\char\"41\n") Finished }
+    ensures character_typeset { RunsSo (first_line_usual ++ codes "\\chardef\\a=65 \\a\\end\n") (codes "{\\char\"41}\n") 38 Finished }
+    ensures character_behind_a_prefix { Writes (first_line_usual ++ codes "\\chardef\\a=65 \\global\\a\\end\n") (codes "! You can't use a prefix with `\\char\"41'.\nl.2\n{\\char\"41}\n") Finished }
+    ensures character_as_number { Writes (first_line_usual ++ codes "\\chardef\\a=13 \\catcode`\\~=\\a\\message{\\the\\catcode`\\~}\\end\n") (codes "13\n") Finished }
+    ensures mathematical { Writes (first_line_usual ++ codes "\\mathchardef\\a=\"141 \\message{\\the\\a,\\meaning\\a}\\a\\end\n") (codes "321,\\mathchar\"141\n{\\mathchar\"141}\n") Finished }
+    ensures greatest { Writes (first_line_usual ++ codes "\\chardef\\a=255 \\mathchardef\\b=32767 \\countdef\\c=255 \\message{\\meaning\\a,\\meaning\\b,\\meaning\\c}\\end\n") (codes "\\char\"FF,\\mathchar\"7FFF,\\count255\n") Finished }
+    ensures name_within_its_value { Writes (first_line_usual ++ codes "\\chardef\\x=\\x\\message{\\meaning\\x}\\end\n") (codes "! Missing number, treated as zero.\nl.2\n{\\char\"0}\n\\char\"0\n") Finished }
+    ensures macro_within_its_value { Writes (first_line_usual ++ codes "\\def\\x{7 }\\countdef\\x=\\x\\message{\\meaning\\x}\\end\n") (codes "! Missing number, treated as zero.\nl.2\n! Missing number, treated as zero.\nl.2\n\\count0\n") Finished }
+    ensures bad_character { Writes (first_line_usual ++ codes "\\chardef\\a=256 \\message{\\meaning\\a}\\end\n") (codes "! Bad character code (256).\nl.2\n\\char\"0\n") Finished }
+    ensures character_below_zero { Writes (first_line_usual ++ codes "\\chardef\\a=-1 \\message{\\meaning\\a}\\end\n") (codes "! Bad character code (-1).\nl.2\n\\char\"0\n") Finished }
+    ensures bad_mathematical { Writes (first_line_usual ++ codes "\\mathchardef\\a=32768 \\message{\\meaning\\a}\\end\n") (codes "! Bad mathchar (32768).\nl.2\n\\mathchar\"0\n") Finished }
+    ensures bad_register { Writes (first_line_usual ++ codes "\\countdef\\a=256 \\a=7 \\message{\\the\\count0}\\end\n") (codes "! Bad register code (256).\nl.2\n7\n") Finished }
+    ensures no_name { Writes (first_line_usual ++ codes "\\chardef 5=65 \\end\n") (codes "! Missing control sequence inserted.\nl.2\n{the character =}\n{the character 6}\n{the character 5}\n{blank space  }\n") Finished }
+    ensures taken_back { Writes (first_line_usual ++ codes "{\\chardef\\a=65 }\\a\\end\n") (codes "! Undefined control sequence.\nl.2\n") Finished }
+    ensures globally { Writes (first_line_usual ++ codes "{\\global\\chardef\\a=65 }\\message{\\the\\a}\\end\n") (codes "65\n") Finished }
+    ensures behind_a_definition { Writes (first_line_usual ++ codes "\\afterassignment x\\chardef\\a=65 y\\end\n") (codes "{the letter x}\n{the letter y}\n") Finished }
+    ensures saved_name { Fills (record default_sizes { save_size = 1 }) (first_line_usual ++ codes "{\\chardef\\a=65 ") (record { table = SaveSize; used = 1; size = 1 }) }
+    ensures saved_once { Fits (record default_sizes { save_size = 2 }) (first_line_usual ++ codes "{\\chardef\\a=65 }\\end") }
+    ensures saved_globally { Fits (record default_sizes { save_size = 1 }) (first_line_usual ++ codes "{\\global\\chardef\\a=65 }\\end") }
+{}
+
+/// The machine run on small files with the texts of values.
+pub fn worked_values()
+    ensures codes_and_parameters { Writes (first_line_usual ++ codes "\\message{\\the\\catcode65,\\the\\endlinechar,\\the\\lccode`A,\\the\\delcode`a}\\end\n") (codes "11,13,97,-1\n") Finished }
+    ensures negative { Writes (first_line_usual ++ codes "\\count1=-5 \\message{\\the\\count1}\\end\n") (codes "-5\n") Finished }
+    ensures in_an_expanded_body { RunsSo (first_line_usual ++ codes "\\count1=5 \\edef\\b{\\the\\count1}\\count1=6 \\message{\\b}\\end\n") (codes "5\n") 57 Finished }
+    ensures behind_expandafter { Writes (first_line_usual ++ codes "\\count1=5 \\expandafter\\def\\expandafter\\b\\expandafter{\\the\\count1}\\count1=6 \\message{\\b}\\end\n") (codes "5\n") Finished }
+    ensures as_a_number { Writes (first_line_usual ++ codes "\\count1=12 \\count\\the\\count1=3 \\message{\\the\\count12 }\\end\n") (codes "3\n") Finished }
+    ensures typeset { Writes (first_line_usual ++ codes "\\count1=50 \\the\\count1 \\end\n") (codes "{the character 5}\n{the character 0}\n") Finished }
+    ensures of_a_letter { RunsSo (first_line_usual ++ codes "\\message{a\\the xb}\\end\n") (codes "! You can't use `the letter x' after \\the.\nl.2\na0b\n") 39 Finished }
+    ensures of_a_sign { Writes (first_line_usual ++ codes "\\message{\\the-5}\\end\n") (codes "! You can't use `the character -' after \\the.\nl.2\n05\n") Finished }
+    ensures of_a_command { Writes (first_line_usual ++ codes "\\message{\\the\\relax\\the\\advance}\\end\n") (codes "! You can't use `\\relax' after \\the.\nl.2\n! You can't use `\\advance' after \\the.\nl.2\n00\n") Finished }
+    ensures of_a_macro { Writes (first_line_usual ++ codes "\\def\\b{\\count1}\\count1=5 \\message{\\the\\b}\\end\n") (codes "5\n") Finished }
+    ensures of_an_undefined_name { Writes (first_line_usual ++ codes "\\count1=5 \\message{\\the\\zz\\count1}\\end\n") (codes "! Undefined control sequence.\nl.2\n5\n") Finished }
+    ensures bad_register { Writes (first_line_usual ++ codes "\\count0=3 \\message{\\the\\count256 }\\end\n") (codes "! Bad register code (256).\nl.2\n3\n") Finished }
+    ensures no_register { Writes (first_line_usual ++ codes "\\count0=3 \\message{\\the\\count x}\\end\n") (codes "! Missing number, treated as zero.\nl.2\n3x\n") Finished }
+    ensures depth { Fills (record default_sizes { expansion_depth = 3 }) (first_line_usual ++ codes "\\message{\\the\\count1}\\end") (record { table = ExpansionDepth; used = 3; size = 3 }) }
+    ensures depth_fits { Fits (record default_sizes { expansion_depth = 4 }) (first_line_usual ++ codes "\\message{\\the\\count1}\\end") }
+{}
+
 /// Small files with groups within small sizes: levels, saved values and tokens, and lists that are held.
 pub fn worked_group_sizes()
     ensures levels { Fills (record default_sizes { grouping_levels = 1 }) (first_line_usual ++ codes "{{") (record { table = GroupingLevels; used = 1; size = 1 }) }

@@ -4,7 +4,7 @@ use Rattle.std.specs.Prelude.{if◌then◌else◌, nat_le}
 use Rattle.tex_defs.specs.declared.Seen.{Seen}
 use Rattle.tex_syntax.specs.declared.words.Report.{Report}
 use Rattle.tex_syntax.specs.declared.words.Report.TheVariants.{MissingNumber, ImproperConstant}
-use Rattle.plain_tokens.specs.Tokens.{is_other, is_space}
+use Rattle.plain_tokens.specs.Tokens.{is_other}
 use Rattle.equivalents.specs.declared.values.Loc.{Loc}
 use Rattle.rows.specs.declared.words.Datum.TheVariants as datum
 use Rattle.rows.specs.declared.words.Value.TheVariants as value
@@ -14,14 +14,16 @@ use Rattle.rows.specs.declared.internal.Internal.{Internal}
 use Rattle.rows.specs.declared.internal.Internal.TheVariants as internal
 use Rattle.rows.specs.Tokens.{is_at_most}
 use Rattle.rows.specs.Internal.{byte_of, location_in, internal_of, integer_of, with_sign, is_mu}
-use Rattle.rows.specs.Readings.{Fed, Tok, Val, Told, Fetched, Ask, Tells, Inserts, Fetches}
+use Rattle.rows.specs.Readings.{Fed, Tok, Val, Told, Fetched, Ask, Tells, Inserts, Puts, Relaxes, Fetches}
 use Rattle.plain_readings.specs.Integers.{is_digit, digit_of, is_minus, is_plus, greatest_integer, digits_dropped, too_big, digits, missing, first_digit, behind_number, behind_code, constant, code_of, improper_code, signed, mu_found, fetched, bad_numbered, with_number, numbered, internal_integer, by_meaning, unsigned, integer}
 use Rattle.plain_readings.specs.Weights.{value_weight, ask_weight}
 
--- what an integer asks for is answered by this, which is no token and no value
+-- what is asked for is answered by this, which is no token and no value
 abbrev pub Wants : Ask → Fed → Type 0
 Wants (Tells report back) Told = Unit {0}
 Wants (Inserts t report back) Told = Unit {0}
+Wants (Puts t more) Told = Unit {0}
+Wants (Relaxes c n) Told = Unit {0}
 Wants (Fetches l) (Fetched v) = Unit {0}
 Wants a y = ⊥
 

@@ -4,7 +4,7 @@ use Rattle.tex_defs.specs.declared.Name.{Name}
 use Rattle.plain_tokens.specs.Arguments as call
 use Rattle.plain_state.specs.Definitions as build
 use Rattle.tex_syntax.specs.declared.words.Want.TheVariants.{Nonblank}
-use Rattle.rows.specs.declared.words.Kind.TheVariants.{Command, Integer, Text, Definition}
+use Rattle.rows.specs.declared.words.Kind.TheVariants.{Command, Integer, Keyword, Text, Definition}
 use Rattle.rows.specs.Readings.{Fed}
 use Rattle.plain_readings.specs.Lists.{build_ask, text, definition}
 use Rattle.plain_readings.specs.Calls.{call_ask, gathered}
@@ -12,6 +12,7 @@ use Rattle.plain_readings.specs.Readings.{Kind, Reads, Spelling, FileName, Behin
 use Rattle.plain_readings.specs.Laws.{is_met, Lends}
 use Rattle.plain_readings.proofs.Lent.{row_lends}
 use Rattle.plain_readings.proofs.Steps.{integer_holds, spelling_holds, naming_holds}
+use Rattle.plain_readings.proofs.Keywords.{keyword_holds}
 
 build_lends : (b : Bool) (a : build.Answer) → Lends b (build_ask a)
 build_lends b (build.More want list) = tt
@@ -26,6 +27,7 @@ call_lends b name a = tt
 pub lends : (k : Kind) (fed : List Fed) → Lends (is_met false fed) (ask k fed)
 lends (Reads (Command c)) fed = row_lends c fed
 lends (Reads Integer) fed = integer_holds (λ b a. Lends (is_met false fed) a) (λ b want. tt) (λ report back. tt) (λ b n back. tt) (λ b. tt) (λ b l. tt) false false fed
+lends (Reads (Keyword w)) fed = keyword_holds (λ b a. Lends (is_met false fed) a) (λ b want. tt) (λ b found. tt) (λ b t n few. tt) w false fed
 lends (Reads (Text name expanded)) fed = build_lends (is_met false fed) (text name expanded fed)
 lends (Reads (Definition name expanded)) fed = build_lends (is_met false fed) (definition name expanded fed)
 lends (Spelling c) fed = spelling_holds (λ b a. Lends (is_met false fed) a) (λ b want. tt) (λ report back. tt) (λ b. tt) (λ b c ts. tt) c [] false fed

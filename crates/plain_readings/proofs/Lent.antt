@@ -5,6 +5,7 @@ use Rattle.tex_defs.specs.declared.Seen.{Seen}
 use Rattle.tex_syntax.specs.declared.words.Want.{Want}
 use Rattle.rows.specs.declared.words.Datum.{Datum}
 use Rattle.rows.specs.declared.words.Kind.{Kind}
+use Rattle.rows.specs.declared.internal.Bank.{Bank}
 use Rattle.rows.specs.declared.stage.Stage.{Stage}
 use Rattle.rows.specs.declared.stage.Start.{Start}
 use Rattle.rows.specs.declared.stage.Start.TheVariants.{Looks, Begins}
@@ -19,8 +20,8 @@ use Rattle.rows.specs.declared.stage.Note.TheVariants as note
 use Rattle.rows.specs.declared.command.Call.{Call}
 use Rattle.rows.specs.Readings.{Fed, Tok, Val, Told, Ask}
 use Rattle.rows.specs.Table.{stages_of}
-use Rattle.rows.specs.Stages.{start, on_token, on_value}
-use Rattle.rows.specs.Run.{Outcome, Asks, Takes, Passes, Gathers, Makes, Turns, comes, due, noted, valued, inner, begins, met_with, looks, again, started, behind, run, no_turn, turned, row}
+use Rattle.rows.specs.Stages.{start, on_token, on_value, numbered_by}
+use Rattle.rows.specs.Run.{Outcome, Asks, Takes, Passes, Gathers, Makes, Turns, comes, due, noted, valued, inner, begins, numbers, met_with, looks, again, started, behind, run, no_turn, turned, row}
 use Rattle.plain_readings.specs.Laws.{is_met, Lends}
 
 -- what comes of a stage that was fed with a list whose last item is a token or not
@@ -35,10 +36,12 @@ Fits t (Turns c fed) = (b : Bool) × (t ≡ is_met b fed)
 due_fits : (b : Bool) (n : Note) → Lends b (due n)
 due_fits b (note.Tells report back) = tt
 due_fits b (note.Inserts t report back) = tt
+due_fits b (note.Relaxes c n) = tt
 
 comes_fits : (m : Next) (b : Bool) (fed : List Fed) → Fits (is_met b fed) (comes m fed)
 comes_fits (next.Takes d) b fed = (b, refl)
 comes_fits next.Stops b fed = tt
+comes_fits (next.Fails c) b fed = tt
 comes_fits (next.Turns c) b fed = (b, refl)
 
 noted_fits : (n : Note) (m : Next) (b : Bool) (fed : List Fed) → Fits (is_met b fed) (noted n m fed)
@@ -63,6 +66,11 @@ begins_fits s k b (Tok x ∷ fed) = inner_fits s k fed
 begins_fits s k b (Val v ts ∷ fed) = valued_fits (on_value s v) ts fed
 begins_fits s k b (y ∷ fed) = tt
 
+numbers_fits : (k : Bank) (b : Bool) (fed : List Fed) → Fits (is_met b fed) (numbers k fed)
+numbers_fits k b [] = tt
+numbers_fits k b (Val v ts ∷ fed) = valued_fits (numbered_by k v) ts fed
+numbers_fits k b (y ∷ fed) = tt
+
 met_fits : (x : Seen) (m : Met) (skipped : Call → Outcome) (retried : Note → Outcome) (fed : List Fed) →
     ((c : Call) → Fits (is_met true fed) (skipped c)) → ((n : Note) → Fits (is_met true fed) (retried n)) → Fits (is_met true fed) (met_with (Tok x) m skipped retried fed)
 met_fits x (met.Takes d) skipped retried fed h i = (true, refl)
@@ -71,6 +79,7 @@ met_fits x met.Leaves skipped retried fed h i = (false, refl)
 met_fits x (met.Skips c) skipped retried fed h i = h c
 met_fits x (met.Notes n m) skipped retried fed h i = noted_fits n m true fed
 met_fits x (met.Retries n) skipped retried fed h i = i n
+met_fits x (met.Numbers k) skipped retried fed h i = numbers_fits k true fed
 met_fits x (met.Turns c) skipped retried fed h i = (true, refl)
 
 mutual
@@ -106,4 +115,4 @@ module _ (turn : Call → List Fed → Ask) (turns : (c : Call) (b : Bool) (fed 
       (started_fits s c (start s c ds) b fed)
 
 pub row_lends : (c : Call) (fed : List Fed) → Lends (is_met false fed) (row c fed)
-row_lends c fed = run_lends turned (λ c b fed. run_lends no_turn (λ c b fed. tt) c (stages_of c.primitive) [] b fed) c (stages_of c.primitive) [] false fed
+row_lends c fed = run_lends turned (λ c b fed. run_lends no_turn (λ c b fed. tt) c (stages_of c.head) [] b fed) c (stages_of c.head) [] false fed

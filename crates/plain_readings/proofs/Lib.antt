@@ -2,6 +2,7 @@ pub mod Full
 pub mod Quiet
 pub mod Extra
 pub mod Steps
+pub mod Keywords
 pub mod Lent
 pub mod Starting
 pub mod Lower

@@ -1,48 +1,72 @@
--- No reading begins a command.
-use Rattle.std.proofs.Common.{Bool, true, false, List, [], ◌∷◌, arith}
+-- Each reading begins one of a lower rank, but an integer may begin an integer; so no reading begins a command.
+use Rattle.std.proofs.Common.{◌≡◌, ◌<◌, ℕ, Bool, true, false, List, [], ◌∷◌, refl, sym, subst, arith}
 use Rattle.tex_defs.specs.declared.Name.{Name}
+use Rattle.tex_defs.specs.declared.Token.{Token}
 use Rattle.plain_tokens.specs.Arguments as call
 use Rattle.plain_state.specs.Definitions as build
 use Rattle.tex_syntax.specs.declared.words.Want.TheVariants.{Nonblank}
 use Rattle.rows.specs.declared.words.Kind.{Kind as Begun}
-use Rattle.rows.specs.declared.words.Kind.TheVariants.{Command, Integer, Text, Definition}
+use Rattle.rows.specs.declared.words.Kind.TheVariants.{Command, Integer, Keyword, Text, Definition}
 use Rattle.rows.specs.declared.stage.Note.{Note}
 use Rattle.rows.specs.declared.stage.Note.TheVariants as note
-use Rattle.rows.specs.Readings.{Fed, Inner}
+use Rattle.rows.specs.declared.command.Call.{Call}
+use Rattle.rows.specs.Readings.{Fed, Ask, Inner}
 use Rattle.rows.specs.Run.{due}
 use Rattle.rows.proofs.Runs.{IsLow, row_holds}
 use Rattle.plain_readings.specs.Lists.{build_ask, text, definition}
 use Rattle.plain_readings.specs.Calls.{call_ask, gathered}
 use Rattle.plain_readings.specs.Readings.{Kind, Reads, Spelling, FileName, Behind, Arguments, ask}
-use Rattle.plain_readings.specs.Laws.{BeginsNoCommand}
+use Rattle.plain_readings.specs.Laws.{rank, BeginsBy}
 use Rattle.plain_readings.proofs.Steps.{integer_holds, spelling_holds, naming_holds}
+use Rattle.plain_readings.proofs.Keywords.{keyword_holds}
 
-due_low : (n : Note) → BeginsNoCommand (due n)
-due_low (note.Tells report back) = tt
-due_low (note.Inserts t report back) = tt
+due_low : (c : Call) (n : Note) → BeginsBy (Reads (Command c)) (due n)
+due_low c (note.Tells report back) = tt
+due_low c (note.Inserts t report back) = tt
+due_low c (note.Relaxes d n) = tt
 
-no_command : (k : Begun) (begins : Bool) → IsLow k → BeginsNoCommand (Inner k begins)
-no_command (Command c) begins h = absurd (omega (arith, h))
-no_command k begins h = tt
+low_rank : (j : Begun) → IsLow j → rank (Reads j) < 1
+low_rank (Command c) low = absurd (omega (arith, low))
+low_rank j low = omega arith
 
-build_lower : (a : build.Answer) → BeginsNoCommand (build_ask a)
-build_lower (build.More want list) = tt
-build_lower (build.Tells report back list) = tt
-build_lower (build.Done list) = tt
+text_lower : (name : Name) (expanded : Bool) (a : build.Answer) → BeginsBy (Reads (Text name expanded)) (build_ask a)
+text_lower name expanded (build.More want list) = tt
+text_lower name expanded (build.Tells report back list) = tt
+text_lower name expanded (build.Done list) = tt
 
-call_lower : (name : Name) (a : call.Answer) → BeginsNoCommand (call_ask name a)
-call_lower name (call.Ended true args work) = tt
-call_lower name (call.Ended false args work) = tt
-call_lower name a = tt
+definition_lower : (name : Name) (expanded : Bool) (a : build.Answer) → BeginsBy (Reads (Definition name expanded)) (build_ask a)
+definition_lower name expanded (build.More want list) = tt
+definition_lower name expanded (build.Tells report back list) = tt
+definition_lower name expanded (build.Done list) = tt
 
-pub lower : (k : Kind) (fed : List Fed) → BeginsNoCommand (ask k fed)
-lower (Reads (Command c)) fed =
-    row_holds (λ b a. BeginsNoCommand a) (λ b want. tt) (λ b k begins low. no_command k begins low) (λ b c e. tt) (λ b c e ts. tt) (λ b c n ts. tt) (λ b. tt) due_low c fed
-lower (Reads Integer) fed = integer_holds (λ b a. BeginsNoCommand a) (λ b want. tt) (λ report back. tt) (λ b n back. tt) (λ b. tt) (λ b l. tt) false false fed
-lower (Reads (Text name expanded)) fed = build_lower (text name expanded fed)
-lower (Reads (Definition name expanded)) fed = build_lower (definition name expanded fed)
-lower (Spelling c) fed = spelling_holds (λ b a. BeginsNoCommand a) (λ b want. tt) (λ report back. tt) (λ b. tt) (λ b c ts. tt) c [] false fed
-lower (FileName c) fed = naming_holds (λ b a. BeginsNoCommand a) (λ b want. tt) (λ report back. tt) (λ b. tt) (λ b c back ts. tt) c Nonblank [] false fed
+call_lower : (name : Name) (long : Bool) (number : ℕ) (ts : List Token) (a : call.Answer) → BeginsBy (Arguments name long number ts) (call_ask name a)
+call_lower name long number ts (call.Ended true args work) = tt
+call_lower name long number ts (call.Ended false args work) = tt
+call_lower name long number ts a = tt
+
+pub lower : (k : Kind) (fed : List Fed) → BeginsBy k (ask k fed)
+lower (Reads (Command d)) fed =
+    row_holds (λ b a. BeginsBy (Reads (Command d)) a) (λ b want. tt) (λ b j begins low. low_rank j low) (λ b c e. tt) (λ b c e ts. tt) (λ b c n ts. tt) (λ b. tt) (λ n. due_low d n) d fed
+lower (Reads Integer) fed = integer_holds (λ b a. BeginsBy (Reads Integer) a) (λ b want. tt) (λ report back. tt) (λ b n back. tt) (λ b. refl) (λ b l. tt) false false fed
+lower (Reads (Keyword w)) fed = keyword_holds (λ b a. BeginsBy (Reads (Keyword w)) a) (λ b want. tt) (λ b found. tt) (λ b t n few. tt) w false fed
+lower (Reads (Text name expanded)) fed = text_lower name expanded (text name expanded fed)
+lower (Reads (Definition name expanded)) fed = definition_lower name expanded (definition name expanded fed)
+lower (Spelling c) fed = spelling_holds (λ b a. BeginsBy (Spelling c) a) (λ b want. tt) (λ report back. tt) (λ b. tt) (λ b d ts. tt) c [] false fed
+lower (FileName c) fed = naming_holds (λ b a. BeginsBy (FileName c) a) (λ b want. tt) (λ report back. tt) (λ b. tt) (λ b d back ts. tt) c Nonblank [] false fed
 lower (Behind c x) fed = tt
 lower (Arguments name long number ts) [] = tt
-lower (Arguments name long number ts) (y ∷ fed) = call_lower name (gathered long ts (y ∷ fed))
+lower (Arguments name long number ts) (y ∷ fed) = call_lower name long number ts (gathered long ts (y ∷ fed))
+
+-- WHAT IS BEGUN is of rank 0, so it is no command
+
+low : (k : Kind) (j : Begun) (begins : Bool) → BeginsBy k (Inner j begins) → rank (Reads j) < 1
+low (Reads (Command c)) j begins h = h
+low (Reads Integer) j begins h = subst (λ (i : Begun). rank (Reads i) < 1) (sym h) (omega arith)
+low (Reads k) j begins h = absurd (omega (arith, h))
+low k j begins h = h
+
+pub begun_low : (k : Kind) (fed : List Fed) (j : Begun) (begins : Bool) → ask k fed ≡ Inner j begins → rank (Reads j) < 1
+begun_low k fed j begins e = low k j begins (subst (λ (a : Ask). BeginsBy k a) e (lower k fed))
+
+pub no_command : (k : Kind) (fed : List Fed) (c : Call) (begins : Bool) → ask k fed ≡ Inner (Command c) begins → ⊥
+no_command k fed c begins e = omega (arith, begun_low k fed (Command c) begins e)

@@ -1,4 +1,4 @@
--- Behind the note of a report no reading reports at once.
+-- Behind a note no reading reports at once, nor has it a name relaxed.
 use Rattle.std.proofs.Common.{◌≡◌, ℕ, Bool, true, false, List, [], ◌∷◌, ◌++◌, refl, sym, subst}
 use Rattle.tex_defs.specs.declared.Name.{Name}
 use Rattle.tex_defs.specs.declared.Token.{Token}
@@ -6,10 +6,10 @@ use Rattle.plain_tokens.specs.Arguments as call
 use Rattle.plain_tokens.specs.Arguments.{start_of, places_of}
 use Rattle.plain_state.specs.Definitions as build
 use Rattle.tex_syntax.specs.declared.words.Want.TheVariants.{Nonblank}
-use Rattle.rows.specs.declared.words.Kind.TheVariants.{Command, Integer, Text, Definition}
+use Rattle.rows.specs.declared.words.Kind.TheVariants.{Command, Integer, Keyword, Text, Definition}
 use Rattle.rows.specs.declared.stage.Note.{Note}
 use Rattle.rows.specs.Laws.{is_told}
-use Rattle.rows.specs.Readings.{Fed, Tok, Val, Told, Fetched, Cut, Ask}
+use Rattle.rows.specs.Readings.{Fed, Tok, Val, Told, Fetched, Cut, Ask, Relaxes}
 use Rattle.rows.specs.Run.{due}
 use Rattle.rows.proofs.Runs.{row_holds}
 use Rattle.plain_readings.specs.Lists.{build_ask, build_fed, manner, text, definition}
@@ -21,10 +21,20 @@ use Rattle.plain_readings.proofs.Quiet.{parameters_quiet, first_quiet}
 use Rattle.plain_readings.proofs.Extra as extra
 use Rattle.plain_readings.proofs.Extra.{call_quiet}
 use Rattle.plain_readings.proofs.Steps.{integer_holds, spelling_holds, naming_holds}
+use Rattle.plain_readings.proofs.Keywords.{keyword_holds}
 
--- nothing is reported where a note came last
+-- how many reports may come at once, and names be relaxed
+abbrev pub notes_due : Ask → ℕ
+notes_due (Relaxes c n) = 1
+notes_due a = reports_due a
+
+pub reports_too : (a : Ask) → notes_due a ≡ 0 → reports_due a ≡ 0
+reports_too (Relaxes c n) h = refl
+reports_too a h = h
+
+-- nothing is due where a note came last
 abbrev IsQuiet : Bool → Ask → Type 0
-IsQuiet true a = reports_due a ≡ 0
+IsQuiet true a = notes_due a ≡ 0
 IsQuiet false a = Unit {0}
 
 told_last : (b : Bool) (fed : List Fed) → is_told b (fed ++ Told ∷ []) ≡ true
@@ -35,10 +45,10 @@ told_last b (Val v ts ∷ fed) = told_last false fed
 told_last b (Fetched v ∷ fed) = told_last false fed
 told_last b (Cut ∷ fed) = told_last false fed
 
-quiet_last : (a : Ask) (b : Bool) (fed : List Fed) → IsQuiet (is_told b (fed ++ Told ∷ [])) a → reports_due a ≡ 0
+quiet_last : (a : Ask) (b : Bool) (fed : List Fed) → IsQuiet (is_told b (fed ++ Told ∷ [])) a → notes_due a ≡ 0
 quiet_last a b fed h = subst (λ (t : Bool). IsQuiet t a) (told_last b fed) h
 
-any : (b : Bool) (a : Ask) → reports_due a ≡ 0 → IsQuiet b a
+any : (b : Bool) (a : Ask) → notes_due a ≡ 0 → IsQuiet b a
 any true a h = h
 any false a h = tt
 
@@ -61,12 +71,12 @@ call_last (Cut ∷ fed) = rw (call_last fed) refl
 call_last (Val v ts ∷ fed) = call_last fed
 call_last (Fetched v ∷ fed) = call_last fed
 
-build_quiet : (a : build.Answer) → quiet.IsQuiet a → reports_due (build_ask a) ≡ 0
+build_quiet : (a : build.Answer) → quiet.IsQuiet a → notes_due (build_ask a) ≡ 0
 build_quiet (build.More want list) h = refl
 build_quiet (build.Tells report back list) h = absurd h
 build_quiet (build.Done list) h = refl
 
-ask_quiet : (name : Name) (a : call.Answer) → extra.IsQuiet a → reports_due (call_ask name a) ≡ 0
+ask_quiet : (name : Name) (a : call.Answer) → extra.IsQuiet a → notes_due (call_ask name a) ≡ 0
 ask_quiet name (call.More args work) h = refl
 ask_quiet name (call.ExtraBraceFound args work) h = absurd h
 ask_quiet name (call.Called args) h = refl
@@ -74,14 +84,14 @@ ask_quiet name call.Mismatch h = refl
 ask_quiet name (call.Ended true args work) h = refl
 ask_quiet name (call.Ended false args work) h = refl
 
-arguments_quiet : (name : Name) (long : Bool) (number : ℕ) (ts : List Token) (fed : List Fed) → reports_due (ask (Arguments name long number ts) (fed ++ Told ∷ [])) ≡ 0
+arguments_quiet : (name : Name) (long : Bool) (number : ℕ) (ts : List Token) (fed : List Fed) → notes_due (ask (Arguments name long number ts) (fed ++ Told ∷ [])) ≡ 0
 arguments_quiet name long number ts [] = ask_quiet name (gathered long ts (Told ∷ [])) (call_quiet (mode_of long) (start_of ts) (places_of ts) [])
 arguments_quiet name long number ts (y ∷ fed) =
     ask_quiet name (gathered long ts ((y ∷ fed) ++ Told ∷ []))
     (subst (λ (fed : List call.Fed). extra.IsQuiet (call.call (mode_of long) (start_of ts) (places_of ts) fed)) (sym (call_last (y ∷ fed)))
     (call_quiet (mode_of long) (start_of ts) (places_of ts) (call_fed (y ∷ fed))))
 
-pub told_quiet : (k : Kind) (fed : List Fed) → reports_due (ask k (fed ++ Told ∷ [])) ≡ 0
+pub told_quiet : (k : Kind) (fed : List Fed) → notes_due (ask k (fed ++ Told ∷ [])) ≡ 0
 told_quiet (Reads (Command c)) fed =
     quiet_last (ask (Reads (Command c)) (fed ++ Told ∷ [])) false fed
     (row_holds IsQuiet (λ b want. any b _ refl) (λ b k begins low. any b _ refl) (λ b c e. any b _ refl) (λ b c e ts. any b _ refl) (λ b c n ts. any b _ refl) (λ b. any b _ refl) due_quiet c
@@ -89,6 +99,9 @@ told_quiet (Reads (Command c)) fed =
 told_quiet (Reads Integer) fed =
     quiet_last (ask (Reads Integer) (fed ++ Told ∷ [])) false fed
     (integer_holds IsQuiet (λ b want. any b _ refl) (λ report back. tt) (λ b n back. any b _ refl) (λ b. any b _ refl) (λ b l. any b _ refl) false false (fed ++ Told ∷ []))
+told_quiet (Reads (Keyword w)) fed =
+    quiet_last (ask (Reads (Keyword w)) (fed ++ Told ∷ [])) false fed
+    (keyword_holds IsQuiet (λ b want. any b _ refl) (λ b found. any b _ refl) (λ b t n few. any b _ refl) w false (fed ++ Told ∷ []))
 told_quiet (Reads (Text name expanded)) fed =
     build_quiet (text name expanded (fed ++ Told ∷ []))
     (subst (λ (fed : List build.Fed). quiet.IsQuiet (build.text (manner name expanded) fed)) (sym (build_last fed)) (first_quiet (manner name expanded) [] (build_fed fed)))

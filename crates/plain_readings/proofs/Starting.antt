@@ -1,7 +1,9 @@
 -- The first stage of a row asks for a token or begins another reading.
 use Rattle.std.proofs.Common.{◌<◌, List, [], refl, arith}
 use Rattle.rows.specs.declared.words.Datum.{Datum}
-use Rattle.rows.specs.declared.words.Kind.TheVariants.{Command, Integer, Text, Definition}
+use Rattle.rows.specs.declared.words.Keyword.{Keyword as Word}
+use Rattle.rows.specs.declared.words.Keyword.TheVariants as word
+use Rattle.rows.specs.declared.words.Kind.TheVariants.{Command, Integer, Keyword, Text, Definition}
 use Rattle.rows.specs.declared.stage.Stage.{Stage}
 use Rattle.rows.specs.declared.stage.Stage.TheVariants as stage
 use Rattle.rows.specs.declared.stage.Start.{Start}
@@ -21,6 +23,7 @@ start_low : (s : Stage) (c : Call) (ds : List Datum) → IsLow (start s c ds)
 start_low stage.Number c ds = omega arith
 start_low (stage.NumberTo greatest complaint) c ds = omega arith
 start_low (stage.NumberUpTo greatest) c ds = omega arith
+start_low (stage.Keyword w) c ds = omega arith
 start_low (stage.Text expanded) c ds = omega arith
 start_low (stage.MacroText expanded) c ds = omega arith
 start_low s c ds = tt
@@ -29,11 +32,32 @@ first_starts : (c : Call) (s : Stage) (ss : List Stage) (begun : Start) → IsLo
 first_starts c s ss (Looks want) low = tt
 first_starts c s ss (Begins k) low = (low, refl)
 
+keyword_starts : (w : Word) → Starts 0 (ask (Reads (Keyword w)) [])
+keyword_starts word.By = tt
+keyword_starts word.Plus = tt
+keyword_starts word.Minus = tt
+keyword_starts word.Fil = tt
+keyword_starts word.L = tt
+keyword_starts word.True = tt
+keyword_starts word.Em = tt
+keyword_starts word.Ex = tt
+keyword_starts word.Pt = tt
+keyword_starts word.In = tt
+keyword_starts word.Pc = tt
+keyword_starts word.Cm = tt
+keyword_starts word.Mm = tt
+keyword_starts word.Bp = tt
+keyword_starts word.Dd = tt
+keyword_starts word.Cc = tt
+keyword_starts word.Sp = tt
+keyword_starts word.Mu = tt
+
 pub starts : (k : Kind) → IsRead k → Starts (rank k) (ask k [])
 starts (Reads (Command c)) h =
-    first_starts c (first_in (row_of c.primitive).0) (rest_in (row_of c.primitive).0) (start (first_in (row_of c.primitive).0) c [])
-    (start_low (first_in (row_of c.primitive).0) c [])
+    first_starts c (first_in (row_of c.head).0) (rest_in (row_of c.head).0) (start (first_in (row_of c.head).0) c [])
+    (start_low (first_in (row_of c.head).0) c [])
 starts (Reads Integer) h = tt
+starts (Reads (Keyword w)) h = keyword_starts w
 starts (Reads (Text name expanded)) h = tt
 starts (Reads (Definition name expanded)) h = tt
 starts (Spelling c) h = tt

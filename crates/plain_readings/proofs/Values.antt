@@ -1,10 +1,10 @@
--- Integers end with numbers, texts and definitions with the lists that they hold, and nothing else with a value.
+-- Integers end with numbers, keywords with whether they were there, texts and definitions with the lists that they hold, and nothing else with a value.
 use Rattle.std.proofs.Common.{Bool, true, false, List, [], ◌∷◌, refl}
 use Rattle.tex_defs.specs.declared.Name.{Name}
 use Rattle.plain_tokens.specs.Arguments as call
 use Rattle.plain_state.specs.Definitions as build
 use Rattle.tex_syntax.specs.declared.words.Want.TheVariants.{Nonblank}
-use Rattle.rows.specs.declared.words.Kind.TheVariants.{Command, Integer, Text, Definition}
+use Rattle.rows.specs.declared.words.Kind.TheVariants.{Command, Integer, Keyword, Text, Definition}
 use Rattle.rows.specs.declared.stage.Note.{Note}
 use Rattle.rows.specs.declared.stage.Note.TheVariants as note
 use Rattle.rows.specs.Laws.{IsValueless}
@@ -17,10 +17,12 @@ use Rattle.plain_readings.specs.Readings.{Kind, Reads, Spelling, FileName, Behin
 use Rattle.plain_readings.specs.Laws.{GivesValue, EndsAs}
 use Rattle.plain_readings.proofs.Full.{EndsFull, parameters_full}
 use Rattle.plain_readings.proofs.Steps.{integer_holds, spelling_holds, naming_holds}
+use Rattle.plain_readings.proofs.Keywords.{keyword_holds}
 
 due_valueless : (n : Note) → IsValueless (due n)
 due_valueless (note.Tells report back) = tt
 due_valueless (note.Inserts t report back) = tt
+due_valueless (note.Relaxes c n) = tt
 
 text_value : (name : Name) (expanded : Bool) (a : build.Answer) → EndsAs (Reads (Text name expanded)) (built a ∷ []) (build_ask a)
 text_value name expanded (build.More want list) = tt
@@ -41,6 +43,7 @@ pub values : (k : Kind) (fed : List Fed) → EndsAs k (lists k fed) (ask k fed)
 values (Reads (Command c)) fed =
     row_holds (λ b a. IsValueless a) (λ b want. tt) (λ b k begins low. tt) (λ b c e. tt) (λ b c e ts. tt) (λ b c n ts. tt) (λ b. tt) due_valueless c fed
 values (Reads Integer) fed = integer_holds (λ b a. GivesValue Integer [] a) (λ b want. tt) (λ report back. tt) (λ b n back. tt) (λ b. (refl, refl)) (λ b l. tt) false false fed
+values (Reads (Keyword w)) fed = keyword_holds (λ b a. GivesValue (Keyword w) [] a) (λ b want. tt) (λ b found. tt) (λ b t n few. few) w false fed
 values (Reads (Text name expanded)) fed = text_value name expanded (text name expanded fed)
 values (Reads (Definition name expanded)) fed =
     definition_value name expanded (definition name expanded fed) (parameters_full (manner name expanded) 0 [] (build_fed fed))

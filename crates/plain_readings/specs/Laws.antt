@@ -2,14 +2,14 @@
 use Rattle.std.specs.Prelude.{ℕ, ◌+◌, ◌-◌, ◌<◌, ◌≤◌, ◌≡◌, ◌≢◌, Bool, true, false, List, [], ◌∷◌, ◌++◌}
 use Rattle.tex_defs.specs.declared.Token.{Token}
 use Rattle.tex_syntax.specs.declared.words.Report.{Report}
-use Rattle.rows.specs.declared.words.Datum.TheVariants.{Number}
+use Rattle.rows.specs.declared.words.Datum.TheVariants.{Number, Found}
 use Rattle.rows.specs.declared.words.Value.{Value}
 use Rattle.rows.specs.declared.words.Value.TheVariants as value
 use Rattle.rows.specs.declared.words.Kind.{Kind as Begun}
-use Rattle.rows.specs.declared.words.Kind.TheVariants.{Command, Integer, Text, Definition}
+use Rattle.rows.specs.declared.words.Kind.TheVariants.{Command, Integer, Keyword, Text, Definition}
 use Rattle.rows.specs.declared.command.Call.{Call}
 use Rattle.rows.specs.Laws.{IsValueless}
-use Rattle.rows.specs.Readings.{Fed, Tok, Told, Ask, More, Inner, Done, ActsOn, Tells, Inserts, Fetches}
+use Rattle.rows.specs.Readings.{Fed, Tok, Told, Ask, More, Inner, Done, ActsOn, Tells, Inserts, Puts, Fetches}
 use Rattle.plain_readings.specs.Readings.{Kind, Reads, Spelling, FileName, Behind, ask, lists}
 
 -- RANKS. A reading that was fed with nothing begins only readings of a lower rank.
@@ -31,13 +31,14 @@ IsRead k = Unit {0}
 abbrev pub ReadingsStart : Type 0
 ReadingsStart = (k : Kind) → IsRead k → Starts (rank k) (ask k [])
 
--- Whatever it was fed with, it begins no command.
-abbrev pub BeginsNoCommand : Ask → Type 0
-BeginsNoCommand (Inner (Command c) begins) = ⊥
-BeginsNoCommand a = Unit {0}
+-- Whatever it was fed with, it begins one of a lower rank; but an integer may begin another integer, the number of a register or of a character.
+abbrev pub BeginsBy : Kind → Ask → Type 0
+BeginsBy (Reads Integer) (Inner j begins) = j ≡ Integer
+BeginsBy k (Inner j begins) = rank (Reads j) < rank k
+BeginsBy k a = Unit {0}
 
-abbrev pub ReadingsBeginNoCommand : Type 0
-ReadingsBeginNoCommand = (k : Kind) (fed : List Fed) → BeginsNoCommand (ask k fed)
+abbrev pub ReadingsBeginLower : Type 0
+ReadingsBeginLower = (k : Kind) (fed : List Fed) → BeginsBy k (ask k fed)
 
 -- A TOKEN THAT A READING LOOKED AT begins an inner one only directly behind it.
 abbrev pub is_met : Bool → List Fed → Bool
@@ -52,22 +53,24 @@ Lends b a = Unit {0}
 abbrev pub TokensAreLent : Type 0
 TokensAreLent = (k : Kind) (fed : List Fed) → Lends (is_met false fed) (ask k fed)
 
--- VALUES. An integer's is a number, and it holds no list; that of a text is its list, which may have no token, and that of a macro's
+-- VALUES. An integer's is a number, a keyword's whether it was there, and both hold no list; that of a text is its list, which may have no token, and that of a macro's
 -- list has one.
 abbrev pub IsValue : Begun → Value → List (List Token) → Type 0
 IsValue Integer (value.Plain (Number n)) [] = Unit {0}
+IsValue (Keyword w) (value.Plain (Found found)) [] = Unit {0}
 IsValue (Text name expanded) value.List (ts ∷ []) = Unit {0}
 IsValue (Definition name expanded) value.List (ts ∷ []) = ts ≢ []
 IsValue k v held = ⊥
 
 -- What has a value asks for a token or reports until it ends with it; an integer also begins another, the number of a register or of a
--- character, or asks for what stands at a location. Nothing else has a value.
+-- character, or asks for what stands at a location, and a keyword puts tokens back, five at most. Nothing else has a value.
 abbrev pub GivesValue : Begun → List (List Token) → Ask → Type 0
 GivesValue k held (More want) = Unit {0}
 GivesValue k held (Tells report back) = Unit {0}
 GivesValue k held (Done v back) = IsValue k v held
 GivesValue Integer held (Inner j begins) = (j ≡ Integer) × (begins ≡ false)
 GivesValue Integer held (Fetches l) = Unit {0}
+GivesValue (Keyword w) held (Puts t more) = more ≤ 4
 GivesValue k held a = ⊥
 
 abbrev pub EndsAs : Kind → List (List Token) → Ask → Type 0

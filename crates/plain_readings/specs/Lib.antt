@@ -1,4 +1,5 @@
 pub mod Integers
+pub mod Keywords
 pub mod Lists
 pub mod Calls
 pub mod Spelling

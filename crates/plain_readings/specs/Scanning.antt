@@ -20,7 +20,7 @@ command_status true = Unguarded
 command_status false = Inherits
 
 abbrev pub status : Kind → Status
-status (Reads (Command c)) = command_status (reads_under_normal c.primitive)
+status (Reads (Command c)) = command_status (reads_under_normal c.head)
 status (Reads (Text name expanded)) = Scans scanned.Text name
 status (Reads (Definition name expanded)) = Scans scanned.Definition name
 status (Arguments name long number ts) = Scans scanned.Use name

@@ -13,7 +13,7 @@ use Rattle.rows.specs.declared.words.Kind.TheVariants.{Command}
 use Rattle.rows.specs.declared.command.Call.{Call}
 use Rattle.rows.specs.declared.command.Effect.{Effect}
 use Rattle.rows.specs.declared.command.Effect.TheVariants.{ExpandBehind}
-use Rattle.rows.specs.Readings.{Fed, Tok, Val, Told, Fetched, Ask, More, Inner, Done, Acts, Tells, Inserts, Fetches}
+use Rattle.rows.specs.Readings.{Fed, Tok, Val, Told, Fetched, Ask, More, Inner, Done, Acts, Tells, Inserts, Puts, Relaxes, Fetches}
 use Rattle.plain_readings.specs.Readings.{Kind, Reads, Behind, ask}
 use Rattle.plain_readings.specs.Laws.{IsRead, after}
 
@@ -49,7 +49,7 @@ fetching_behind report = 0
 
 -- A token weighs nothing, since it is a step. A reading begun weighs more than it does then, also where it reports the token that it begins
 -- with. A report weighs more than the end behind it, than the reports that may follow it, and than what is fetched behind it; and that weighs
--- more than the report of glue in mu, which may come then.
+-- more than the report of glue in mu, which may come then. A token put back weighs more than those that follow it, and than the end behind them.
 abbrev pub ask_weight : (end : ℕ) → Ask → ℕ
 ask_weight end (More want) = 0
 ask_weight end (Inner j false) = 11
@@ -58,6 +58,8 @@ ask_weight end (Done v back) = value_weight
 ask_weight end (Acts c e) = effect_weight e
 ask_weight end (Tells report back) = end + 1 + after report + fetching_behind report
 ask_weight end (Inserts t report back) = end + 1 + after report + fetching_behind report
+ask_weight end (Puts t more) = end + 1 + more
+ask_weight end (Relaxes c n) = end + 1
 ask_weight end (Fetches l) = end + 2
 ask_weight end a = act_weight
 
@@ -65,10 +67,13 @@ ask_weight end a = act_weight
 abbrev pub weight : Kind → List Fed → ℕ
 weight k fed = ask_weight (end_weight k) (ask k fed)
 
-abbrev pub IsReport : Ask → Type 0
-IsReport (Tells report back) = Unit {0}
-IsReport (Inserts t report back) = Unit {0}
-IsReport a = ⊥
+-- it is fed with a note then
+abbrev pub IsNoted : Ask → Type 0
+IsNoted (Tells report back) = Unit {0}
+IsNoted (Inserts t report back) = Unit {0}
+IsNoted (Puts t more) = Unit {0}
+IsNoted (Relaxes c n) = Unit {0}
+IsNoted a = ⊥
 
 -- A reading is begun, alone or with a token; one that has a value ends, and the one beneath is fed with it; one acts or ends, and any may stand
 -- beneath it; one that acts has another begun in its place; where `\expandafter` ends, its token waits, and perhaps an expansion begins above
@@ -82,5 +87,5 @@ pub record WeightsFall : Type 0 where
   pub begun_by_act : (k : Kind) → IsRead k → weight k [] < act_weight
   pub waits : (k : Kind) (fed : List Fed) (c d : Call) (x y z : Seen) → ask k fed ≡ Acts c (ExpandBehind x y) → weight (Behind d z) [] < weight k fed
   pub expanded_behind : (k : Kind) (fed : List Fed) (c : Call) (x y : Seen) (j : Kind) → ask k fed ≡ Acts c (ExpandBehind x y) → IsRead j → frame_weight + weight j [] < weight k fed
-  pub noted : (k : Kind) (fed : List Fed) → IsReport (ask k fed) → weight k (fed ++ Told ∷ []) < weight k fed
+  pub noted : (k : Kind) (fed : List Fed) → IsNoted (ask k fed) → weight k (fed ++ Told ∷ []) < weight k fed
   pub fetched : (k : Kind) (fed : List Fed) (l : Loc) (v : SeenValue) → ask k fed ≡ Fetches l → weight k (fed ++ Fetched v ∷ []) < weight k fed

@@ -13,7 +13,8 @@ use Rattle.tex_syntax.specs.declared.words.Report.TheVariants.{ImproperConstant,
 use Rattle.plain_tokens.specs.Categories.{begin_group, end_group, parameter, letter, other}
 use Rattle.rows.specs.declared.words.Datum.TheVariants.{Number}
 use Rattle.rows.specs.declared.words.Value.TheVariants as value
-use Rattle.rows.specs.declared.words.Kind.TheVariants.{Command, Integer, Text, Definition}
+use Rattle.rows.specs.declared.words.Keyword.TheVariants.{By, Plus, Minus, L}
+use Rattle.rows.specs.declared.words.Kind.TheVariants.{Command, Integer, Keyword, Text, Definition}
 use Rattle.tex_syntax.specs.declared.words.Scanned.TheVariants as scanned
 use Rattle.rows.specs.declared.command.Effect.TheVariants.{MakeName, StartInput, PutBack}
 use Rattle.equivalents.specs.declared.values.CodeKind.TheVariants as code
@@ -22,8 +23,9 @@ use Rattle.equivalents.specs.declared.values.Loc.{Loc}
 use Rattle.equivalents.specs.declared.values.Loc.TheVariants as loc
 use Rattle.equivalents.specs.declared.values.Val.TheVariants as val
 use Rattle.rows.specs.Worked.{character, primitive, call, asked, number, x, y, x_name, a_letter, a_space}
-use Rattle.rows.specs.Readings.{Fed, Tok, Val, Told, Fetched, Cut, Ask, More, Inner, Done, Acts, ActsOn, Ends, Calls, Fails, RunsAway, Tells, Inserts, Fetches}
+use Rattle.rows.specs.Readings.{Fed, Tok, Val, Told, Fetched, Cut, Ask, More, Inner, Done, Acts, ActsOn, Ends, Calls, Fails, RunsAway, Tells, Inserts, Puts, Fetches}
 use Rattle.plain_readings.specs.Integers.{ends_with}
+use Rattle.plain_readings.specs.Keywords.{ends_found}
 use Rattle.plain_readings.specs.Calls.{par_token}
 use Rattle.plain_readings.specs.Readings.{Kind, Reads, Spelling, FileName, Behind, Arguments, Reading, ask, lists}
 use Rattle.plain_readings.specs.Scanning.{Scanning, scanning}
@@ -145,6 +147,57 @@ pub record WorkedInternals : Type 0 where
   pub plain : WorkedNumbers
   pub glue : WorkedGlue
   pub others : WorkedMeanings
+
+-- KEYWORDS
+
+abbrev pub by_word : Kind
+by_word = Reads (Keyword By)
+
+-- letters by their codes
+abbrev pub letters : List ℕ → List Fed → List Fed
+letters [] fed = fed
+letters (c ∷ cs) fed = Tok (character letter c) ∷ letters cs fed
+
+abbrev pub letter_token : ℕ → Token
+letter_token c = token.Char letter c
+
+-- a name that means the letter `b`
+abbrev pub implicit_b : Seen
+implicit_b = record { token = token.Named x_name; meaning = means.Char letter 98 }
+
+-- `by`; `BY`, where the `Y` has category 12; `l`. Spaces before it are read by no reading, since it wants its first token behind them.
+pub record WorkedFound : Type 0 where
+  pub found : steps by_word (letters (98 ∷ 121 ∷ []) []) ≡ More Nonblank ∷ More Expanded ∷ ends_found true ∷ []
+  pub capitals : steps by_word (letters (66 ∷ []) (others (89 ∷ []) [])) ≡ More Nonblank ∷ More Expanded ∷ ends_found true ∷ []
+  pub single : steps (Reads (Keyword L)) (letters (76 ∷ []) []) ≡ More Nonblank ∷ ends_found true ∷ []
+
+-- `b` and a space, which goes back, and then the `b`; a digit; a name that means the letter `b`; `plua` in place of `plus`, and `minut` in place of
+-- `minus`; no list is held
+pub record WorkedGivenBack : Type 0 where
+  pub space :
+      steps by_word (letters (98 ∷ []) (Tok a_space ∷ Told ∷ Told ∷ [])) ≡
+      More Nonblank ∷ More Expanded ∷ Puts a_space.token 1 ∷ Puts (letter_token 98) 0 ∷ ends_found false ∷ []
+  pub space_held : holds by_word (letters (98 ∷ []) (Tok a_space ∷ Told ∷ [])) ≡ [] ∷ [] ∷ [] ∷ [] ∷ []
+  pub digit : steps by_word (others (50 ∷ []) (Told ∷ [])) ≡ More Nonblank ∷ Puts (token.Char other 50) 0 ∷ ends_found false ∷ []
+  pub name : steps by_word (Tok implicit_b ∷ Told ∷ []) ≡ More Nonblank ∷ Puts implicit_b.token 0 ∷ ends_found false ∷ []
+  pub fourth :
+      steps (Reads (Keyword Plus)) (letters (112 ∷ 108 ∷ 117 ∷ 97 ∷ []) (Told ∷ Told ∷ Told ∷ Told ∷ [])) ≡
+      More Nonblank ∷ More Expanded ∷ More Expanded ∷ More Expanded ∷ Puts (letter_token 97) 3 ∷ Puts (letter_token 117) 2 ∷ Puts (letter_token 108) 1 ∷
+      Puts (letter_token 112) 0 ∷ ends_found false ∷ []
+  pub fifth :
+      steps (Reads (Keyword Minus)) (letters (109 ∷ 105 ∷ 110 ∷ 117 ∷ 116 ∷ []) (Told ∷ [])) ≡
+      More Nonblank ∷ More Expanded ∷ More Expanded ∷ More Expanded ∷ More Expanded ∷ Puts (letter_token 116) 4 ∷ Puts (letter_token 117) 3 ∷ []
+
+-- behind the token with which it begins: a `b`, a `y`, and `l` where that is all
+pub record WorkedLent : Type 0 where
+  pub first : ask by_word (letters (98 ∷ []) []) ≡ More Expanded
+  pub refused : ask by_word (letters (121 ∷ []) []) ≡ Puts (letter_token 121) 0
+  pub whole : ask (Reads (Keyword L)) (letters (108 ∷ []) []) ≡ ends_found true
+
+pub record WorkedKeywords : Type 0 where
+  pub found : WorkedFound
+  pub given_back : WorkedGivenBack
+  pub lent : WorkedLent
 
 -- `\csname`
 
@@ -291,6 +344,7 @@ pub record WorkedReadings : Type 0 where
   pub integers : WorkedIntegers
   pub internals : WorkedInternals
   pub reports : WorkedReports
+  pub keywords : WorkedKeywords
   pub names : WorkedNames
   pub files : WorkedFiles
   pub built : WorkedLists

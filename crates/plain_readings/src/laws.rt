@@ -1,5 +1,5 @@
 // Laws of the readings: the functions have no bodies, their contracts are the laws.
-ghost use Rattle.plain_readings.specs.Laws.{ReadingsStart, ReadingsBeginNoCommand, TokensAreLent, ValuesAreTheirs, NamesAreHeld, NotesFall};
+ghost use Rattle.plain_readings.specs.Laws.{ReadingsStart, ReadingsBeginLower, TokensAreLent, ValuesAreTheirs, NamesAreHeld, NotesFall};
 ghost use Rattle.plain_readings.specs.Weights.{WeightsFall};
 ghost use Rattle.plain_readings.specs.Worked.{WorkedReadings};
 
@@ -8,9 +8,9 @@ pub fn readings_start()
     ensures { ReadingsStart }
 {}
 
-/// Whatever it was fed with, a reading begins no command.
-pub fn readings_begin_no_command()
-    ensures { ReadingsBeginNoCommand }
+/// Whatever it was fed with, a reading begins one of a lower rank; but an integer may begin another integer.
+pub fn readings_begin_lower()
+    ensures { ReadingsBeginLower }
 {}
 
 /// A reading begins another with the token that it looked at only directly behind that token.

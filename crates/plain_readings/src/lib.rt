@@ -1,10 +1,10 @@
 //! What each reading of the plain machine asks for after all that it was fed with: `specs/Readings.antt`. Commands are rows; an
-//! integer, a balanced text, the list of a macro, the arguments of a call, `\csname` and `\input` have their own definitions.
+//! integer, a keyword, a balanced text, the list of a macro, the arguments of a call, `\csname` and `\input` have their own definitions.
 #![tactic(auto)]
 
 mod laws;
 
 pub use laws::{
-    names_are_held, notes_fall, readings_begin_no_command, readings_start, tokens_are_lent,
+    names_are_held, notes_fall, readings_begin_lower, readings_start, tokens_are_lent,
     values_are_theirs, weights_fall, worked_readings,
 };

@@ -3,14 +3,16 @@ use Rattle.std.specs.Prelude.{ℕ, ℤ, Bool, not, ◌==◌, List, [], ◌∷◌
 use Rattle.std.specs.Fmt.{signed_decimal}
 use Rattle.tex_syntax.specs.declared.words.Scanned.{Scanned}
 use Rattle.tex_syntax.specs.declared.words.Scanned.TheVariants as scanned
+use Rattle.tex_syntax.specs.declared.words.UnitTaken.{UnitTaken}
+use Rattle.tex_syntax.specs.declared.words.UnitTaken.TheVariants as unit
 use Rattle.tex_syntax.specs.declared.words.Report.{Report}
-use Rattle.tex_syntax.specs.declared.words.Report.TheVariants.{UndefinedName, InvalidCharacter, ImproperConstant, MissingNumber, NumberTooBig, BadCharacterCode, BadRegisterCode, IncompatibleUnits, InvalidCode, CodeTooGreat, MissingBrace, FileEnded, Forbidden, MissingName, NotConsecutive, AlreadyNine, IllegalNumber, UseMismatch, ExtraBrace, ParagraphEnded, PrefixWith, LongOrOuterWith, MissingEndcsname, ExtraEndcsname, TooManyBraces, ForgottenEndgroup, ExtraEndgroup, MissingRightBrace}
+use Rattle.tex_syntax.specs.declared.words.Report.TheVariants.{UndefinedName, InvalidCharacter, ImproperConstant, MissingNumber, NumberTooBig, BadCharacterCode, BadRegisterCode, BadMathchar, CantUseAfter, DimensionTooLarge, IllegalUnit, ArithmeticOverflow, IncompatibleUnits, InvalidCode, CodeTooGreat, MissingBrace, FileEnded, Forbidden, MissingName, NotConsecutive, AlreadyNine, IllegalNumber, UseMismatch, ExtraBrace, ParagraphEnded, PrefixWith, LongOrOuterWith, MissingEndcsname, ExtraEndcsname, TooManyBraces, ForgottenEndgroup, ExtraEndgroup, MissingRightBrace}
 use Rattle.tex_defs.specs.declared.Token.{Token}
 use Rattle.tex_defs.specs.declared.Token.TheVariants.{Char, Named, Marked}
 use Rattle.tex_defs.specs.declared.Name.{Name}
 use Rattle.tex_defs.specs.declared.Meaning.{Meaning}
 use Rattle.tex_defs.specs.declared.Meaning.TheVariants as means
-use Rattle.plain_tokens.specs.Printed.{Style, printed, printed_all, name_text, escaped, meaning_head, list_text, runaway_list, shown_all}
+use Rattle.plain_tokens.specs.Printed.{Style, printed, printed_all, name_text, escaped, primitive_word, meaning_head, list_text, runaway_list, shown_all}
 
 abbrev pub scanned_word : Scanned → List ℕ
 scanned_word scanned.Definition = codes "definition"
@@ -19,6 +21,11 @@ scanned_word scanned.Text = codes "text"
 
 abbrev pub while_scanning : Style → Scanned → Name → List ℕ
 while_scanning style what name = codes " while scanning " ++ (scanned_word what ++ (codes " of " ++ name_text style name))
+
+abbrev pub unit_taken : UnitTaken → List ℕ
+unit_taken unit.Pt = codes "pt inserted"
+unit_taken unit.Mu = codes "mu inserted"
+unit_taken unit.Filll = codes "replaced by filll"
 
 -- the characters of a report's text
 abbrev pub report_text : Style → Report → List ℕ
@@ -29,6 +36,11 @@ report_text style MissingNumber = codes "Missing number, treated as zero"
 report_text style NumberTooBig = codes "Number too big"
 report_text style (BadCharacterCode n) = codes "Bad character code (" ++ (signed_decimal n ++ codes ")")
 report_text style (BadRegisterCode n) = codes "Bad register code (" ++ (signed_decimal n ++ codes ")")
+report_text style (BadMathchar n) = codes "Bad mathchar (" ++ (signed_decimal n ++ codes ")")
+report_text style (CantUseAfter m number) = codes "You can't use `" ++ (meaning_head style m ++ (codes "' after " ++ escaped style (primitive_word number)))
+report_text style DimensionTooLarge = codes "Dimension too large"
+report_text style (IllegalUnit u) = codes "Illegal unit of measure (" ++ (unit_taken u ++ codes ")")
+report_text style ArithmeticOverflow = codes "Arithmetic overflow"
 report_text style IncompatibleUnits = codes "Incompatible glue units"
 report_text style (InvalidCode n greatest) = codes "Invalid code (" ++ (signed_decimal n ++ (codes "), should be in the range 0.." ++ decimal greatest))
 report_text style (CodeTooGreat n greatest) = codes "Invalid code (" ++ (signed_decimal n ++ (codes "), should be at most " ++ decimal greatest))

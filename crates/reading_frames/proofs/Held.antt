@@ -6,23 +6,12 @@ use Rattle.tex_syntax.specs.declared.words.Manner.{Manner}
 use Rattle.list_builder.specs.declared.stage.Stage.{Stage}
 use Rattle.list_builder.specs.declared.stage.Stage.TheVariants as stage
 use Rattle.list_builder.specs.Stages as stages
-use Rattle.rows.specs.declared.words.Datum.{Datum}
-use Rattle.rows.specs.declared.stage.Stage.{Stage as RowStage}
-use Rattle.rows.specs.declared.stage.Start.{Start}
-use Rattle.rows.specs.declared.stage.Start.TheVariants.{Looks, Begins}
 use Rattle.rows.specs.declared.stage.Note.{Note}
 use Rattle.rows.specs.declared.stage.Note.TheVariants as note
-use Rattle.rows.specs.declared.command.Call.{Call}
-use Rattle.rows.specs.Readings.{Fed, Ask}
-use Rattle.rows.specs.Run.{due, started, behind, run}
-use Rattle.rows.specs.Stages.{start}
-use Rattle.rows.specs.Table.{stages_left}
+use Rattle.rows.specs.Readings.{Ask}
+use Rattle.rows.specs.Run.{due}
 use Rattle.row_frames.specs.declared.frame.RowFrame.{RowFrame}
-use Rattle.row_frames.specs.declared.turn.Kept.{Kept}
-use Rattle.row_frames.specs.declared.turn.Kept.TheVariants as kept
-use Rattle.row_frames.specs.Data.{values}
 use Rattle.row_frames.specs.Resumes as row
-use Rattle.row_frames.specs.Resumes.{within, resume_row, turn_of}
 use Rattle.plain_readings.specs.Lists.{built}
 use Rattle.plain_readings.specs.Readings.{Reading, lists, kept_list}
 use Rattle.reading_frames.specs.Sees.{Lists, top_list}
@@ -30,38 +19,24 @@ use Rattle.reading_frames.specs.Resumes.{building, build_at, name_list_at, file_
 use Rattle.reading_frames.specs.Stands.{FrameStands, AreHeld}
 use Rattle.reading_frames.specs.declared.command.CommandScan.TheVariants as command
 use Rattle.reading_frames.specs.declared.frame.Frame.{Frame}
-use Rattle.reading_frames.specs.declared.frame.Frame.TheVariants.{Command, Integer, Build, Spelling, FileName, Behind}
+use Rattle.reading_frames.specs.declared.frame.Frame.TheVariants.{Command, Integer, Keyword, Build, Spelling, FileName, Behind}
 use Rattle.reading_frames.specs.declared.spelling.SpellPlace.{SpellPlace}
 use Rattle.reading_frames.specs.declared.spelling.SpellPlace.TheVariants as spell
 use Rattle.reading_frames.specs.declared.file_name.FilePlace.{FilePlace}
 use Rattle.reading_frames.specs.declared.file_name.FilePlace.TheVariants as file
 use Rattle.reading_frames.specs.declared.text.BuildPlace.{BuildPlace}
 use Rattle.reading_frames.specs.declared.text.BuildPlace.TheVariants as place
+use Rattle.reading_frames.proofs.Asking.{frame_asks}
 
 -- A ROW THAT GOES ON asks for nothing with a list.
 
 due_bare : (n : Note) → kept_list (due n) ≡ []
 due_bare (note.Tells report back) = refl
 due_bare (note.Inserts t report back) = refl
-
-module _ (turn : Call → List Fed → Ask) (c : Call) (ds : List Datum) (onward : List Datum → List Fed → Ask) where
-  started_bare : (s : RowStage) (begun : Start) → kept_list (behind turn c ds onward (started s c begun [])) ≡ []
-  started_bare s (Looks want) = refl
-  started_bare s (Begins k) = refl
-
-  within_bare : (s : RowStage) (k : Kept) → kept_list (behind turn c ds onward (within s c ds k [])) ≡ []
-  within_bare s kept.Start = started_bare s (start s c ds)
-  within_bare s (kept.Looking d want) = refl
-  within_bare s (kept.Within k) = refl
-  within_bare s (kept.Noting n m) = due_bare n
-  within_bare s (kept.Retrying d want n) = due_bare n
-
-row_bare : (turn : Call → List Fed → Ask) (c : Call) (ss : List RowStage) (ds : List Datum) (k : Kept) → kept_list (resume_row turn c ss ds k []) ≡ []
-row_bare turn c [] ds k = refl
-row_bare turn c (s ∷ ss) ds k = within_bare turn c ds (λ es more. run turn c ss es more) s k
+due_bare (note.Relaxes c n) = refl
 
 frame_bare : (f : RowFrame) → kept_list (row.resume f []) ≡ []
-frame_bare f = row_bare (λ c more. turn_of f.is_turned c more) f.call (stages_left f.left) (values f.read) f.kept
+frame_bare f = frame_asks (λ (a : Ask). kept_list a ≡ []) (λ want. refl) (λ k begins. refl) (λ c e. refl) due_bare f
 
 -- HOW MANY THEY ARE
 
@@ -76,6 +51,7 @@ built_length (Command (command.ActsOn c e b) p) held = listed_length b held
 built_length (Command (command.Defines c n b) p) held = listed_length b held
 built_length (Command command.Ended p) held = refl
 built_length (Integer scan) held = refl
+built_length (Keyword scan) held = refl
 built_length (Build scan) held = refl
 built_length (Spelling scan) held = refl
 built_length (FileName scan) held = refl
@@ -123,6 +99,7 @@ built_now (Command (command.ActsOn c e b) p) held h = listed_now b held h
 built_now (Command (command.Defines c n b) p) held h = listed_now b held h
 built_now (Command command.Ended p) held h = refl
 built_now (Integer scan) held h = refl
+built_now (Keyword scan) held h = refl
 built_now (Build scan) held h = ap (λ (l : List Token). l ∷ []) (build_now scan.manner scan.place (top_list held)) ∙ top_taken held h
 built_now (Spelling scan) held h = ap (λ (l : List Token). l ∷ []) (name_now scan.place (top_list held)) ∙ top_taken held h
 built_now (FileName scan) held h = ap (λ (l : List Token). l ∷ []) (file_now scan.place (top_list held)) ∙ top_taken held h

@@ -7,6 +7,8 @@ pub mod Stacks
 pub mod Held
 pub mod Scanning
 pub mod Rows
+pub mod Asking
+pub mod Keywords
 pub mod Weights
 pub mod Rules
 pub mod Braces

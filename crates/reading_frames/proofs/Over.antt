@@ -5,6 +5,7 @@ use Rattle.tex_defs.specs.declared.Seen.{Seen}
 use Rattle.tex_syntax.specs.declared.words.Want.{Want}
 use Rattle.rows.specs.declared.words.Datum.{Datum}
 use Rattle.rows.specs.declared.words.Kind.{Kind}
+use Rattle.rows.specs.declared.internal.Bank.{Bank}
 use Rattle.rows.specs.declared.stage.Stage.{Stage}
 use Rattle.rows.specs.declared.stage.Start.{Start}
 use Rattle.rows.specs.declared.stage.Start.TheVariants.{Looks, Begins}
@@ -19,8 +20,8 @@ use Rattle.rows.specs.declared.stage.Note.TheVariants as note
 use Rattle.rows.specs.declared.command.Call.{Call}
 use Rattle.rows.specs.Readings.{Fed, Tok, Val, Told, Ask, Acts, ActsOn, Defines, Ends}
 use Rattle.rows.specs.Table.{stages_of, stages_left}
-use Rattle.rows.specs.Stages.{start, on_token, on_value}
-use Rattle.rows.specs.Run.{Outcome, Asks, Takes, Passes, Gathers, Makes, Turns, comes, due, noted, valued, inner, begins, met_with, looks, again, started, behind, run, no_turn, turned}
+use Rattle.rows.specs.Stages.{start, on_token, on_value, numbered_by}
+use Rattle.rows.specs.Run.{Outcome, Asks, Takes, Passes, Gathers, Makes, Turns, comes, due, noted, valued, inner, begins, numbers, met_with, looks, again, started, behind, run, no_turn, turned}
 use Rattle.row_frames.specs.declared.frame.RowFrame.{RowFrame}
 use Rattle.row_frames.specs.declared.turn.Kept.{Kept}
 use Rattle.row_frames.specs.declared.turn.Kept.TheVariants as kept
@@ -37,6 +38,7 @@ IsOver a = ⊥
 due_goes_on : (n : Note) → IsOver (due n) → ⊥
 due_goes_on (note.Tells report back) over = over
 due_goes_on (note.Inserts t report back) over = over
+due_goes_on (note.Relaxes c n) over = over
 
 module _ (more : List Fed) where
   -- what a stage comes to, and what it comes to where more comes
@@ -51,6 +53,7 @@ module _ (more : List Fed) where
   comes_same : (m : Next) (fed : List Fed) → Same (comes m fed) (comes m (fed ++ more))
   comes_same (next.Takes d) fed = refl
   comes_same next.Stops fed = λ over. refl
+  comes_same (next.Fails c) fed = λ over. refl
   comes_same (next.Turns c) fed = refl
 
   noted_same : (n : Note) (m : Next) (fed : List Fed) → Same (noted n m fed) (noted n m (fed ++ more))
@@ -75,6 +78,11 @@ module _ (more : List Fed) where
   begins_same s k (Val v ts ∷ fed) = valued_same (on_value s v) ts fed
   begins_same s k (y ∷ fed) = λ over. refl
 
+  numbers_same : (b : Bank) (fed : List Fed) → Same (numbers b fed) (numbers b (fed ++ more))
+  numbers_same b [] = λ over. absurd over
+  numbers_same b (Val v ts ∷ fed) = valued_same (numbered_by b v) ts fed
+  numbers_same b (y ∷ fed) = λ over. refl
+
   met_same : (x : Seen) (m : Met) (skipped skipped' : Call → Outcome) (retried retried' : Note → Outcome) (fed : List Fed) →
       ((c : Call) → Same (skipped c) (skipped' c)) → ((n : Note) → Same (retried n) (retried' n)) →
       Same (met_with (Tok x) m skipped retried fed) (met_with (Tok x) m skipped' retried' (fed ++ more))
@@ -84,6 +92,7 @@ module _ (more : List Fed) where
   met_same x (met.Skips c) skipped skipped' retried retried' fed h i = h c
   met_same x (met.Notes n m) skipped skipped' retried retried' fed h i = noted_same n m fed
   met_same x (met.Retries n) skipped skipped' retried retried' fed h i = i n
+  met_same x (met.Numbers b) skipped skipped' retried retried' fed h i = numbers_same b fed
   met_same x (met.Turns c) skipped skipped' retried retried' fed h i = refl
 
   mutual
@@ -107,6 +116,7 @@ module _ (more : List Fed) where
   within_same s c ds kept.Start fed = started_same s c (start s c ds) fed
   within_same s c ds (kept.Looking d want) fed = looks_same s d want fed
   within_same s c ds (kept.Within k) fed = inner_same s k fed
+  within_same s c ds (kept.Numbered b) fed = numbers_same b fed
   within_same s c ds (kept.Noting n m) fed = noted_same n m fed
   within_same s c ds (kept.Retrying d want n) fed = again_same s d want n fed
 
@@ -137,7 +147,7 @@ module _ (more : List Fed) where
   no_turn_same c fed over = refl
 
   turned_same : (c : Call) (fed : List Fed) → IsOver (turned c fed) → turned c (fed ++ more) ≡ turned c fed
-  turned_same c fed over = run_same no_turn no_turn_same c (stages_of c.primitive) [] fed over
+  turned_same c fed over = run_same no_turn no_turn_same c (stages_of c.head) [] fed over
 
   turn_same : (is_turned : Bool) (c : Call) (fed : List Fed) → IsOver (turn_of is_turned c fed) → turn_of is_turned c (fed ++ more) ≡ turn_of is_turned c fed
   turn_same true c fed over = refl

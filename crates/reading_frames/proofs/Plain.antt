@@ -5,6 +5,7 @@ use Rattle.tex_defs.specs.declared.Token.{Token}
 use Rattle.rows.specs.declared.words.Datum.{Datum}
 use Rattle.rows.specs.declared.words.Datum.TheVariants as datum
 use Rattle.rows.specs.declared.words.Value.TheVariants.{Plain}
+use Rattle.rows.specs.declared.internal.Bank.{Bank}
 use Rattle.rows.specs.declared.stage.Stage.{Stage}
 use Rattle.rows.specs.declared.stage.Stage.TheVariants.{NumberTo, NumberUpTo}
 use Rattle.rows.specs.declared.stage.Start.{Start}
@@ -15,7 +16,7 @@ use Rattle.rows.specs.declared.command.Call.{Call}
 use Rattle.rows.specs.Readings.{Fed, Val, Ask}
 use Rattle.rows.specs.Table.{stages_left}
 use Rattle.rows.specs.Tokens.{is_at_most, is_up_to}
-use Rattle.rows.specs.Stages.{start, on_datum}
+use Rattle.rows.specs.Stages.{start, on_datum, numbered_by}
 use Rattle.rows.specs.Run.{Outcome, valued, started, behind, run}
 use Rattle.row_frames.specs.declared.frame.RowFrame.{RowFrame}
 use Rattle.row_frames.specs.declared.turn.Kept.{Kept}
@@ -37,6 +38,10 @@ datum_listless (NumberTo greatest complaint) (datum.Number n) = either (is_at_mo
 datum_listless (NumberUpTo greatest) (datum.Number n) = either (is_up_to greatest n) _ _ tt tt
 datum_listless s d = tt
 
+numbered_listless : (b : Bank) (d : Datum) → IsListless (numbered_by b (Plain d))
+numbered_listless b (datum.Number n) = either (is_at_most 255 n) _ _ tt tt
+numbered_listless b d = tt
+
 module _ (d : Datum) (ts us : List Token) (fed : List Fed) where
   got_same : (g : Got) → IsListless g → valued g ts fed ≡ valued g us fed
   got_same (got.Takes e) h = refl
@@ -52,6 +57,7 @@ module _ (d : Datum) (ts us : List Token) (fed : List Fed) where
   within_same s c ds kept.Start = started_same s c (start s c ds)
   within_same s c ds (kept.Looking e want) = refl
   within_same s c ds (kept.Within k) = got_same (on_datum s d) (datum_listless s d)
+  within_same s c ds (kept.Numbered b) = got_same (numbered_by b (Plain d)) (numbered_listless b d)
   within_same s c ds (kept.Noting n m) = refl
   within_same s c ds (kept.Retrying e want n) = refl
 

@@ -16,9 +16,10 @@ use Rattle.rows.specs.declared.stage.Next.{Next}
 use Rattle.rows.specs.declared.stage.Next.TheVariants as next
 use Rattle.rows.specs.declared.command.Call.{Call}
 use Rattle.rows.specs.declared.command.Effect.{Effect}
+use Rattle.rows.specs.declared.command.Effect.TheVariants.{Unassigned}
 use Rattle.rows.specs.Readings.{Fed, Val, Told, Ask, More, Inner, Acts, ActsOn, Defines, Ends, Tells}
 use Rattle.rows.specs.Table.{stages_of, stages_left}
-use Rattle.rows.specs.Stages.{start, on_value, name}
+use Rattle.rows.specs.Stages.{start, on_value, numbered_by, name}
 use Rattle.rows.specs.Effects.{effect_of, as_definition}
 use Rattle.rows.specs.Run.{Outcome, Asks, Takes, Passes, Gathers, Makes, Turns, comes, valued, started, behind, run, no_turn}
 use Rattle.row_frames.specs.declared.frame.RowFrame.{RowFrame}
@@ -70,7 +71,7 @@ module _
 
     turn_fits : (b : Bool) (c : Call) → P (turn_of b c [])
     turn_fits true c = end
-    turn_fits false c = run_fits no_turn (λ d. end) c (stages_of c.primitive) []
+    turn_fits false c = run_fits no_turn (λ d. end) c (stages_of c.head) []
 
     frame_fits : (y : Fed) → ((s : Stage) (c : Call) (ds : List Datum) (k : Kept) → Fits (within s c ds k (y ∷ []))) → (f : RowFrame) → P (resume f (y ∷ []))
     frame_fits y h f = row_fits (λ c fed. turn_of f.is_turned c fed) (λ c. turn_fits f.is_turned c) y h f.call (stages_left f.left) (values f.read) f.kept
@@ -80,6 +81,7 @@ module _
     comes_fits : (m : Next) → Fits (comes m [])
     comes_fits (next.Takes d) = refl
     comes_fits next.Stops = end
+    comes_fits (next.Fails c) = act c Unassigned
     comes_fits (next.Turns c) = refl
 
     start_told : (s : Stage) (c : Call) (begun : Start) → Fits (started s c begun (Told ∷ []))
@@ -90,6 +92,7 @@ module _
     within_told s c ds kept.Start = start_told s c (start s c ds)
     within_told s c ds (kept.Looking d want) = end
     within_told s c ds (kept.Within k) = end
+    within_told s c ds (kept.Numbered b) = end
     within_told s c ds (kept.Noting n m) = comes_fits m
     within_told s c ds (kept.Retrying d want n) = more want
 
@@ -113,6 +116,7 @@ module _
       within_valued v ts s c ds kept.Start = start_valued v ts s c (start s c ds)
       within_valued v ts s c ds (kept.Looking d want) = end
       within_valued v ts s c ds (kept.Within k) = got_fits (on_value s v) ts
+      within_valued v ts s c ds (kept.Numbered b) = got_fits (numbered_by b v) ts
       within_valued v ts s c ds (kept.Noting n m) = end
       within_valued v ts s c ds (kept.Retrying d want n) = end
 

@@ -23,6 +23,7 @@ use Rattle.plain_readings.specs.Lists.{build_fed, build_ask, built}
 use Rattle.plain_readings.specs.Spelling.{spelling, characters, endcsname_missing, makes}
 use Rattle.plain_readings.specs.FileNames.{file_naming, file_characters, opens}
 use Rattle.scan_numbers.specs.Resumes as number
+use Rattle.scan_dimens.specs.Resumes as keyword
 use Rattle.reading_frames.specs.declared.ask.Ask.{Ask as Answer}
 use Rattle.reading_frames.specs.declared.ask.Ask.TheVariants as answer
 use Rattle.reading_frames.specs.declared.ask.Grown.{Grown}
@@ -38,7 +39,7 @@ use Rattle.reading_frames.specs.declared.text.BuildPlace.{BuildPlace}
 use Rattle.reading_frames.specs.declared.text.BuildPlace.TheVariants as place
 use Rattle.reading_frames.specs.declared.text.BuildScan.{BuildScan}
 use Rattle.reading_frames.specs.declared.frame.Frame.{Frame}
-use Rattle.reading_frames.specs.declared.frame.Frame.TheVariants.{Command, Integer, Build, Spelling, FileName, Behind}
+use Rattle.reading_frames.specs.declared.frame.Frame.TheVariants.{Command, Integer, Keyword, Build, Spelling, FileName, Behind}
 use Rattle.reading_frames.specs.Sees.{Lists, top_list, kept_list_of}
 
 -- A command, and the list with which it is to do something
@@ -150,8 +151,9 @@ token_count g = cell_count g.first + cell_count g.second
 
 -- WHAT A FRAME ANSWERS once it is fed with this, over the lists that are held
 abbrev pub resume : Frame → Lists → List Fed → Ask
-resume (Command scan primitive) held fed = resume_command scan held fed
+resume (Command scan head) held fed = resume_command scan held fed
 resume (Integer scan) held fed = number.resume scan fed
+resume (Keyword scan) held fed = keyword.resume scan fed
 resume (Build scan) held fed = build_ask (resume_build scan (top_list held) fed)
 resume (Spelling scan) held fed = resume_name scan (top_list held) fed
 resume (FileName scan) held fed = resume_file scan (top_list held) fed
@@ -159,8 +161,9 @@ resume (Behind c x) held fed = reading.Acts c (PutBack x)
 
 -- the lists that it will have built then
 abbrev pub building : Frame → Lists → List Fed → Lists
-building (Command scan primitive) held fed = command_lists scan held fed
+building (Command scan head) held fed = command_lists scan held fed
 building (Integer scan) held fed = []
+building (Keyword scan) held fed = []
 building (Build scan) held fed = built (resume_build scan (top_list held) fed) ∷ []
 building (Spelling scan) held fed = name_list scan (top_list held) fed ∷ []
 building (FileName scan) held fed = file_list scan (top_list held) fed ∷ []
@@ -168,7 +171,7 @@ building (Behind c x) held fed = []
 
 -- how many lists of its own are held now
 abbrev pub list_count : Frame → ℕ
-list_count (Command scan primitive) = command_count scan
+list_count (Command scan head) = command_count scan
 list_count (Build scan) = 1
 list_count (Spelling scan) = 1
 list_count (FileName scan) = 1
@@ -194,7 +197,7 @@ built_as false = scanned.Text
 
 -- what it is at a check
 abbrev pub frame_status : Frame → Status
-frame_status (Command scan primitive) = command_status (reads_under_normal primitive)
+frame_status (Command scan head) = command_status (reads_under_normal head)
 frame_status (Build scan) = Scans (built_as scan.defines) scan.manner.name
 frame_status f = Inherits
 

@@ -9,7 +9,7 @@ use Rattle.plain_readings.specs.Readings as kind
 use Rattle.reading_frames.specs.declared.ask.Opening.{Opening}
 use Rattle.reading_frames.specs.declared.ask.Opening.TheVariants.{Reads, Spelling, FileName, Behind}
 use Rattle.reading_frames.specs.declared.ask.Ask.{Ask}
-use Rattle.reading_frames.specs.declared.ask.Ask.TheVariants.{More, Inner, Done, Acts, ActsOn, Defines, Ends, Tells, Inserts, Fetches}
+use Rattle.reading_frames.specs.declared.ask.Ask.TheVariants.{More, Inner, Done, Acts, ActsOn, Defines, Ends, Tells, Inserts, Puts, Relaxes, Fetches}
 use Rattle.reading_frames.specs.declared.ask.Grown.{Grown}
 
 -- The lists that open readings hold, that of the innermost first, and of each reading the last one first.
@@ -58,6 +58,8 @@ ask_of held (Defines c n listed) = reading.Defines c n (kept_list_of listed held
 ask_of held Ends = reading.Ends
 ask_of held (Tells report back) = reading.Tells report back
 ask_of held (Inserts t report back) = reading.Inserts t report back
+ask_of held (Puts t more) = reading.Puts t more
+ask_of held (Relaxes c n) = reading.Relaxes c n
 ask_of held (Fetches l) = reading.Fetches l
 
 -- what is fetched stands at a location that is there

@@ -7,17 +7,19 @@ use Rattle.rows.specs.declared.words.Kind.TheVariants.{Command}
 use Rattle.rows.specs.declared.command.Call.{Call}
 use Rattle.rows.specs.declared.command.Effect.TheVariants.{ExpandBehind}
 use Rattle.rows.specs.Readings.{Ask, Inner, Done, Acts, ActsOn, Defines, Ends}
-use Rattle.plain_readings.specs.Weights.{frame_weight, value_weight, act_weight, behind_weight, ask_weight, IsReport}
+use Rattle.plain_readings.specs.Weights.{frame_weight, value_weight, act_weight, behind_weight, ask_weight, IsNoted}
+use Rattle.scan_dimens.specs.Resumes.{kept_in}
 use Rattle.reading_frames.specs.Resumes.{resume}
 use Rattle.reading_frames.specs.Stack.{Stack, asks_in}
 use Rattle.reading_frames.specs.declared.ask.Opening.{Opening}
 use Rattle.reading_frames.specs.declared.ask.Opening.TheVariants.{Reads, Behind}
 use Rattle.reading_frames.specs.declared.frame.Frame.{Frame}
-use Rattle.reading_frames.specs.declared.frame.Frame.TheVariants.{Integer, Build}
+use Rattle.reading_frames.specs.declared.frame.Frame.TheVariants.{Integer, Keyword, Build}
 
 -- the most that its end weighs
 abbrev pub frame_end : Frame → ℕ
 frame_end (Integer scan) = value_weight
+frame_end (Keyword scan) = value_weight
 frame_end (Build scan) = value_weight
 frame_end f = behind_weight
 
@@ -55,13 +57,23 @@ begun_with_weight (Reads (Command c)) = 30
 begun_with_weight (Reads k) = 19
 begun_with_weight o = 30
 
+-- how many tokens a keyword may put back
+abbrev pub put_count : Frame → ℕ
+put_count (Keyword scan) = kept_in scan
+put_count f = 0
+
+abbrev pub innermost_puts : List Frame → ℕ
+innermost_puts [] = 0
+innermost_puts (f ∷ fs) = put_count f
+
+-- it is fed with a note then
 abbrev pub IsReported : Option Ask → Type 0
 IsReported None = ⊥
-IsReported (Some a) = IsReport a
+IsReported (Some a) = IsNoted a
 
 -- EACH RULE WITHOUT A STEP makes a stack lighter, by what the calls say. A reading begins within another, alone or with a token; it ends
 -- with a value, with which the one beneath is fed; it acts or ends; it acts and another begins in its place; `\expandafter` ends, and its token
--- waits in its place, perhaps with an expansion above it; a report's note comes.
+-- waits in its place, perhaps with an expansion above it; a note comes.
 pub record StacksFall (old new : Stack) : Type 0 where
   pub begun :
       (k : Kind) → asks_in old.frames [] ≡ Some (Inner k false) → length new.frames ≡ length old.frames + 1 → innermost_weight new.frames ≤ 0 → stack_weight new < stack_weight old

@@ -34,6 +34,10 @@ pub enum Ask {
     Tells(Report, bool),
     /// A token that is inserted, the report behind it, and whether the last token is put back before.
     Inserts(Token, Report, bool),
+    /// A token that is put back, and how many more are to follow.
+    Puts(Token, u8),
+    /// The name becomes `\relax`, by this command.
+    Relaxes(Call, Name),
     /// What stands at a location.
     Fetches(Loc),
 }

@@ -14,7 +14,7 @@ ghost use Rattle.reading_frames.specs.Resumes as resumes;
 use crate::ask::Ask;
 use equivalents::Val as StoredValue;
 use row_frames::{Kept, RowFrame};
-use rows::{Call, Effect, Note, Value};
+use rows::{Call, Effect, Kind, Note, Value};
 use tex_defs::{Name, Seen};
 
 /// Where a command stands: in its row, or at what it does at its end. The list with which it does this is the one on top, if it is listed, and
@@ -45,6 +45,7 @@ fn of_row(asked: row_frames::Ask) -> Ask
         row_frames::Ask::Inserts(token, report, back) => {
             Ask::Inserts(token, report, back.is_some())
         }
+        row_frames::Ask::Relaxes(call, name) => Ask::Relaxes(call, name),
     }
 }
 
@@ -57,6 +58,7 @@ fn of_note(note: Note) -> Ask
     match note {
         Note::Tells(report, back) => Ask::Tells(report, back),
         Note::Inserts(token, report, back) => Ask::Inserts(token, report, back),
+        Note::Relaxes(call, name) => Ask::Relaxes(call, name),
     }
 }
 
@@ -75,6 +77,7 @@ fn asked_in(row: &RowFrame) -> Ask
         Kept::Start => of_row(row.first_ask()),
         Kept::Looking(_, want) => Ask::More(want),
         Kept::Within(kind) => Ask::Inner(kind, true),
+        Kept::Numbered(_) => Ask::Inner(Kind::Integer, false),
         Kept::Noting(note, _) => of_note(note),
         Kept::Retrying(_, _, note) => of_note(note),
     }
@@ -93,6 +96,7 @@ fn over_behind(row: &mut RowFrame, y: row_frames::Fed, listed: bool) -> Option<C
         row_frames::Ask::Ends => Some(CommandScan::Ended),
         row_frames::Ask::More(_) | row_frames::Ask::Inner(..) => None,
         row_frames::Ask::Tells(..) | row_frames::Ask::Inserts(..) => None,
+        row_frames::Ask::Relaxes(..) => None,
     }
 }
 
@@ -158,7 +162,7 @@ impl CommandScan {
         }
     }
 
-    /// Goes on behind its report.
+    /// Goes on behind its note.
     pub fn told(&mut self)
         ensures asks { (held : Lists) (fed : List Fed) → resume_command self.old held (Told ∷ fed) ≡ resume_command self.new held fed }
         ensures lists { (held : Lists) (fed : List Fed) → command_lists self.old held (Told ∷ fed) ≡ command_lists self.new held fed }

@@ -7,9 +7,10 @@ ghost use Rattle.rows.specs.Readings.{Fed, Tok, Told, Val, Fetched, Fetches};
 ghost use Rattle.reading_frames.specs.Sees.{ask_of, has_no_token, kind_of, IsFetchedAt, Lists, on_top, top_list};
 ghost use Rattle.reading_frames.specs.Stands.{Begins, opened_lists};
 ghost use Rattle.reading_frames.specs.Resumes.{resume, building, list_count, below, frame_status, groups, read_at, reads_unguarded, token_count, with_list, Owns};
-ghost use Rattle.reading_frames.specs.Weights.{asks_weight, begun_weight, frame_end, opening_end};
-ghost use Rattle.plain_readings.specs.Weights.{frame_weight, value_weight, IsReport};
+ghost use Rattle.reading_frames.specs.Weights.{asks_weight, begun_weight, frame_end, opening_end, put_count};
+ghost use Rattle.plain_readings.specs.Weights.{frame_weight, value_weight, IsNoted};
 ghost use Rattle.scan_numbers.specs.Sees as numbers;
+ghost use Rattle.scan_dimens.specs.Sees as keywords;
 
 use crate::ask::{Ask, Grown, Opening};
 use crate::command::CommandScan;
@@ -18,7 +19,8 @@ use crate::spelling::SpellScan;
 use crate::text::BuildScan;
 use equivalents::Val as StoredValue;
 use row_frames::reads_under_normal;
-use rows::{Call, Datum, Effect, Kind, Value};
+use rows::{Call, Datum, Effect, Head, Kind, Value};
+use scan_dimens::KeywordScan;
 use scan_numbers::NumberScan;
 use tex_defs::{Name, Seen};
 use tex_syntax::Scanned;
@@ -26,9 +28,11 @@ use tex_syntax::Scanned;
 /// An open reading.
 #[derive(Clone, Copy)]
 pub enum Frame {
-    /// A command or an expansion, by its row, and the number of the primitive that began.
-    Command(CommandScan, u16),
+    /// A command or an expansion, by its row, and what the name means that began.
+    Command(CommandScan, Head),
     Integer(NumberScan),
+    /// An optional keyword.
+    Keyword(KeywordScan),
     /// A balanced text, or the list of a macro.
     Build(BuildScan),
     /// `\csname`.
@@ -54,6 +58,19 @@ fn of_number(asked: scan_numbers::Ask) -> Ask
     }
 }
 
+// What a keyword's scanner asks for.
+fn of_keyword(asked: scan_dimens::Ask) -> Ask
+    ensures is { (held : Lists) → ask_of held result ≡ keywords.ask_of asked }
+    ensures owns { Owns result 0 }
+    ensures found { IsFetchedAt result }
+{
+    match asked {
+        scan_dimens::Ask::More(want) => Ask::More(want),
+        scan_dimens::Ask::Puts(token, more) => Ask::Puts(token, more),
+        scan_dimens::Ask::Done(found) => Ask::Done(Value::Plain(Datum::Found(found)), false),
+    }
+}
+
 impl Frame {
     /// A reading begins; one that builds a list has one of no token on top.
     pub fn begin(opening: Opening) -> Frame
@@ -61,12 +78,14 @@ impl Frame {
         ensures shallow { groups result ≡ 0 }
         ensures ends { frame_end result ≡ opening_end opening }
         ensures weight { asks_weight result ≤ begun_weight opening }
+        ensures unread { put_count result ≡ 0 }
     {
         match opening {
             Opening::Reads(Kind::Command(call)) => {
-                Frame::Command(CommandScan::new(call), call.primitive)
+                Frame::Command(CommandScan::new(call), call.head)
             }
             Opening::Reads(Kind::Integer) => Frame::Integer(NumberScan::new()),
+            Opening::Reads(Kind::Keyword(word)) => Frame::Keyword(KeywordScan::new(word)),
             Opening::Reads(Kind::Text(name, expanded)) => {
                 Frame::Build(BuildScan::text(name, expanded))
             }
@@ -88,6 +107,7 @@ impl Frame {
         match self {
             Frame::Command(scan, _) => scan.ask(),
             Frame::Integer(scan) => of_number(scan.ask()),
+            Frame::Keyword(scan) => of_keyword(scan.ask()),
             Frame::Build(scan) => scan.ask(),
             Frame::Spelling(scan) => scan.ask(),
             Frame::FileName(scan) => scan.ask(),
@@ -107,6 +127,7 @@ impl Frame {
         ensures checks { frame_status self.new ≡ frame_status self.old }
         ensures shallow { groups self.new ≤ groups self.old + token_count result }
         ensures listed { 1 ≤ token_count result → list_count self.old ≡ 1 }
+        ensures read { put_count self.new ≤ put_count self.old + 1 }
     {
         match self {
             Frame::Command(scan, _) => {
@@ -117,6 +138,10 @@ impl Frame {
                 scan.feed(x);
                 Grown::none()
             }
+            Frame::Keyword(scan) => {
+                scan.feed(x);
+                Grown::none()
+            }
             Frame::Build(scan) => scan.feed(x),
             Frame::Spelling(scan) => scan.feed(x),
             Frame::FileName(scan) => scan.feed(x),
@@ -124,10 +149,10 @@ impl Frame {
         }
     }
 
-    /// Goes on behind its report.
+    /// Goes on behind its report, the token that was put back or the name that became `\relax`.
     #[tactic(auto, using(crate::proofs::Growing::top_grown, crate::proofs::Growing::beneath_grown, crate::proofs::Growing::grown_held))]
     pub fn told(&mut self) -> Grown
-        ensures weight { IsReport (resume self.old [] []) → asks_weight self.new < asks_weight self.old }
+        ensures weight { IsNoted (resume self.old [] []) → asks_weight self.new < asks_weight self.old }
         ensures asks { (held : Lists) (fed : List Fed) → resume self.old held (Told ∷ fed) ≡ resume self.new (on_top result held) fed }
         ensures builds { (held : Lists) (fed : List Fed) → building self.old held (Told ∷ fed) ≡ building self.new (on_top result held) fed }
         ensures holds { (held : Lists) → list_count self.old ≤ length held → list_count self.new ≤ length (on_top result held) }
@@ -142,6 +167,10 @@ impl Frame {
                 Grown::none()
             }
             Frame::Integer(scan) => {
+                scan.told();
+                Grown::none()
+            }
+            Frame::Keyword(scan) => {
                 scan.told();
                 Grown::none()
             }
@@ -178,6 +207,10 @@ impl Frame {
                 scan.feed_value(value);
                 false
             }
+            Frame::Keyword(scan) => {
+                scan.stop();
+                false
+            }
             Frame::Spelling(scan) => {
                 scan.stop();
                 false
@@ -202,6 +235,7 @@ impl Frame {
         match self {
             Frame::Command(scan, _) => scan.fetched(value),
             Frame::Integer(scan) => scan.fetched(value),
+            Frame::Keyword(scan) => scan.stop(),
             Frame::Spelling(scan) => scan.stop(),
             Frame::FileName(scan) => scan.stop(),
             Frame::Build(_) | Frame::Behind(..) => {}
@@ -226,7 +260,7 @@ impl Frame {
         match self {
             Frame::Command(scan, _) => { if scan.is_listed() { 1 } else { 0 } }
             Frame::Build(_) | Frame::Spelling(_) | Frame::FileName(_) => 1,
-            Frame::Integer(_) | Frame::Behind(..) => 0,
+            Frame::Integer(_) | Frame::Keyword(_) | Frame::Behind(..) => 0,
         }
     }
 
@@ -245,7 +279,7 @@ impl Frame {
         ensures { result ≡ reads_unguarded (frame_status self.now) }
     {
         match self {
-            Frame::Command(_, primitive) => reads_under_normal(*primitive),
+            Frame::Command(_, head) => reads_under_normal(*head),
             _ => false,
         }
     }

@@ -11,7 +11,7 @@ ghost use Rattle.reading_frames.specs.Sees.{has_no_token, kind_of, IsFetchedAt, 
 ghost use Rattle.reading_frames.specs.Resumes.{with_list, listed_count, token_count, Owns};
 ghost use Rattle.reading_frames.specs.Stands.{FramesStand, AreShallow, opened_lists};
 ghost use Rattle.reading_frames.specs.Stack.{Stack, depth_full, asks_in, asked_in, asked_of, innermost_groups, innermost_count, innermost_lists, innermost_of, with_innermost, lists_beneath, found_in, innermost_found, scanning_of};
-ghost use Rattle.reading_frames.specs.Weights.{innermost_weight, innermost_end, begun_weight, begun_with_weight, opening_end, IsReported};
+ghost use Rattle.reading_frames.specs.Weights.{innermost_weight, innermost_end, begun_weight, begun_with_weight, opening_end, innermost_puts, IsReported};
 
 use crate::ask::{Ask, Grown, Opening};
 use crate::frame::Frame;
@@ -149,6 +149,7 @@ impl Readings {
         ensures weight { OnOk result (innermost_weight self.new.frames ≤ begun_weight opening) }
         ensures ends { OnOk result (innermost_end self.new.frames ≡ opening_end opening) }
         ensures groups { OnOk result (innermost_groups self.new.frames ≡ 0) }
+        ensures unread { OnOk result (innermost_puts self.new.frames ≡ 0) }
         ensures rest { OnOk result (drop 1 self.new.frames ≡ self.old.frames) }
         ensures builds { OnOk result ((held : Lists) (fed : List Fed) → lists (kind_of opening) fed ≡ innermost_lists self.new.frames (opened_lists opening held) fed) }
         ensures beneath { OnOk result ((held : Lists) → lists_beneath self.new.frames (opened_lists opening held) ≡ held) }
@@ -212,6 +213,7 @@ impl Readings {
         ensures beneath { (held : Lists) → lists_beneath self.new.frames (on_top result held) ≡ lists_beneath self.old.frames held }
         ensures holds { (held : Lists) → innermost_count self.old.frames ≤ length held → innermost_count self.new.frames ≤ length (on_top result held) }
         ensures listed { 1 ≤ token_count result → innermost_count self.old.frames ≡ 1 }
+        ensures read { innermost_puts self.new.frames ≤ innermost_puts self.old.frames + 1 }
     {
         match self.innermost.as_mut() {
             None => Grown::none(),
@@ -219,7 +221,7 @@ impl Readings {
         }
     }
 
-    /// The innermost goes on behind its report.
+    /// The innermost goes on behind its report, the token that was put back or the name that became `\relax`.
     pub fn told(&mut self) -> Grown
         ensures weight { IsReported (asks_in self.old.frames []) → innermost_weight self.new.frames < innermost_weight self.old.frames }
         ensures stands { (held : Lists) (work : List Reading) → FramesStand self.old.frames held work → FramesStand self.new.frames (on_top result held) (fed_with Told work) }

@@ -4,18 +4,19 @@ use Rattle.tex_defs.specs.declared.Token.{Token}
 use Rattle.rows.specs.declared.words.Datum.{Datum}
 use Rattle.rows.specs.declared.stage.Stage.{Stage}
 use Rattle.rows.specs.declared.command.Call.{Call}
+use Rattle.rows.specs.declared.command.Effect.TheVariants as effect
 use Rattle.rows.specs.Table.{stages_left}
 use Rattle.rows.specs.Readings.{Fed}
 use Rattle.rows.specs.Readings as reading
 use Rattle.rows.specs.Stages.{start}
 use Rattle.rows.specs.Effects.{effect_of}
-use Rattle.rows.specs.Run.{Outcome, Asks, started, looks, inner, noted, again, behind, run, no_turn, turned}
+use Rattle.rows.specs.Run.{Outcome, Asks, started, looks, inner, numbers, noted, again, behind, run, no_turn, turned}
 use Rattle.rows.specs.Run as outcome
 use Rattle.row_frames.specs.declared.turn.Ask.{Ask}
 use Rattle.row_frames.specs.declared.turn.Kept.{Kept}
-use Rattle.row_frames.specs.declared.turn.Kept.TheVariants.{Start, Looking, Within, Noting, Retrying}
+use Rattle.row_frames.specs.declared.turn.Kept.TheVariants.{Start, Looking, Within, Numbered, Noting, Retrying}
 use Rattle.row_frames.specs.declared.turn.Turn.{Turn}
-use Rattle.row_frames.specs.declared.turn.Turn.TheVariants.{Stays, Takes, Passes, Leaves, Gathers, Defines, Turns, Ends}
+use Rattle.row_frames.specs.declared.turn.Turn.TheVariants.{Stays, Takes, Passes, Leaves, Gathers, Defines, Turns, Fails, Ends}
 use Rattle.row_frames.specs.declared.frame.RowFrame.{RowFrame}
 use Rattle.row_frames.specs.Data.{values}
 use Rattle.row_frames.specs.Sees.{ask_of, GivesBack}
@@ -25,6 +26,7 @@ abbrev pub within : Stage → Call → List Datum → Kept → List Fed → Outc
 within s c ds Start fed = started s c (start s c ds) fed
 within s c ds (Looking d want) fed = looks s d want fed
 within s c ds (Within k) fed = inner s k fed
+within s c ds (Numbered b) fed = numbers b fed
 within s c ds (Noting n m) fed = noted n m fed
 within s c ds (Retrying d want n) fed = again s d want n fed
 
@@ -43,6 +45,7 @@ IsTurn s c ds ts y onward Leaves = (fed : List Fed) → onward fed ≡ outcome.P
 IsTurn s c ds ts y onward Gathers = (fed : List Fed) → onward fed ≡ outcome.Gathers ts
 IsTurn s c ds ts y onward Defines = (fed : List Fed) → onward fed ≡ outcome.Makes ts
 IsTurn s c ds ts y onward (Turns d) = (fed : List Fed) → onward fed ≡ outcome.Turns d fed
+IsTurn s c ds ts y onward (Fails d) = (fed : List Fed) → onward fed ≡ Asks (reading.Acts d effect.Unassigned)
 IsTurn s c ds ts y onward Ends = (fed : List Fed) → onward fed ≡ Asks reading.Ends
 
 -- what a command asks for that stands here in the first of these stages, and has read this

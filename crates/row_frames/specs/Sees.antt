@@ -6,7 +6,7 @@ use Rattle.rows.specs.Readings as reading
 use Rattle.row_frames.specs.declared.turn.Fed.{Fed}
 use Rattle.row_frames.specs.declared.turn.Fed.TheVariants as fed
 use Rattle.row_frames.specs.declared.turn.Ask.{Ask}
-use Rattle.row_frames.specs.declared.turn.Ask.TheVariants.{More, Inner, Acts, ActsOn, Defines, Ends, Tells, Inserts}
+use Rattle.row_frames.specs.declared.turn.Ask.TheVariants.{More, Inner, Acts, ActsOn, Defines, Ends, Tells, Inserts, Relaxes}
 
 abbrev pub fed_of : List Token → Fed → reading.Fed
 fed_of ts (fed.Token x) = reading.Tok x
@@ -24,6 +24,7 @@ ask_of ts (Defines c n) = reading.Defines c n ts
 ask_of ts Ends = reading.Ends
 ask_of ts (Tells report back) = reading.Tells report (is_some back)
 ask_of ts (Inserts t report back) = reading.Inserts t report (is_some back)
+ask_of ts (Relaxes c n) = reading.Relaxes c n
 
 -- an answer after which the command goes on
 abbrev pub IsOpen : Ask → Type 0

@@ -1,8 +1,9 @@
 // What a command has read.
 ghost use Rattle.std.specs.Prelude.{◌≡◌, ◌<◌, ◌++◌, [], ◌∷◌, length};
-ghost use Rattle.rows.specs.Stages.{datum_at, number_in, name_in, token_in};
+ghost use Rattle.rows.specs.Stages.{datum_at, number_in, name_in, token_in, location_read};
 ghost use Rattle.row_frames.specs.Data.{values};
 
+use equivalents::Loc;
 use rows::Datum;
 use tex_defs::{Meaning, Name, Seen, Token};
 
@@ -88,6 +89,16 @@ pub fn name(datum: Datum) -> Name
     match datum {
         Datum::Named(name) => name,
         _ => Name::Empty,
+    }
+}
+
+/// A location that was read.
+pub fn location(datum: Datum) -> Loc
+    ensures { result ≡ location_read datum }
+{
+    match datum {
+        Datum::At(loc) => loc,
+        _ => Loc::Integer(0),
     }
 }
 

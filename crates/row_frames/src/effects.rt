@@ -4,9 +4,26 @@ ghost use Rattle.rows.specs.Effects as effects;
 ghost use Rattle.rows.specs.Table as table;
 ghost use Rattle.row_frames.specs.Data.{values};
 
-use crate::data::{Data, name, number, token};
+use crate::data::{Data, location, name, number, token};
 use equivalents::Loc;
-use rows::{Action, Call, Effect, byte_of, row_of};
+use rows::{Action, Call, Datum, Effect, Head, Shorthand, byte_of, row_of};
+
+/// A mathematical character's code; another number counts as 0.
+fn math_code_of(n: i32) -> u16
+    ensures { result ≡ effects.math_code_of n }
+{
+    if 0 <= n && n <= 32767 { n as u16 } else { 0 }
+}
+
+/// A number that stands for itself, or what stands at a location.
+fn value_made(datum: Datum) -> Effect
+    ensures { result ≡ effects.value_made datum }
+{
+    match datum {
+        Datum::At(loc) => Effect::MakeValue(loc),
+        _ => Effect::MakeNumber(number(datum)),
+    }
+}
 
 /// What an action comes to with what was read.
 fn comes_to(action: Action, read: &Data) -> Effect
@@ -28,10 +45,25 @@ fn comes_to(action: Action, read: &Data) -> Effect
             let code = byte_of(number(first));
             Effect::SetNumber(Loc::Code { kind, code }, number(second))
         }
-        Action::SetInteger(i) => Effect::SetNumber(Loc::Integer(i), number(first)),
+        Action::SetAt(loc) => Effect::SetNumber(loc, number(first)),
         Action::SetRegister(kind) => {
             let no = byte_of(number(first));
             Effect::SetNumber(Loc::Register { kind, no }, number(second))
+        }
+        Action::Compute(operation) => {
+            Effect::Compute(operation, location(first), number(read.third()))
+        }
+        Action::GiveCharacter => {
+            let code = byte_of(number(second));
+            Effect::Shorthand(name(first), Shorthand::Character(code))
+        }
+        Action::GiveMath => {
+            let code = math_code_of(number(second));
+            Effect::Shorthand(name(first), Shorthand::Math(code))
+        }
+        Action::GiveRegister(kind) => {
+            let no = byte_of(number(second));
+            Effect::Shorthand(name(first), Shorthand::Register { kind, no })
         }
         Action::AfterGroup => Effect::AfterGroup(token(first)),
         Action::AfterAssignment => Effect::AfterAssignment(token(first)),
@@ -41,6 +73,7 @@ fn comes_to(action: Action, read: &Data) -> Effect
         Action::MakeRoman => Effect::MakeRoman(number(first)),
         Action::MakeString => Effect::MakeString(token(first)),
         Action::MakeMeaning => Effect::MakeMeaning(token(first)),
+        Action::MakeValue => value_made(first),
     }
 }
 
@@ -48,14 +81,14 @@ fn comes_to(action: Action, read: &Data) -> Effect
 pub fn effect_of(call: Call, read: &Data) -> Effect
     ensures { result ≡ effects.effect_of call (values read.now) }
 {
-    comes_to(row_of(call.primitive).1, read)
+    comes_to(row_of(call.head).1, read)
 }
 
 /// The definition that makes a macro: some are global by themselves.
 pub fn as_definition(call: Call) -> Call
     ensures { result ≡ effects.as_definition call }
 {
-    let is_global = match row_of(call.primitive).1 {
+    let is_global = match row_of(call.head).1 {
         Action::DefineGlobally => true,
         _ => false,
     };
@@ -65,11 +98,11 @@ pub fn as_definition(call: Call) -> Call
     }
 }
 
-/// Whether the token of a command of this primitive is read under normal status, whatever is read around it.
-pub fn reads_under_normal(primitive: u16) -> bool
-    ensures { result ≡ table.reads_under_normal primitive }
+/// Whether the token of a command is read under normal status, whatever is read around it.
+pub fn reads_under_normal(head: Head) -> bool
+    ensures { result ≡ table.reads_under_normal head }
 {
-    match row_of(primitive).1 {
+    match row_of(head).1 {
         Action::PutMarked | Action::MakeString | Action::MakeMeaning => true,
         _ => false,
     }

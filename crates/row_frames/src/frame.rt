@@ -6,7 +6,7 @@ ghost use Rattle.row_frames.specs.Data.{values};
 use crate::data::{Data, name};
 use crate::effects::{as_definition, effect_of};
 use crate::turn::{Ask, Fed, Kept, Turn, opening, take};
-use rows::{Call, Row, row_of};
+use rows::{Call, Effect, Row, row_of};
 
 /// Where a command stands: what is left of its row, where in the first stage of that, and what it has read.
 #[derive(Clone, Copy)]
@@ -34,14 +34,14 @@ impl RowFrame {
     /// A command begins, perhaps as the one that goes on behind prefixes.
     #[tactic(auto, using(crate::proofs::Rows::at_most_four))]
     fn begin(call: Call, is_turned: bool) -> RowFrame
-        ensures stands { (fed : List reading.Fed) → run (λ c more. turn_of is_turned c more) call (stages_of call.primitive) [] fed ≡ resume result fed }
+        ensures stands { (fed : List reading.Fed) → run (λ c more. turn_of is_turned c more) call (stages_of call.head) [] fed ≡ resume result fed }
         ensures call { result.call ≡ call }
         ensures starts { result.kept ≡ kept_at.Start }
     {
         RowFrame {
             call,
             is_turned,
-            left: Some(row_of(call.primitive).0),
+            left: Some(row_of(call.head).0),
             read: Data::Zero,
             kept: Kept::Start,
         }
@@ -114,6 +114,7 @@ impl RowFrame {
             Turn::Gathers => Ask::ActsOn(self.call, effect_of(self.call, &self.read)),
             Turn::Defines => Ask::Defines(as_definition(self.call), name(self.read.first())),
             Turn::Turns(call) => self.go_on_as(call),
+            Turn::Fails(call) => Ask::Acts(call, Effect::Unassigned),
             Turn::Ends => Ask::Ends,
         }
     }

@@ -1,5 +1,5 @@
 // What a stage asks for at first, and what it makes of a token and of a value.
-ghost use Rattle.std.specs.Prelude.{◌≡◌};
+ghost use Rattle.std.specs.Prelude.{◌≡◌, None};
 ghost use Rattle.plain_tokens.specs.Tokens as plain;
 ghost use Rattle.plain_tokens.specs.Names as names;
 ghost use Rattle.rows.specs.Tokens as tokens;
@@ -10,7 +10,8 @@ ghost use Rattle.row_frames.specs.Data.{values};
 
 use crate::data::{Data, name};
 use rows::{
-    Call, Complaint, Datum, Got, Kind, Met, Next, Note, Prefix, Stage, Start, Value, find_row,
+    Bank, Call, Complaint, Datum, Got, Head, Internal, Kind, Met, Next, Note, Prefix, Stage, Start,
+    Value, byte_of, find_row, internal_of, variable_of,
 };
 use tex_defs::{Frozen, Meaning, Name, Seen, Token};
 use tex_syntax::{Report, Want};
@@ -98,6 +99,7 @@ fn ranged(complaint: Complaint, greatest: u32, n: i32) -> Got
     let report = match complaint {
         Complaint::BadCharacterCode => Report::BadCharacterCode(n),
         Complaint::BadRegisterCode => Report::BadRegisterCode(n),
+        Complaint::BadMathchar => Report::BadMathchar(n),
         Complaint::InvalidCode => Report::InvalidCode(n, greatest),
     };
     Got::Tells(report, Next::Takes(Datum::Number(0)))
@@ -116,6 +118,13 @@ fn bounded(greatest: u32, n: i32) -> Got
     )
 }
 
+/// `\inaccessible` takes the place of a name that is missing.
+fn missing_name(token: Token) -> Met
+    ensures { result ≡ stages.named token None }
+{
+    Met::Retries(Note::Inserts(INACCESSIBLE, Report::MissingName, is_character(token)))
+}
+
 /// The name that is assigned.
 fn control_sequence(call: Call, x: Seen) -> Met
     ensures { result ≡ stages.name_met call x }
@@ -125,9 +134,86 @@ fn control_sequence(call: Call, x: Seen) -> Met
     }
     match name_to_assign(x.token) {
         Some(name) => Met::Takes(Datum::Named(name)),
-        None => {
-            Met::Retries(Note::Inserts(INACCESSIBLE, Report::MissingName, is_character(x.token)))
-        }
+        None => missing_name(x.token),
+    }
+}
+
+/// The name that a shorthand definition defines, which becomes `\relax`.
+fn new_name(call: Call, x: Seen) -> Met
+    ensures { result ≡ stages.new_name_met call x }
+{
+    if is_space_token(x.token) {
+        return Met::Skips(call);
+    }
+    match name_to_assign(x.token) {
+        Some(name) => Met::Notes(Note::Relaxes(call, name), Next::Takes(Datum::Named(name))),
+        None => missing_name(x.token),
+    }
+}
+
+/// What a token stands for; of another one comes what is given.
+fn standing(otherwise: Met, stands: Option<Internal>) -> Met
+    ensures { result ≡ stages.standing otherwise stands }
+{
+    match stands {
+        Some(Internal::Given(n)) => Met::Takes(Datum::Number(i32::from(n))),
+        Some(Internal::At(loc)) => Met::Takes(Datum::At(loc)),
+        Some(Internal::Numbered(bank)) => Met::Numbers(bank),
+        None => otherwise,
+    }
+}
+
+/// The number of a primitive.
+fn number_of(head: Head) -> u16
+    ensures { result ≡ stages.number_of head }
+{
+    match head {
+        Head::Primitive(number) => number,
+        Head::Register(..) => 0,
+    }
+}
+
+/// The token can't be used behind this command.
+fn unusable(call: Call, x: Seen) -> Note
+    ensures { result ≡ stages.unusable call x }
+{
+    Note::Tells(Report::CantUseAfter(x.meaning, number_of(call.head)), false)
+}
+
+/// What arithmetic changes.
+fn variable(call: Call, x: Seen) -> Met
+    ensures { result ≡ stages.on_token stage.Variable call x }
+{
+    let refused = Met::Notes(unusable(call, x), Next::Fails(call));
+    standing(refused, variable_of(x.meaning))
+}
+
+/// What stands for a number, a dimension or glue; another token counts as 0.
+fn internal(call: Call, x: Seen) -> Met
+    ensures { result ≡ stages.on_token stage.Internal call x }
+{
+    let zero = Next::Takes(Datum::Number(0));
+    let refused = Met::Notes(unusable(call, x), zero);
+    standing(refused, internal_of(x.meaning))
+}
+
+/// The number of a register or of a character; one out of its range is reported, and the location is that of 0.
+fn numbered(bank: Bank, n: i32) -> Got
+    ensures { result ≡ stages.numbered bank n }
+{
+    if 0 <= n && n <= 255 {
+        return Got::Takes(Datum::At(bank.location(byte_of(n))));
+    }
+    Got::Tells(bank.complaint(n), Next::Takes(Datum::At(bank.location(0))))
+}
+
+/// The same of a value.
+pub fn numbered_by(bank: Bank, value: Value) -> Got
+    ensures { result ≡ stages.numbered_by bank value }
+{
+    match value {
+        Value::Plain(Datum::Number(n)) => numbered(bank, n),
+        _ => numbered(bank, 0),
     }
 }
 
@@ -181,11 +267,11 @@ fn is_definition(meaning: Meaning<()>) -> bool
     }
 }
 
-/// Whether a primitive is read by a row.
-fn has_row(number: u16) -> bool
-    ensures { result ≡ table.has_row number }
+/// Whether a command is read by a row.
+fn has_row(head: Head) -> bool
+    ensures { result ≡ table.has_row head }
 {
-    find_row(number).is_some()
+    find_row(head).is_some()
 }
 
 /// Whether it is an assignment that is read by a row.
@@ -193,8 +279,22 @@ fn is_assignment(meaning: Meaning<()>) -> bool
     ensures { result ≡ stages.is_assignment meaning }
 {
     match meaning {
-        Meaning::Prim(n) => { (DEF <= n && n <= READ || FIRST_PARAMETER <= n) && has_row(n) }
+        Meaning::Prim(n) => {
+            (DEF <= n && n <= READ || FIRST_PARAMETER <= n) && has_row(Head::Primitive(n))
+        }
+        Meaning::Register { kind, no } => has_row(Head::Register(kind, no)),
         _ => false,
+    }
+}
+
+/// The command of this meaning.
+fn head_of(meaning: Meaning<()>) -> Head
+    ensures { result ≡ stages.head_of meaning }
+{
+    match meaning {
+        Meaning::Prim(n) => Head::Primitive(n),
+        Meaning::Register { kind, no } => Head::Register(kind, no),
+        _ => Head::Primitive(0),
     }
 }
 
@@ -202,12 +302,8 @@ fn is_assignment(meaning: Meaning<()>) -> bool
 fn as_command(call: Call, x: Seen) -> Call
     ensures { result ≡ stages.as_command call x }
 {
-    let primitive = match x.meaning {
-        Meaning::Prim(n) => n,
-        _ => 0,
-    };
     Call {
-        primitive,
+        head: head_of(x.meaning),
         name: name_of(x.token),
         ..call
     }
@@ -273,6 +369,9 @@ pub fn on_token(stage: Stage, call: Call, x: Seen) -> Met
             }
         }
         Stage::ControlSequence => control_sequence(call, x),
+        Stage::NewName => new_name(call, x),
+        Stage::Variable => variable(call, x),
+        Stage::Internal => internal(call, x),
         Stage::LetEquals => let_equals(call, x),
         Stage::Space => {
             if is_space(x) {
@@ -310,7 +409,9 @@ pub fn start(stage: Stage, call: Call, read: &Data) -> Start
     match stage {
         Stage::Number | Stage::NumberTo(..) | Stage::NumberUpTo(_) => Start::Begins(Kind::Integer),
         Stage::Equals | Stage::NonblankToken => Start::Looks(Want::Nonblank),
-        Stage::ControlSequence | Stage::LetEquals => Start::Looks(Want::Raw),
+        Stage::ControlSequence | Stage::NewName | Stage::LetEquals => Start::Looks(Want::Raw),
+        Stage::Variable | Stage::Internal => Start::Looks(Want::Expanded),
+        Stage::Keyword(keyword) => Start::Begins(Kind::Keyword(keyword)),
         Stage::Space | Stage::AnyToken => Start::Looks(Want::Raw),
         Stage::Text(expanded) => Start::Begins(Kind::Text(call.name, expanded)),
         Stage::MacroText(expanded) => {

@@ -6,16 +6,16 @@ ghost use Rattle.rows.specs.declared.stage.Stage.{Stage};
 ghost use Rattle.rows.specs.declared.command.Call.{Call};
 ghost use Rattle.rows.specs.Readings.{Tok, Val};
 ghost use Rattle.rows.specs.Readings as reading;
-ghost use Rattle.rows.specs.Run.{Asks, looks, again, begins, inner, noted, valued, comes, due};
+ghost use Rattle.rows.specs.Run.{Asks, looks, again, begins, inner, numbers, noted, valued, comes, due};
 ghost use Rattle.row_frames.specs.Data.{values};
 ghost use Rattle.row_frames.specs.Sees.{ask_of, fed_of, GivesBack, IsOpen};
 ghost use Rattle.row_frames.specs.declared.turn.Kept.TheVariants as kept_at;
 ghost use Rattle.row_frames.specs.Resumes.{within, IsTurn};
 
 use crate::data::Data;
-use crate::stages::{on_token, on_value, start};
+use crate::stages::{numbered_by, on_token, on_value, start};
 use equivalents::Val as StoredValue;
-use rows::{Call, Datum, Effect, Got, Kind, Met, Next, Note, Stage, Start, Value};
+use rows::{Bank, Call, Datum, Effect, Got, Kind, Met, Next, Note, Stage, Start, Value};
 use tex_defs::{Name, Seen, Token};
 use tex_syntax::{Report, Want};
 
@@ -25,7 +25,7 @@ pub enum Fed {
     Token(Seen),
     /// The value of an inner reading; its list of tokens is kept by whoever feeds the frame.
     Value(Value),
-    /// A report was written.
+    /// A report was written, or a name made `\relax`.
     Told,
     /// What stands at a location, which no command asks for.
     Fetched(StoredValue<()>),
@@ -49,6 +49,8 @@ pub enum Ask {
     Tells(Report, Option<Seen>),
     /// A token that is inserted, the report behind it, and the token that is given back before.
     Inserts(Token, Report, Option<Seen>),
+    /// The name becomes `\relax`, by this command.
+    Relaxes(Call, Name),
 }
 
 impl Ask {
@@ -73,6 +75,8 @@ pub enum Kept {
     Looking(Call, Want),
     /// An inner reading goes on, which began with the token that the stage before left.
     Within(Kind),
+    /// An integer goes on, the number of a register or of a character, whose location is read.
+    Numbered(Bank),
     /// The note comes, and then this.
     Noting(Note, Next),
     /// The note comes, and then the stage is read again.
@@ -92,6 +96,8 @@ pub enum Turn {
     Defines,
     /// The command goes on as this one, from the beginning.
     Turns(Call),
+    /// The command, an assignment, is over, and has assigned nothing.
+    Fails(Call),
     /// The command is over.
     Ends,
 }
@@ -106,6 +112,7 @@ fn note_due(note: Note, x: Seen) -> Ask
         Note::Inserts(token, report, back) => {
             Ask::Inserts(token, report, if back { Some(x) } else { None })
         }
+        Note::Relaxes(call, name) => Ask::Relaxes(call, name),
     }
 }
 
@@ -116,6 +123,7 @@ fn behind_note(next: Next) -> Turn
     match next {
         Next::Takes(datum) => Turn::Takes(datum),
         Next::Stops => Turn::Ends,
+        Next::Fails(call) => Turn::Fails(call),
         Next::Turns(call) => Turn::Turns(call),
     }
 }
@@ -131,6 +139,7 @@ fn look(stage: Stage, call: Call, want: Want, x: Seen) -> Turn
         Met::Skips(call) => Turn::Stays(Kept::Looking(call, want), Ask::More(want)),
         Met::Notes(note, next) => Turn::Stays(Kept::Noting(note, next), note_due(note, x)),
         Met::Retries(note) => Turn::Stays(Kept::Retrying(call, want, note), note_due(note, x)),
+        Met::Numbers(bank) => { Turn::Stays(Kept::Numbered(bank), Ask::Inner(Kind::Integer, None)) }
         Met::Turns(call) => Turn::Turns(call),
     }
 }
@@ -186,6 +195,18 @@ fn behind(stage: Stage, kind: Kind, y: Fed) -> Turn
     }
 }
 
+/// What is made of what comes where the number of a register or of a character is read.
+fn numbered(bank: Bank, y: Fed) -> Turn
+    ensures { (s : Stage) (c : Call) (ds : List Datum) (ts : List Token) → IsTurn s c ds ts (fed_of ts y) (λ fed. numbers bank (fed_of ts y ∷ fed)) result }
+{
+    match y {
+        Fed::Value(value) => gain(numbered_by(bank, value), value),
+        Fed::Token(_) => Turn::Ends,
+        Fed::Told => Turn::Ends,
+        Fed::Fetched(_) => Turn::Ends,
+    }
+}
+
 /// What is made of what comes at a note.
 fn told(note: Note, next: Next, y: Fed) -> Turn
     ensures { (s : Stage) (c : Call) (ds : List Datum) (ts : List Token) → IsTurn s c ds ts (fed_of ts y) (λ fed. noted note next (fed_of ts y ∷ fed)) result }
@@ -221,6 +242,7 @@ pub fn take(stage: Stage, call: Call, read: &Data, kept: Kept, y: Fed) -> Turn
         },
         Kept::Looking(call, want) => looked(stage, call, want, y),
         Kept::Within(kind) => behind(stage, kind, y),
+        Kept::Numbered(bank) => numbered(bank, y),
         Kept::Noting(note, next) => told(note, next, y),
         Kept::Retrying(call, want, note) => retold(stage, call, want, note, y),
     }

@@ -8,7 +8,8 @@ use Rattle.rows.specs.declared.words.Value.TheVariants as value
 use Rattle.rows.specs.declared.words.Datum.{Datum}
 use Rattle.rows.specs.declared.words.Datum.TheVariants as datum
 use Rattle.rows.specs.declared.words.Kind.{Kind}
-use Rattle.rows.specs.declared.words.Kind.TheVariants.{Definition}
+use Rattle.rows.specs.declared.words.Kind.TheVariants.{Integer, Definition}
+use Rattle.rows.specs.declared.internal.Bank.{Bank}
 use Rattle.rows.specs.declared.stage.Stage.{Stage}
 use Rattle.rows.specs.declared.stage.Stage.TheVariants.{MacroText, NumberTo, NumberUpTo}
 use Rattle.rows.specs.declared.stage.Start.{Start}
@@ -23,11 +24,11 @@ use Rattle.rows.specs.declared.stage.Note.{Note}
 use Rattle.rows.specs.declared.stage.Note.TheVariants as note
 use Rattle.rows.specs.declared.command.Call.{Call}
 use Rattle.rows.specs.Readings.{Fed, Tok, Val, Told, Ask, More, Inner, Defines}
-use Rattle.rows.specs.Stages.{start, on_token, on_value, on_datum}
+use Rattle.rows.specs.Stages.{start, on_token, on_value, on_datum, numbered_by}
 use Rattle.rows.specs.Tokens.{is_at_most, is_up_to}
 use Rattle.std.specs.Prelude.{if◌then◌else◌}
 use Rattle.rows.specs.Table.{stages_of}
-use Rattle.rows.specs.Run.{Outcome, Asks, Takes, Passes, Gathers, Makes, Turns, comes, due, noted, valued, inner, begins, met_with, looks, again, started, behind, run, no_turn, turned, row}
+use Rattle.rows.specs.Run.{Outcome, Asks, Takes, Passes, Gathers, Makes, Turns, comes, due, noted, valued, inner, begins, numbers, met_with, looks, again, started, behind, run, no_turn, turned, row}
 use Rattle.rows.specs.Laws.{HasBody, Brings}
 
 -- A STAGE THAT IS FED WITH ONE MORE
@@ -64,15 +65,18 @@ Extends y (Turns c fed) o = o ≡ Turns c (fed ++ y ∷ [])
 due_plain : (n : Note) → IsPlain (due n)
 due_plain (note.Tells report back) = tt
 due_plain (note.Inserts t report back) = tt
+due_plain (note.Relaxes c n) = tt
 
 comes_first : (y : Fed) (a : Ask) (m : Next) → Follows y a (comes m [])
 comes_first y a (next.Takes d) = tt
 comes_first y a next.Stops = tt
+comes_first y a (next.Fails c) = tt
 comes_first y a (next.Turns c) = tt
 
 comes_more : (y : Fed) (m : Next) (fed : List Fed) → Extends y (comes m fed) (comes m (fed ++ y ∷ []))
 comes_more y (next.Takes d) fed = refl
 comes_more y next.Stops fed = tt
+comes_more y (next.Fails c) fed = tt
 comes_more y (next.Turns c) fed = refl
 
 noted_more : (y : Fed) (n : Note) (m : Next) (fed : List Fed) → Extends y (noted n m fed) (noted n m (fed ++ y ∷ []))
@@ -136,6 +140,17 @@ begins_more y s k fits (Tok x ∷ fed) = inner_more y s k fits fed
 begins_more y s k fits (Val v ts ∷ fed) = valued_more y (on_value s v) ts fed
 begins_more y s k fits (z ∷ fed) = tt
 
+-- the number of a register or of a character
+numbered_plain : (bank : Bank) (v : Value) → NotDefines (numbered_by bank v)
+numbered_plain bank (value.Plain (datum.Number n)) = got_if (is_at_most 255 n) _ _ tt tt
+numbered_plain bank v = tt
+
+numbers_more : (y : Fed) (bank : Bank) (fed : List Fed) → Extends y (numbers bank fed) (numbers bank (fed ++ y ∷ []))
+numbers_more (Val v ts) bank [] = value_plain (Val v ts) (Inner Integer false) (numbered_by bank v) ts (numbered_plain bank v)
+numbers_more y bank [] = tt
+numbers_more y bank (Val v ts ∷ fed) = valued_more y (numbered_by bank v) ts fed
+numbers_more y bank (z ∷ fed) = tt
+
 module _ (s : Stage) (c : Call) (want : Want) (x : Seen) where
   abbrev Met_of : Met → List Fed → Outcome
   Met_of m fed = met_with (Tok x) m (λ d. looks s d want fed) (λ n. again s c want n fed) fed
@@ -147,6 +162,7 @@ module _ (s : Stage) (c : Call) (want : Want) (x : Seen) where
   met_first (met.Skips d) = tt
   met_first (met.Notes n m) = due_plain n
   met_first (met.Retries n) = due_plain n
+  met_first (met.Numbers bank) = tt
   met_first (met.Turns d) = tt
 
   met_more : (y : Fed) (m : Met) (fed : List Fed) → ((d : Call) → Extends y (looks s d want fed) (looks s d want (fed ++ y ∷ []))) →
@@ -157,6 +173,7 @@ module _ (s : Stage) (c : Call) (want : Want) (x : Seen) where
   met_more y (met.Skips d) fed h i = h d
   met_more y (met.Notes n m) fed h i = noted_more y n m fed
   met_more y (met.Retries n) fed h i = i n
+  met_more y (met.Numbers bank) fed h i = numbers_more y bank fed
   met_more y (met.Turns d) fed h i = refl
 
 mutual
@@ -239,10 +256,10 @@ module _ (turn : Call → List Fed → Ask) (turn_more : (c : Call) (fed : List 
 
 -- a command that goes on as another does so once
 turned_more : (c : Call) (fed : List Fed) (y : Fed) → Keeps y (turned c fed) (turned c (fed ++ y ∷ []))
-turned_more c fed y = run_more no_turn (λ c fed y h i. tt) (λ c fed small. tt) c (stages_of c.primitive) [] fed y
+turned_more c fed y = run_more no_turn (λ c fed y h i. tt) (λ c fed small. tt) c (stages_of c.head) [] fed y
 
 turned_small : (c : Call) (fed : List Fed) → IsSmall fed → HasBody (turned c fed)
-turned_small c fed small = run_small no_turn (λ c fed y h i. tt) (λ c fed small. tt) c (stages_of c.primitive) [] fed small
+turned_small c fed small = run_small no_turn (λ c fed y h i. tt) (λ c fed small. tt) c (stages_of c.head) [] fed small
 
 pub row_more : (c : Call) (fed : List Fed) (y : Fed) → Keeps y (row c fed) (row c (fed ++ y ∷ []))
-row_more c fed y = run_more turned turned_more turned_small c (stages_of c.primitive) [] fed y
+row_more c fed y = run_more turned turned_more turned_small c (stages_of c.head) [] fed y

@@ -6,8 +6,10 @@ use Rattle.tex_defs.specs.declared.Seen.{Seen}
 use Rattle.tex_syntax.specs.declared.words.Want.{Want}
 use Rattle.rows.specs.declared.words.Datum.{Datum}
 use Rattle.rows.specs.declared.words.Kind.{Kind}
+use Rattle.rows.specs.declared.words.Kind.TheVariants.{Integer}
+use Rattle.rows.specs.declared.internal.Bank.{Bank}
 use Rattle.rows.specs.declared.stage.Stage.{Stage}
-use Rattle.rows.specs.declared.stage.Stage.TheVariants.{Number, NumberTo, NumberUpTo, Text, MacroText}
+use Rattle.rows.specs.declared.stage.Stage.TheVariants.{Number, NumberTo, NumberUpTo, Keyword, Text, MacroText}
 use Rattle.rows.specs.declared.stage.Start.{Start}
 use Rattle.rows.specs.declared.stage.Start.TheVariants.{Looks, Begins}
 use Rattle.rows.specs.declared.stage.Met.{Met}
@@ -20,11 +22,12 @@ use Rattle.rows.specs.declared.stage.Note.{Note}
 use Rattle.rows.specs.declared.stage.Note.TheVariants as note
 use Rattle.rows.specs.declared.command.Call.{Call}
 use Rattle.rows.specs.declared.command.Effect.{Effect}
+use Rattle.rows.specs.declared.command.Effect.TheVariants as effect
 use Rattle.rows.specs.Readings.{Fed, Tok, Val, Told, Ask, More, Inner, Acts, ActsOn, Defines, Ends}
 use Rattle.rows.specs.Table.{stages_of}
-use Rattle.rows.specs.Stages.{start, on_token, on_value, name}
+use Rattle.rows.specs.Stages.{start, on_token, on_value, numbered_by, name}
 use Rattle.rows.specs.Effects.{effect_of, as_definition}
-use Rattle.rows.specs.Run.{Outcome, Asks, Takes, Passes, Gathers, Makes, Turns, comes, due, noted, valued, inner, begins, met_with, looks, again, started, behind, run, no_turn, turned, row}
+use Rattle.rows.specs.Run.{Outcome, Asks, Takes, Passes, Gathers, Makes, Turns, comes, due, noted, valued, inner, begins, numbers, met_with, looks, again, started, behind, run, no_turn, turned, row}
 use Rattle.rows.specs.Laws.{is_told, rank}
 
 -- the inner readings that stages begin are of a low rank
@@ -39,6 +42,7 @@ start_low : (s : Stage) (c : Call) (ds : List Datum) → StartsLow (start s c ds
 start_low Number c ds = omega arith
 start_low (NumberTo greatest complaint) c ds = omega arith
 start_low (NumberUpTo greatest) c ds = omega arith
+start_low (Keyword w) c ds = omega arith
 start_low (Text expanded) c ds = omega arith
 start_low (MacroText expanded) c ds = omega arith
 start_low s c ds = tt
@@ -66,6 +70,7 @@ module _
     comes_fits : (m : Next) (b : Bool) (fed : List Fed) → Fits (is_told b fed) (comes m fed)
     comes_fits (next.Takes d) b fed = (b, refl)
     comes_fits next.Stops b fed = end (is_told b fed)
+    comes_fits (next.Fails c) b fed = act (is_told b fed) c effect.Unassigned
     comes_fits (next.Turns c) b fed = (b, refl)
 
     noted_fits : (n : Note) (m : Next) (fed : List Fed) → Fits (is_told false fed) (noted n m fed)
@@ -90,6 +95,11 @@ module _
     begins_fits s k low b (Val v ts ∷ fed) = valued_fits (on_value s v) ts fed
     begins_fits s k low b (y ∷ fed) = end _
 
+    numbers_fits : (bank : Bank) (fed : List Fed) → Fits (is_told false fed) (numbers bank fed)
+    numbers_fits bank [] = begin false Integer false (omega arith)
+    numbers_fits bank (Val v ts ∷ fed) = valued_fits (numbered_by bank v) ts fed
+    numbers_fits bank (y ∷ fed) = end _
+
     met_fits : (x : Seen) (m : Met) (skipped : Call → Outcome) (retried : Note → Outcome) (fed : List Fed) →
         ((c : Call) → Fits (is_told false fed) (skipped c)) → ((n : Note) → Fits (is_told false fed) (retried n)) → Fits (is_told false fed) (met_with (Tok x) m skipped retried fed)
     met_fits x (met.Takes d) skipped retried fed h i = (false, refl)
@@ -98,6 +108,7 @@ module _
     met_fits x (met.Skips c) skipped retried fed h i = h c
     met_fits x (met.Notes n m) skipped retried fed h i = noted_fits n m fed
     met_fits x (met.Retries n) skipped retried fed h i = i n
+    met_fits x (met.Numbers bank) skipped retried fed h i = numbers_fits bank fed
     met_fits x (met.Turns c) skipped retried fed h i = (false, refl)
 
     mutual
@@ -134,4 +145,4 @@ module _
 
     pub row_holds : (c : Call) (fed : List Fed) → P (is_told false fed) (row c fed)
     row_holds c fed =
-        run_holds turned (λ c b fed. run_holds no_turn (λ c b fed. end _) c (stages_of c.primitive) [] b fed) c (stages_of c.primitive) [] false fed
+        run_holds turned (λ c b fed. run_holds no_turn (λ c b fed. end _) c (stages_of c.head) [] b fed) c (stages_of c.head) [] false fed

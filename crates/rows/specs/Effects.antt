@@ -1,15 +1,27 @@
 -- What a command does with what it has read.
-use Rattle.std.specs.Prelude.{Bool, true, false, ◌||◌, List}
+use Rattle.std.specs.Prelude.{ℕ, ℤ, nat_abs, Bool, true, false, ◌||◌, if◌then◌else◌, List}
 use Rattle.equivalents.specs.declared.values.Loc.TheVariants as loc
 use Rattle.rows.specs.declared.words.Datum.{Datum}
+use Rattle.rows.specs.declared.words.Datum.TheVariants as datum
 use Rattle.rows.specs.declared.command.Action.{Action}
 use Rattle.rows.specs.declared.command.Action.TheVariants as action
+use Rattle.rows.specs.declared.command.Shorthand.TheVariants as shorthand
 use Rattle.rows.specs.declared.command.Effect.{Effect}
 use Rattle.rows.specs.declared.command.Effect.TheVariants as effect
 use Rattle.rows.specs.declared.command.Call.{Call}
 use Rattle.rows.specs.Internal.{byte_of}
-use Rattle.rows.specs.Stages.{number, name, token_read}
+use Rattle.rows.specs.Tokens.{is_at_most}
+use Rattle.rows.specs.Stages.{datum_at, number_in, number, name, token_read, location}
 use Rattle.rows.specs.Table.{action_of}
+
+-- a mathematical character's code; another number, which no row gives, counts as 0
+abbrev pub math_code_of : ℤ → ℕ
+math_code_of n = if is_at_most 32767 n then nat_abs n else 0
+
+-- a number that stands for itself, or what stands at a location
+abbrev pub value_made : Datum → Effect
+value_made (datum.At l) = effect.MakeValue l
+value_made d = effect.MakeNumber (number_in d)
 
 abbrev pub comes_to : Action → List Datum → Effect
 comes_to action.Nothing ds = effect.Nothing
@@ -22,8 +34,12 @@ comes_to action.DefineGlobally ds = effect.Nothing
 comes_to action.Let ds = effect.Let (name 0 ds) (token_read 1 ds)
 comes_to action.FutureLet ds = effect.FutureLet (name 0 ds) (token_read 1 ds) (token_read 2 ds)
 comes_to (action.SetCode kind) ds = effect.SetNumber (loc.Code kind (byte_of (number 0 ds))) (number 1 ds)
-comes_to (action.SetInteger i) ds = effect.SetNumber (loc.Integer i) (number 0 ds)
+comes_to (action.SetAt l) ds = effect.SetNumber l (number 0 ds)
 comes_to (action.SetRegister kind) ds = effect.SetNumber (loc.Register kind (byte_of (number 0 ds))) (number 1 ds)
+comes_to (action.Compute operation) ds = effect.Compute operation (location 0 ds) (number 2 ds)
+comes_to action.GiveCharacter ds = effect.Shorthand (name 0 ds) (shorthand.Character (byte_of (number 1 ds)))
+comes_to action.GiveMath ds = effect.Shorthand (name 0 ds) (shorthand.Math (math_code_of (number 1 ds)))
+comes_to (action.GiveRegister kind) ds = effect.Shorthand (name 0 ds) (shorthand.Register kind (byte_of (number 1 ds)))
 comes_to action.AfterGroup ds = effect.AfterGroup (token_read 0 ds)
 comes_to action.AfterAssignment ds = effect.AfterAssignment (token_read 0 ds)
 comes_to action.ExpandBehind ds = effect.ExpandBehind (token_read 0 ds) (token_read 1 ds)
@@ -32,10 +48,11 @@ comes_to action.MakeNumber ds = effect.MakeNumber (number 0 ds)
 comes_to action.MakeRoman ds = effect.MakeRoman (number 0 ds)
 comes_to action.MakeString ds = effect.MakeString (token_read 0 ds)
 comes_to action.MakeMeaning ds = effect.MakeMeaning (token_read 0 ds)
+comes_to action.MakeValue ds = value_made (datum_at 0 ds)
 
 -- the command that does it
 abbrev pub effect_of : Call → List Datum → Effect
-effect_of c ds = comes_to (action_of c.primitive) ds
+effect_of c ds = comes_to (action_of c.head) ds
 
 abbrev pub is_always_global : Action → Bool
 is_always_global action.DefineGlobally = true
@@ -43,4 +60,4 @@ is_always_global a = false
 
 -- the definition that makes a macro: `\gdef` and `\xdef` are global by themselves
 abbrev pub as_definition : Call → Call
-as_definition c = record c { global = c.global || is_always_global (action_of c.primitive) }
+as_definition c = record c { global = c.global || is_always_global (action_of c.head) }

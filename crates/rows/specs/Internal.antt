@@ -1,12 +1,14 @@
 -- What a token stands for where a number is read (The TeXbook, chapter 24; TeX: The Program, sections 208, 209 and 413 to 427).
-use Rattle.std.specs.Prelude.{◌≡◌, ℕ, ◌-◌, ◌==◌, min, ℤ, pos, negsuc, ◌-ℤ◌, Bool, true, false, nat_le, nat_lt, if◌then◌else◌, Option, Some, None}
+use Rattle.std.specs.Prelude.{◌≡◌, ℕ, zero, ◌-◌, ◌==◌, min, ℤ, pos, negsuc, ◌-ℤ◌, Bool, true, false, nat_le, nat_lt, if◌then◌else◌, Option, Some, None, List, [], ◌++◌, codes}
 use Rattle.tex_defs.specs.declared.Meaning.{Meaning}
 use Rattle.tex_defs.specs.declared.Meaning.TheVariants as means
 use Rattle.tex_defs.specs.declared.RegisterKind.TheVariants as register
 use Rattle.tex_syntax.specs.declared.words.Report.{Report}
 use Rattle.tex_syntax.specs.declared.words.Report.TheVariants as report
 use Rattle.plain_tokens.specs.Categories.{is_between}
+use Rattle.plain_tokens.specs.Numerals.{whole_number, scaled}
 use Rattle.equivalents.specs.declared.values.CodeKind.TheVariants as code
+use Rattle.equivalents.specs.declared.values.Glue.{Glue}
 use Rattle.equivalents.specs.declared.values.Loc.{Loc}
 use Rattle.equivalents.specs.declared.values.Loc.TheVariants as loc
 use Rattle.equivalents.specs.declared.values.Val.TheVariants as val
@@ -15,7 +17,6 @@ use Rattle.rows.specs.declared.internal.Bank.{Bank}
 use Rattle.rows.specs.declared.internal.Bank.TheVariants as bank
 use Rattle.rows.specs.declared.internal.Internal.{Internal}
 use Rattle.rows.specs.declared.internal.Internal.TheVariants as internal
-use Rattle.rows.specs.Tokens.{is_at_most}
 
 -- a number from 0 to 255; another counts as 0
 abbrev pub byte_of : ℤ → ℕ
@@ -82,6 +83,18 @@ internal_of (means.Register kind n) = Some (internal.At (loc.Register kind n))
 internal_of (means.Prim n) = internal_primitive n
 internal_of m = None
 
+-- What arithmetic changes: the registers and parameters of integers, until dimensions and glue are read.
+abbrev pub variable_primitive : ℕ → Option Internal
+variable_primitive n =
+    if n == 41 then Some (internal.Numbered (bank.Registers register.Count))
+    else if is_between first_integer last_integer n then Some (internal.At (loc.Integer (n - first_integer)))
+    else None
+
+abbrev pub variable_of : Meaning Unit → Option Internal
+variable_of (means.Register register.Count n) = Some (internal.At (loc.Register register.Count n))
+variable_of (means.Prim n) = variable_primitive n
+variable_of m = None
+
 -- AS INTEGERS: a dimension counts in sp, glue by its width. The least 32-bit integer, which no assignment gives, counts as the next one.
 
 abbrev pub in_bounds : ℤ → ℤ
@@ -119,3 +132,34 @@ abbrev pub is_mu : Loc → Bool
 is_mu (loc.Register register.Muskip n) = true
 is_mu (loc.Glue i) = nat_le 15 i
 is_mu l = false
+
+-- AS TEXTS: an integer in decimal; a dimension in points; glue by its width and by its stretch and shrink, where these aren't 0
+
+abbrev pub is_dimension : Loc → Bool
+is_dimension (loc.Register register.Dimen n) = true
+is_dimension (loc.Dimension i) = true
+is_dimension l = false
+
+abbrev pub finite_unit : (mu : Bool) → List ℕ
+finite_unit mu = if mu then codes "mu" else codes "pt"
+
+-- the unit of stretch and shrink, by the order of infinity
+abbrev pub unit_of : (mu : Bool) → (order : ℕ) → List ℕ
+unit_of mu order =
+    if order == 0 then finite_unit mu else if order == 1 then codes "fil" else if order == 2 then codes "fill" else codes "filll"
+
+abbrev pub glue_part : (word : List ℕ) → (mu : Bool) → ℤ → (order : ℕ) → List ℕ
+glue_part word mu (pos zero) order = []
+glue_part word mu n order = word ++ (scaled n ++ unit_of mu order)
+
+abbrev pub glue_text : (mu : Bool) → Glue → List ℕ
+glue_text mu g =
+    scaled g.width ++ (finite_unit mu ++ (glue_part (codes " plus ") mu g.stretch g.stretch_order ++ glue_part (codes " minus ") mu g.shrink g.shrink_order))
+
+abbrev pub number_text : (dimension : Bool) → ℤ → List ℕ
+number_text dimension n = if dimension then scaled n ++ codes "pt" else whole_number n
+
+abbrev pub value_text : Loc → SeenValue → List ℕ
+value_text l (val.Number n) = number_text (is_dimension l) n
+value_text l (val.Skip g) = glue_text (is_mu l) g
+value_text l v = []

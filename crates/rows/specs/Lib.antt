@@ -1,5 +1,6 @@
 pub mod Tokens
 pub mod Internal
+pub mod Arithmetic
 pub mod Table
 pub mod Readings
 pub mod Stages

@@ -1,5 +1,5 @@
 -- What readings are fed with, and what they ask for.
-use Rattle.std.specs.Prelude.{Bool, List}
+use Rattle.std.specs.Prelude.{ℕ, Bool, List}
 use Rattle.tex_defs.specs.declared.Name.{Name}
 use Rattle.tex_defs.specs.declared.Token.{Token}
 use Rattle.tex_defs.specs.declared.Seen.{Seen}
@@ -13,7 +13,7 @@ use Rattle.rows.specs.declared.command.Call.{Call}
 use Rattle.rows.specs.declared.command.Effect.{Effect}
 
 -- What a reading is fed with: a token; the value of an inner reading, with its list of tokens where it has one; a note that its
--- report was written; what stands at the location that it asked for, without its list; a note that a check came: a file's end or the name of
+-- report was written, or that done for which it asked; what stands at the location that it asked for, without its list; a note that a check came: a file's end or the name of
 -- an \outer macro.
 pub data Fed : Type 0 where
   Tok : Seen → Fed
@@ -25,8 +25,8 @@ pub data Fed : Type 0 where
 -- What a reading asks for: a token; an inner reading, which may begin with the last token; to end with a value, where the last token
 -- may be given back. A command asks to do what it does, perhaps with the list that it read last, or to make that list a macro's, and
 -- ends; or it ends. A call asks that its body be put, with these arguments; to report and end; or to report that it ran away, and end.
--- To report, where the last token may be given back before, and then another be inserted: then it is fed with the note, and goes on. For what
--- stands at a location.
+-- To report, where the last token may be given back before, and then another be inserted: then it is fed with the note, and goes on. To put a
+-- token back, while so many more are to follow, or to make a name mean `\relax`, by a command: then too. For what stands at a location.
 pub data Ask : Type 0 where
   More : Want → Ask
   Inner : Kind → (begins : Bool) → Ask
@@ -40,4 +40,6 @@ pub data Ask : Type 0 where
   RunsAway : Report → Ask
   Tells : Report → (give_back : Bool) → Ask
   Inserts : Token → Report → (give_back : Bool) → Ask
+  Puts : Token → (more : ℕ) → Ask
+  Relaxes : Call → Name → Ask
   Fetches : Loc → Ask

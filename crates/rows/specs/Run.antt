@@ -4,6 +4,8 @@ use Rattle.tex_defs.specs.declared.Token.{Token}
 use Rattle.tex_syntax.specs.declared.words.Want.{Want}
 use Rattle.rows.specs.declared.words.Datum.{Datum}
 use Rattle.rows.specs.declared.words.Kind.{Kind}
+use Rattle.rows.specs.declared.words.Kind.TheVariants as kind
+use Rattle.rows.specs.declared.internal.Bank.{Bank}
 use Rattle.rows.specs.declared.stage.Stage.{Stage}
 use Rattle.rows.specs.declared.stage.Start.{Start}
 use Rattle.rows.specs.declared.stage.Start.TheVariants.{Looks, Begins}
@@ -15,10 +17,11 @@ use Rattle.rows.specs.declared.stage.Next.{Next}
 use Rattle.rows.specs.declared.stage.Next.TheVariants as next
 use Rattle.rows.specs.declared.stage.Note.{Note}
 use Rattle.rows.specs.declared.stage.Note.TheVariants as note
+use Rattle.rows.specs.declared.command.Effect.TheVariants as effect
 use Rattle.rows.specs.declared.command.Call.{Call}
 use Rattle.rows.specs.Table.{stages_of}
-use Rattle.rows.specs.Readings.{Fed, Tok, Val, Told, Ask, More, Inner, Acts, ActsOn, Defines, Ends, Tells, Inserts}
-use Rattle.rows.specs.Stages.{start, on_token, on_value, name}
+use Rattle.rows.specs.Readings.{Fed, Tok, Val, Told, Ask, More, Inner, Acts, ActsOn, Defines, Ends, Tells, Inserts, Relaxes}
+use Rattle.rows.specs.Stages.{start, on_token, on_value, numbered_by, name}
 use Rattle.rows.specs.Effects.{effect_of, as_definition}
 
 -- STAGES
@@ -40,13 +43,15 @@ senseless = Asks Ends
 abbrev pub comes : Next → List Fed → Outcome
 comes (next.Takes d) fed = Takes d fed
 comes next.Stops fed = Asks Ends
+comes (next.Fails c) fed = Asks (Acts c effect.Unassigned)
 comes (next.Turns c) fed = Turns c fed
 
 abbrev pub due : Note → Ask
 due (note.Tells report back) = Tells report back
 due (note.Inserts t report back) = Inserts t report back
+due (note.Relaxes c n) = Relaxes c n
 
--- a report, and what comes behind it
+-- a note, and what comes behind it
 abbrev pub noted : Note → Next → List Fed → Outcome
 noted n m [] = Asks (due n)
 noted n m (Told ∷ fed) = comes m fed
@@ -72,6 +77,12 @@ begins s k (Tok x ∷ fed) = inner s k fed
 begins s k (Val v ts ∷ fed) = valued (on_value s v) ts fed
 begins s k (y ∷ fed) = senseless
 
+-- the number of a register or of a character, whose location is read
+abbrev pub numbers : Bank → List Fed → Outcome
+numbers b [] = Asks (Inner kind.Integer false)
+numbers b (Val v ts ∷ fed) = valued (numbered_by b v) ts fed
+numbers b (y ∷ fed) = senseless
+
 -- a stage that looks at a token, `y`; `skipped` is what comes of those behind it, and `retried` what comes of them behind a note
 abbrev pub met_with : (y : Fed) → Met → (skipped : Call → Outcome) → (retried : Note → Outcome) → List Fed → Outcome
 met_with y (met.Takes d) skipped retried fed = Takes d fed
@@ -80,6 +91,7 @@ met_with y met.Leaves skipped retried fed = Passes (y ∷ fed)
 met_with y (met.Skips c) skipped retried fed = skipped c
 met_with y (met.Notes n m) skipped retried fed = noted n m fed
 met_with y (met.Retries n) skipped retried fed = retried n
+met_with y (met.Numbers b) skipped retried fed = numbers b fed
 met_with y (met.Turns c) skipped retried fed = Turns c fed
 
 abbrev mutual
@@ -119,7 +131,7 @@ abbrev pub no_turn : Call → List Fed → Ask
 no_turn c fed = Ends
 
 abbrev pub turned : Call → List Fed → Ask
-turned c fed = run no_turn c (stages_of c.primitive) [] fed
+turned c fed = run no_turn c (stages_of c.head) [] fed
 
 abbrev pub row : Call → List Fed → Ask
-row c fed = run turned c (stages_of c.primitive) [] fed
+row c fed = run turned c (stages_of c.head) [] fed

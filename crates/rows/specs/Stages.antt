@@ -19,9 +19,9 @@ use Rattle.rows.specs.declared.words.Value.{Value}
 use Rattle.rows.specs.declared.words.Value.TheVariants as value
 use Rattle.rows.specs.declared.words.Kind.TheVariants as kind
 use Rattle.rows.specs.declared.stage.Stage.{Stage}
-use Rattle.rows.specs.declared.stage.Stage.TheVariants.{Number, NumberTo, NumberUpTo, Equals, ControlSequence, LetEquals, Space, AnyToken, NonblankToken, Text, MacroText, Prefixes}
+use Rattle.rows.specs.declared.stage.Stage.TheVariants.{Number, NumberTo, NumberUpTo, Equals, ControlSequence, NewName, Variable, Internal, Keyword, LetEquals, Space, AnyToken, NonblankToken, Text, MacroText, Prefixes}
 use Rattle.rows.specs.declared.stage.Complaint.{Complaint}
-use Rattle.rows.specs.declared.stage.Complaint.TheVariants.{BadCharacterCode, BadRegisterCode, InvalidCode}
+use Rattle.rows.specs.declared.stage.Complaint.TheVariants.{BadCharacterCode, BadRegisterCode, BadMathchar, InvalidCode}
 use Rattle.rows.specs.declared.stage.Start.{Start}
 use Rattle.rows.specs.declared.stage.Start.TheVariants.{Looks, Begins}
 use Rattle.rows.specs.declared.stage.Met.{Met}
@@ -29,11 +29,20 @@ use Rattle.rows.specs.declared.stage.Met.TheVariants as met
 use Rattle.rows.specs.declared.stage.Got.{Got}
 use Rattle.rows.specs.declared.stage.Got.TheVariants as got
 use Rattle.rows.specs.declared.stage.Next.TheVariants as next
+use Rattle.rows.specs.declared.stage.Note.{Note}
 use Rattle.rows.specs.declared.stage.Note.TheVariants as note
+use Rattle.equivalents.specs.declared.values.Loc.{Loc}
+use Rattle.equivalents.specs.declared.values.Loc.TheVariants as loc
+use Rattle.rows.specs.declared.command.Head.{Head}
+use Rattle.rows.specs.declared.command.Head.TheVariants as head
 use Rattle.rows.specs.declared.command.Call.{Call}
 use Rattle.rows.specs.declared.command.Prefix.{Prefix}
 use Rattle.rows.specs.declared.command.Prefix.TheVariants.{Long, Outer, Global}
 use Rattle.rows.specs.Tokens.{is_equals, is_character, name_to_assign, inaccessible, is_at_most, is_up_to}
+use Rattle.rows.specs.declared.internal.Bank.{Bank}
+use Rattle.rows.specs.declared.internal.Internal.{Internal as Stands}
+use Rattle.rows.specs.declared.internal.Internal.TheVariants as internal
+use Rattle.rows.specs.Internal.{byte_of, location_in, bad_number, internal_of, variable_of}
 use Rattle.rows.specs.Table.{has_row}
 
 -- WHAT HAS BEEN READ, in the order in which it was read
@@ -54,6 +63,10 @@ abbrev pub name_in : Datum → Name
 name_in (datum.Named n) = n
 name_in d = Empty
 
+abbrev pub location_read : Datum → Loc
+location_read (datum.At l) = l
+location_read d = loc.Integer 0
+
 abbrev pub no_token : Seen
 no_token = record { token = token.Named Empty; meaning = means.Undefined }
 
@@ -71,12 +84,16 @@ name i ds = name_in (datum_at i ds)
 abbrev pub token_read : ℕ → List Datum → Seen
 token_read i ds = token_in (datum_at i ds)
 
+abbrev pub location : ℕ → List Datum → Loc
+location i ds = location_read (datum_at i ds)
+
 -- NUMBERS
 
 -- a number out of its range
 abbrev pub out_of_range : Complaint → ℕ → ℤ → Report
 out_of_range BadCharacterCode greatest n = report.BadCharacterCode n
 out_of_range BadRegisterCode greatest n = report.BadRegisterCode n
+out_of_range BadMathchar greatest n = report.BadMathchar n
 out_of_range InvalidCode greatest n = report.InvalidCode n greatest
 
 -- is reported, and 0 taken
@@ -100,6 +117,42 @@ named t None = met.Retries (note.Inserts inaccessible report.MissingName (is_cha
 
 abbrev pub name_met : Call → Seen → Met
 name_met c x = if is_space_token x.token then met.Skips c else named x.token (name_to_assign x.token)
+
+-- The name of a shorthand definition means `\relax` from here, while the rest is read.
+abbrev pub newly_named : Call → Token → Option Name → Met
+newly_named c t (Some n) = met.Notes (note.Relaxes c n) (next.Takes (datum.Named n))
+newly_named c t None = named t None
+
+abbrev pub new_name_met : Call → Seen → Met
+new_name_met c x = if is_space_token x.token then met.Skips c else newly_named c x.token (name_to_assign x.token)
+
+-- LOCATIONS
+
+-- what a token stands for: a number, a location, or the location of the number behind it; of another token this comes
+abbrev pub standing : (otherwise : Met) → Option Stands → Met
+standing otherwise (Some (internal.Given n)) = met.Takes (datum.Number (pos n))
+standing otherwise (Some (internal.At l)) = met.Takes (datum.At l)
+standing otherwise (Some (internal.Numbered b)) = met.Numbers b
+standing otherwise None = otherwise
+
+-- the number of a primitive
+abbrev pub number_of : Head → ℕ
+number_of (head.Primitive n) = n
+number_of (head.Register kind n) = 0
+
+-- it can't be used behind this command
+abbrev pub unusable : Call → Seen → Note
+unusable c x = note.Tells (report.CantUseAfter x.meaning (number_of c.head)) false
+
+-- the number of a register or of a character came: another than one from 0 to 255 is reported, and the location is that of 0
+abbrev pub numbered : Bank → ℤ → Got
+numbered b n =
+    if is_at_most 255 n then got.Takes (datum.At (location_in b (byte_of n)))
+    else got.Tells (bad_number b n) (next.Takes (datum.At (location_in b 0)))
+
+abbrev pub numbered_by : Bank → Value → Got
+numbered_by b (value.Plain (datum.Number n)) = numbered b n
+numbered_by b v = numbered b (pos 0)
 
 -- PREFIXES
 
@@ -129,16 +182,18 @@ first_parameter = 85
 
 -- the assignments that are read by rows
 abbrev pub is_assignment : Meaning Unit → Bool
-is_assignment (means.Prim n) = (is_between def_primitive last_assignment n || nat_le first_parameter n) && has_row n
+is_assignment (means.Prim n) = (is_between def_primitive last_assignment n || nat_le first_parameter n) && has_row (head.Primitive n)
+is_assignment (means.Register kind n) = has_row (head.Register kind n)
 is_assignment m = false
 
-abbrev pub primitive_in : Meaning Unit → ℕ
-primitive_in (means.Prim n) = n
-primitive_in m = 0
+abbrev pub head_of : Meaning Unit → Head
+head_of (means.Prim n) = head.Primitive n
+head_of (means.Register kind n) = head.Register kind n
+head_of m = head.Primitive 0
 
 -- the command that the token is, with the prefixes that stood before it
 abbrev pub as_command : Call → Seen → Call
-as_command c x = record c { primitive = primitive_in x.meaning; name = name_of x.token }
+as_command c x = record c { head = head_of x.meaning; name = name_of x.token }
 
 -- another command than an assignment is given back and reported, and the prefixes are lost
 abbrev pub prefix_refused : Seen → Met
@@ -168,6 +223,10 @@ start Number c ds = Begins kind.Integer
 start (NumberTo greatest complaint) c ds = Begins kind.Integer
 start (NumberUpTo greatest) c ds = Begins kind.Integer
 start Equals c ds = Looks want.Nonblank
+start NewName c ds = Looks want.Raw
+start Variable c ds = Looks want.Expanded
+start Internal c ds = Looks want.Expanded
+start (Keyword w) c ds = Begins (kind.Keyword w)
 start ControlSequence c ds = Looks want.Raw
 start LetEquals c ds = Looks want.Raw
 start Space c ds = Looks want.Raw
@@ -181,6 +240,9 @@ start (Prefixes p) c ds = Looks want.Command
 abbrev pub on_token : Stage → Call → Seen → Met
 on_token Equals c x = if is_equals x then met.Passes else met.Leaves
 on_token ControlSequence c x = name_met c x
+on_token NewName c x = new_name_met c x
+on_token Variable c x = standing (met.Notes (unusable c x) (next.Fails c)) (variable_of x.meaning)
+on_token Internal c x = standing (met.Notes (unusable c x) (next.Takes nothing)) (internal_of x.meaning)
 on_token LetEquals c x = if is_space x then met.Skips c else if is_equals x then met.Passes else met.Leaves
 on_token Space c x = if is_space x then met.Passes else met.Leaves
 on_token AnyToken c x = met.Takes (datum.Taken x)

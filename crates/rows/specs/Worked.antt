@@ -4,32 +4,36 @@ use Rattle.tex_defs.specs.declared.Token.{Token}
 use Rattle.tex_defs.specs.declared.Token.TheVariants as token
 use Rattle.tex_defs.specs.declared.Name.{Name}
 use Rattle.tex_defs.specs.declared.Name.TheVariants.{Single, Word, Frozen}
-use Rattle.tex_defs.specs.declared.Frozen.TheVariants.{Relax}
+use Rattle.tex_defs.specs.declared.Frozen.TheVariants.{Relax, Inaccessible}
 use Rattle.tex_defs.specs.declared.Meaning.TheVariants as means
 use Rattle.tex_defs.specs.declared.Seen.{Seen}
-use Rattle.tex_syntax.specs.declared.words.Want.TheVariants.{Raw, Nonblank}
+use Rattle.tex_syntax.specs.declared.words.Want.TheVariants.{Raw, Nonblank, Expanded}
 use Rattle.tex_syntax.specs.declared.words.Want.TheVariants as want
-use Rattle.tex_syntax.specs.declared.words.Report.TheVariants.{BadCharacterCode, BadRegisterCode, InvalidCode, CodeTooGreat, MissingName, PrefixWith, LongOrOuterWith}
+use Rattle.tex_syntax.specs.declared.words.Report.TheVariants.{BadCharacterCode, BadRegisterCode, BadMathchar, CantUseAfter, InvalidCode, CodeTooGreat, MissingName, PrefixWith, LongOrOuterWith}
 use Rattle.plain_tokens.specs.Categories.{space, letter, other}
 use Rattle.prim_table.specs.Primitives.{primitive_name}
-use Rattle.rows.specs.declared.words.Datum.TheVariants.{Number}
+use Rattle.rows.specs.declared.words.Datum.TheVariants.{Number, Found}
+use Rattle.rows.specs.declared.words.Keyword.TheVariants.{By}
 use Rattle.rows.specs.declared.words.Value.TheVariants as value
-use Rattle.rows.specs.declared.words.Kind.TheVariants.{Integer, Text, Definition}
+use Rattle.rows.specs.declared.words.Kind.TheVariants.{Integer, Keyword, Text, Definition}
+use Rattle.rows.specs.declared.arithmetic.Operation.TheVariants.{Advance, Multiply, Divide}
 use Rattle.rows.specs.declared.command.Call.{Call}
+use Rattle.rows.specs.declared.command.Head.TheVariants as head
+use Rattle.rows.specs.declared.command.Shorthand.TheVariants as shorthand
 use Rattle.equivalents.specs.declared.values.CodeKind.TheVariants as code
 use Rattle.equivalents.specs.declared.values.Loc.TheVariants as loc
 use Rattle.tex_defs.specs.declared.RegisterKind.TheVariants as register
 use Rattle.rows.specs.declared.command.Effect.TheVariants as effect
 use Rattle.rows.specs.Tokens.{inaccessible}
 use Rattle.rows.specs.declared.stage.Stage.{Stage}
-use Rattle.rows.specs.declared.stage.Stage.TheVariants.{NumberTo, Equals}
+use Rattle.rows.specs.declared.stage.Stage.TheVariants.{NumberTo, Equals, NewName}
 use Rattle.rows.specs.declared.stage.Complaint.TheVariants as complaint
 use Rattle.rows.specs.declared.command.Action.{Action}
 use Rattle.rows.specs.declared.command.Action.TheVariants as action
 use Rattle.rows.specs.declared.command.Row.{Row}
 use Rattle.rows.specs.declared.command.TheConstants.{SYNTAX}
 use Rattle.rows.specs.Table.{reads_under_normal, stages_in}
-use Rattle.rows.specs.Readings.{Fed, Tok, Val, Told, Ask, More, Inner, Acts, ActsOn, Defines, Ends, Tells, Inserts}
+use Rattle.rows.specs.Readings.{Fed, Tok, Val, Told, Ask, More, Inner, Acts, ActsOn, Defines, Ends, Tells, Inserts, Relaxes}
 use Rattle.rows.specs.Run.{row}
 
 -- WHAT COMES
@@ -51,6 +55,21 @@ x = record { token = token.Named x_name; meaning = means.Undefined }
 abbrev pub y : Seen
 y = record { token = token.Named (Single 121); meaning = means.Undefined }
 
+-- `\x` as a register's name
+abbrev pub register_name : (number : ℕ) → Seen
+register_name n = record { token = token.Named x_name; meaning = means.Register register.Count n }
+
+-- and as a name of `\chardef` or `\mathchardef`
+abbrev pub character_name : (code : ℕ) → Seen
+character_name c = record { token = token.Named x_name; meaning = means.CharGiven c }
+
+abbrev pub math_name : (code : ℕ) → Seen
+math_name c = record { token = token.Named x_name; meaning = means.MathGiven c }
+
+-- what is inserted where a name is missing
+abbrev pub inaccessible_name : Seen
+inaccessible_name = record { token = inaccessible; meaning = means.Undefined }
+
 abbrev pub frozen_relax : Seen
 frozen_relax = record { token = token.Named (Frozen Relax); meaning = means.Prim 1 }
 
@@ -69,6 +88,10 @@ digit = character other 49
 abbrev pub number : ℤ → Fed
 number n = Val (value.Plain (Number n)) []
 
+-- whether a keyword was there
+abbrev pub keyword : Bool → Fed
+keyword found = Val (value.Plain (Found found)) []
+
 abbrev pub list : List Token → Fed
 list ts = Val value.List ts
 
@@ -80,7 +103,11 @@ text = a_letter.token ∷ []
 
 -- a command under the name of its primitive, without prefixes
 abbrev pub call : ℕ → Call
-call n = record { primitive = n; name = Word n; long = false; outer = false; global = false }
+call n = record { head = head.Primitive n; name = Word n; long = false; outer = false; global = false }
+
+-- and under the name `\x` of a register
+abbrev pub register_call : (number : ℕ) → Call
+register_call n = record { head = head.Register register.Count n; name = x_name; long = false; outer = false; global = false }
 
 -- all that it asks for, before each item and behind the last
 abbrev pub asked : (List Fed → Ask) → List Fed → List Ask
@@ -190,7 +217,8 @@ pub record WorkedParameters : Type 0 where
   pub aftergroup : steps 15 (Tok x ∷ []) ≡ More Raw ∷ Acts (call 15) (effect.AfterGroup x) ∷ []
   pub afterassignment : steps 16 (Tok x ∷ []) ≡ More Raw ∷ Acts (call 16) (effect.AfterAssignment x) ∷ []
 
--- `\count 7=-1`; `\count 256 1`, with its report, where the second number begins with its first digit
+-- `\count 7=-1`; `\count 256 1`, with its report, where the second number begins with its first digit; `\x=7` and `\x 1`, where `\x` is the name of
+-- register 5, with `\global` and with `\long`
 pub record WorkedRegisters : Type 0 where
   pub sets :
       steps 41 (number (pos 7) ∷ Tok equals ∷ number (negsuc 0) ∷ []) ≡
@@ -198,6 +226,105 @@ pub record WorkedRegisters : Type 0 where
   pub too_great :
       steps 41 (number (pos 256) ∷ Told ∷ Tok digit ∷ number (pos 1) ∷ []) ≡
       Inner Integer false ∷ Tells (BadRegisterCode (pos 256)) false ∷ More Nonblank ∷ Inner Integer true ∷ Acts (call 41) (effect.SetNumber (loc.Register register.Count 0) (pos 1)) ∷ []
+  pub named :
+      asked (row (register_call 5)) (Tok equals ∷ number (pos 7) ∷ []) ≡
+      More Nonblank ∷ Inner Integer false ∷ Acts (register_call 5) (effect.SetNumber (loc.Register register.Count 5) (pos 7)) ∷ []
+  pub named_begins :
+      asked (row (register_call 5)) (Tok digit ∷ number (pos 1) ∷ []) ≡
+      More Nonblank ∷ Inner Integer true ∷ Acts (register_call 5) (effect.SetNumber (loc.Register register.Count 5) (pos 1)) ∷ []
+  pub named_global :
+      steps 25 (Tok (register_name 5) ∷ Tok equals ∷ number (pos 7) ∷ []) ≡
+      More want.Command ∷ More Nonblank ∷ Inner Integer false ∷ Acts (record (register_call 5) { global = true }) (effect.SetNumber (loc.Register register.Count 5) (pos 7)) ∷ []
+  pub named_long :
+      steps 23 (Tok (register_name 5) ∷ Told ∷ Tok equals ∷ number (pos 7) ∷ []) ≡
+      More want.Command ∷ Tells (LongOrOuterWith (means.Register register.Count 5)) false ∷ More Nonblank ∷ Inner Integer false ∷ Acts (register_call 5) (effect.SetNumber (loc.Register register.Count 5) (pos 7)) ∷ []
+
+-- `\advance\count 7 by 2`, without `by`, with `\count 256` and its report, with a parameter and with the name of register 7; what can't be used: a
+-- letter, `\relax`, `\catcode` and a name of `\chardef`, by which nothing is assigned; `\global\advance`; `\multiply` and `\divide`
+pub record WorkedArithmetic : Type 0 where
+  pub advance :
+      steps 32 (Tok (primitive 41) ∷ number (pos 7) ∷ keyword true ∷ number (pos 2) ∷ []) ≡
+      More Expanded ∷ Inner Integer false ∷ Inner (Keyword By) false ∷ Inner Integer false ∷ Acts (call 32) (effect.Compute Advance (loc.Register register.Count 7) (pos 2)) ∷ []
+  pub without :
+      steps 32 (Tok (primitive 41) ∷ number (pos 7) ∷ keyword false ∷ number (negsuc 1) ∷ []) ≡
+      More Expanded ∷ Inner Integer false ∷ Inner (Keyword By) false ∷ Inner Integer false ∷ Acts (call 32) (effect.Compute Advance (loc.Register register.Count 7) (negsuc 1)) ∷ []
+  pub too_great :
+      steps 32 (Tok (primitive 41) ∷ number (pos 256) ∷ Told ∷ keyword true ∷ number (pos 1) ∷ []) ≡
+      More Expanded ∷ Inner Integer false ∷ Tells (BadRegisterCode (pos 256)) false ∷ Inner (Keyword By) false ∷ Inner Integer false ∷ Acts (call 32) (effect.Compute Advance (loc.Register register.Count 0) (pos 1)) ∷ []
+  pub parameter :
+      steps 32 (Tok (primitive 130) ∷ keyword true ∷ number (pos 1) ∷ []) ≡ More Expanded ∷ Inner (Keyword By) false ∷ Inner Integer false ∷ Acts (call 32) (effect.Compute Advance (loc.Integer 45) (pos 1)) ∷ []
+  pub named :
+      steps 32 (Tok (register_name 7) ∷ keyword true ∷ number (pos 1) ∷ []) ≡
+      More Expanded ∷ Inner (Keyword By) false ∷ Inner Integer false ∷ Acts (call 32) (effect.Compute Advance (loc.Register register.Count 7) (pos 1)) ∷ []
+  pub letter_refused : steps 32 (Tok a_letter ∷ Told ∷ []) ≡ More Expanded ∷ Tells (CantUseAfter (means.Char letter 97) 32) false ∷ Acts (call 32) effect.Unassigned ∷ []
+  pub relax_refused : steps 33 (Tok (primitive 1) ∷ Told ∷ []) ≡ More Expanded ∷ Tells (CantUseAfter (means.Prim 1) 33) false ∷ Acts (call 33) effect.Unassigned ∷ []
+  pub code_refused : steps 34 (Tok (primitive 35) ∷ Told ∷ []) ≡ More Expanded ∷ Tells (CantUseAfter (means.Prim 35) 34) false ∷ Acts (call 34) effect.Unassigned ∷ []
+  pub character_refused : steps 32 (Tok (character_name 65) ∷ Told ∷ []) ≡ More Expanded ∷ Tells (CantUseAfter (means.CharGiven 65) 32) false ∷ Acts (call 32) effect.Unassigned ∷ []
+  pub global :
+      steps 25 (Tok (primitive 32) ∷ Tok (register_name 7) ∷ keyword true ∷ number (pos 1) ∷ []) ≡
+      More want.Command ∷ More Expanded ∷ Inner (Keyword By) false ∷ Inner Integer false ∷ Acts (record (call 32) { global = true }) (effect.Compute Advance (loc.Register register.Count 7) (pos 1)) ∷ []
+  pub global_refused :
+      steps 25 (Tok (primitive 32) ∷ Tok a_letter ∷ Told ∷ []) ≡
+      More want.Command ∷ More Expanded ∷ Tells (CantUseAfter (means.Char letter 97) 32) false ∷ Acts (record (call 32) { global = true }) effect.Unassigned ∷ []
+  pub multiply :
+      steps 33 (Tok (register_name 7) ∷ keyword true ∷ number (pos 3) ∷ []) ≡
+      More Expanded ∷ Inner (Keyword By) false ∷ Inner Integer false ∷ Acts (call 33) (effect.Compute Multiply (loc.Register register.Count 7) (pos 3)) ∷ []
+  pub divide :
+      steps 34 (Tok (register_name 7) ∷ keyword true ∷ number (pos 3) ∷ []) ≡
+      More Expanded ∷ Inner (Keyword By) false ∷ Inner Integer false ∷ Acts (call 34) (effect.Compute Divide (loc.Register register.Count 7) (pos 3)) ∷ []
+
+-- `\chardef\x=65`, `\mathchardef\x 1`, where the number begins with its first digit, and `\countdef\x=5`; numbers out of their ranges; a space and a letter
+-- in place of the name; `\global\chardef`
+pub record WorkedShorthands : Type 0 where
+  pub chardef :
+      steps 46 (Tok x ∷ Told ∷ Tok equals ∷ number (pos 65) ∷ []) ≡
+      More Raw ∷ Relaxes (call 46) x_name ∷ More Nonblank ∷ Inner Integer false ∷ Acts (call 46) (effect.Shorthand x_name (shorthand.Character 65)) ∷ []
+  pub mathchardef :
+      steps 47 (Tok x ∷ Told ∷ Tok digit ∷ number (pos 1) ∷ []) ≡
+      More Raw ∷ Relaxes (call 47) x_name ∷ More Nonblank ∷ Inner Integer true ∷ Acts (call 47) (effect.Shorthand x_name (shorthand.Math 1)) ∷ []
+  pub countdef :
+      steps 48 (Tok x ∷ Told ∷ Tok equals ∷ number (pos 5) ∷ []) ≡
+      More Raw ∷ Relaxes (call 48) x_name ∷ More Nonblank ∷ Inner Integer false ∷ Acts (call 48) (effect.Shorthand x_name (shorthand.Register register.Count 5)) ∷ []
+  pub character_too_great :
+      steps 46 (Tok x ∷ Told ∷ Tok equals ∷ number (pos 256) ∷ Told ∷ []) ≡
+      More Raw ∷ Relaxes (call 46) x_name ∷ More Nonblank ∷ Inner Integer false ∷ Tells (BadCharacterCode (pos 256)) false ∷ Acts (call 46) (effect.Shorthand x_name (shorthand.Character 0)) ∷ []
+  pub math_too_great :
+      steps 47 (Tok x ∷ Told ∷ Tok equals ∷ number (pos 32768) ∷ Told ∷ []) ≡
+      More Raw ∷ Relaxes (call 47) x_name ∷ More Nonblank ∷ Inner Integer false ∷ Tells (BadMathchar (pos 32768)) false ∷ Acts (call 47) (effect.Shorthand x_name (shorthand.Math 0)) ∷ []
+  pub math_negative :
+      steps 47 (Tok x ∷ Told ∷ Tok equals ∷ number (negsuc 0) ∷ Told ∷ []) ≡
+      More Raw ∷ Relaxes (call 47) x_name ∷ More Nonblank ∷ Inner Integer false ∷ Tells (BadMathchar (negsuc 0)) false ∷ Acts (call 47) (effect.Shorthand x_name (shorthand.Math 0)) ∷ []
+  pub math_greatest :
+      steps 47 (Tok x ∷ Told ∷ Tok equals ∷ number (pos 32767) ∷ []) ≡
+      More Raw ∷ Relaxes (call 47) x_name ∷ More Nonblank ∷ Inner Integer false ∷ Acts (call 47) (effect.Shorthand x_name (shorthand.Math 32767)) ∷ []
+  pub register_too_great :
+      steps 48 (Tok x ∷ Told ∷ Tok equals ∷ number (pos 256) ∷ Told ∷ []) ≡
+      More Raw ∷ Relaxes (call 48) x_name ∷ More Nonblank ∷ Inner Integer false ∷ Tells (BadRegisterCode (pos 256)) false ∷ Acts (call 48) (effect.Shorthand x_name (shorthand.Register register.Count 0)) ∷ []
+  pub missing :
+      steps 46 (Tok a_space ∷ Tok a_letter ∷ Told ∷ Tok inaccessible_name ∷ Told ∷ Tok a_letter ∷ number (pos 0) ∷ []) ≡
+      More Raw ∷ More Raw ∷ Inserts inaccessible MissingName true ∷ More Raw ∷ Relaxes (call 46) (Frozen Inaccessible) ∷ More Nonblank ∷ Inner Integer true ∷
+      Acts (call 46) (effect.Shorthand (Frozen Inaccessible) (shorthand.Character 0)) ∷ []
+  pub global :
+      steps 25 (Tok (primitive 46) ∷ Tok x ∷ Told ∷ Tok equals ∷ number (pos 65) ∷ []) ≡
+      More want.Command ∷ More Raw ∷ Relaxes (record (call 46) { global = true }) x_name ∷ More Nonblank ∷ Inner Integer false ∷ Acts (record (call 46) { global = true }) (effect.Shorthand x_name (shorthand.Character 65)) ∷ []
+
+-- `\the` before names of `\chardef` and `\mathchardef`; before parameters, `\endlinechar`, `\parindent` and `\lineskip`; before a register's name,
+-- `\catcode 65`, `\skip 7` and `\dimen -1`, with its report; before what can't be used, a letter and `\relax`
+pub record WorkedValues : Type 0 where
+  pub character : steps 62 (Tok (character_name 65) ∷ []) ≡ More Expanded ∷ Acts (call 62) (effect.MakeNumber (pos 65)) ∷ []
+  pub math : steps 62 (Tok (math_name 321) ∷ []) ≡ More Expanded ∷ Acts (call 62) (effect.MakeNumber (pos 321)) ∷ []
+  pub integer : steps 62 (Tok (primitive 133) ∷ []) ≡ More Expanded ∷ Acts (call 62) (effect.MakeValue (loc.Integer 48)) ∷ []
+  pub dimension : steps 62 (Tok (primitive 140) ∷ []) ≡ More Expanded ∷ Acts (call 62) (effect.MakeValue (loc.Dimension 0)) ∷ []
+  pub glue : steps 62 (Tok (primitive 161) ∷ []) ≡ More Expanded ∷ Acts (call 62) (effect.MakeValue (loc.Glue 0)) ∷ []
+  pub named : steps 62 (Tok (register_name 7) ∷ []) ≡ More Expanded ∷ Acts (call 62) (effect.MakeValue (loc.Register register.Count 7)) ∷ []
+  pub category : steps 62 (Tok (primitive 35) ∷ number (pos 65) ∷ []) ≡ More Expanded ∷ Inner Integer false ∷ Acts (call 62) (effect.MakeValue (loc.Code code.Category 65)) ∷ []
+  pub category_too_great :
+      steps 62 (Tok (primitive 35) ∷ number (pos 256) ∷ Told ∷ []) ≡ More Expanded ∷ Inner Integer false ∷ Tells (BadCharacterCode (pos 256)) false ∷ Acts (call 62) (effect.MakeValue (loc.Code code.Category 0)) ∷ []
+  pub skip : steps 62 (Tok (primitive 43) ∷ number (pos 7) ∷ []) ≡ More Expanded ∷ Inner Integer false ∷ Acts (call 62) (effect.MakeValue (loc.Register register.Skip 7)) ∷ []
+  pub dimen_negative :
+      steps 62 (Tok (primitive 42) ∷ number (negsuc 0) ∷ Told ∷ []) ≡ More Expanded ∷ Inner Integer false ∷ Tells (BadRegisterCode (negsuc 0)) false ∷ Acts (call 62) (effect.MakeValue (loc.Register register.Dimen 0)) ∷ []
+  pub letter_refused : steps 62 (Tok a_letter ∷ Told ∷ []) ≡ More Expanded ∷ Tells (CantUseAfter (means.Char letter 97) 62) false ∷ Acts (call 62) (effect.MakeNumber (pos 0)) ∷ []
+  pub relax_refused : steps 62 (Tok (primitive 1) ∷ Told ∷ []) ≡ More Expanded ∷ Tells (CantUseAfter (means.Prim 1) 62) false ∷ Acts (call 62) (effect.MakeNumber (pos 0)) ∷ []
 
 -- `\expandafter`, `\noexpand`, `\number`, `\romannumeral`, `\string` and `\meaning`, and which of them read under normal status
 pub record WorkedExpansions : Type 0 where
@@ -207,9 +334,10 @@ pub record WorkedExpansions : Type 0 where
   pub romannumeral : steps 58 (number (pos 12) ∷ []) ≡ Inner Integer false ∷ Acts (call 58) (effect.MakeRoman (pos 12)) ∷ []
   pub string : steps 59 (Tok x ∷ []) ≡ More Raw ∷ Acts (call 59) (effect.MakeString x) ∷ []
   pub meaning : steps 60 (Tok x ∷ []) ≡ More Raw ∷ Acts (call 60) (effect.MakeMeaning x) ∷ []
-  pub statuses : map reads_under_normal (54 ∷ 55 ∷ 57 ∷ 58 ∷ 59 ∷ 60 ∷ 30 ∷ []) ≡ false ∷ true ∷ false ∷ false ∷ true ∷ true ∷ false ∷ []
+  pub statuses : map (λ n. reads_under_normal (head.Primitive n)) (54 ∷ 55 ∷ 57 ∷ 58 ∷ 59 ∷ 60 ∷ 62 ∷ 30 ∷ []) ≡ false ∷ true ∷ false ∷ false ∷ true ∷ true ∷ false ∷ false ∷ []
 
--- EACH ROW that sets a code or a register begins with the character's or the register's number, from 0 to 255; a category code is at most 15.
+-- EACH ROW that sets a code or a register begins with the character's or the register's number, from 0 to 255; a category code is at most 15. Each that
+-- gives a name a character or a register reads its number, from 0 to 255, behind the name, and a mathematical character's is at most 32767.
 abbrev pub is_whole : Action → List Stage → Bool
 is_whole (action.SetCode code.Category) (NumberTo n complaint.BadCharacterCode ∷ Equals ∷ NumberTo m complaint.InvalidCode ∷ []) = (n == 255) && (m == 15)
 is_whole (action.SetCode code.Category) ss = false
@@ -217,6 +345,12 @@ is_whole (action.SetCode kind) (NumberTo n complaint.BadCharacterCode ∷ Equals
 is_whole (action.SetCode kind) ss = false
 is_whole (action.SetRegister kind) (NumberTo n complaint.BadRegisterCode ∷ Equals ∷ ss) = n == 255
 is_whole (action.SetRegister kind) ss = false
+is_whole action.GiveCharacter (NewName ∷ Equals ∷ NumberTo n complaint.BadCharacterCode ∷ []) = n == 255
+is_whole action.GiveCharacter ss = false
+is_whole action.GiveMath (NewName ∷ Equals ∷ NumberTo n complaint.BadMathchar ∷ []) = n == 32767
+is_whole action.GiveMath ss = false
+is_whole (action.GiveRegister kind) (NewName ∷ Equals ∷ NumberTo n complaint.BadRegisterCode ∷ []) = n == 255
+is_whole (action.GiveRegister kind) ss = false
 is_whole a ss = true
 
 abbrev pub are_whole : List (ℕ × Row × Action) → Bool
@@ -225,13 +359,14 @@ are_whole (first ∷ rows) = is_whole first.2 (stages_in first.1) && are_whole r
 
 -- the numbers above, and the names of their primitives
 abbrev pub numbers : List ℕ
-numbers = 8 ∷ 9 ∷ 10 ∷ 11 ∷ 15 ∷ 16 ∷ 23 ∷ 24 ∷ 25 ∷ 26 ∷ 27 ∷ 28 ∷ 29 ∷ 30 ∷ 31 ∷ 35 ∷ 36 ∷ 37 ∷ 38 ∷ 39 ∷ 40 ∷ 41 ∷ 54 ∷ 55 ∷ 57 ∷ 58 ∷ 59 ∷ 60 ∷ 128 ∷ 130 ∷ 133 ∷ 134 ∷ 139 ∷ []
+numbers = 1 ∷ 8 ∷ 9 ∷ 10 ∷ 11 ∷ 15 ∷ 16 ∷ 23 ∷ 24 ∷ 25 ∷ 26 ∷ 27 ∷ 28 ∷ 29 ∷ 30 ∷ 31 ∷ 32 ∷ 33 ∷ 34 ∷ 35 ∷ 36 ∷ 37 ∷ 38 ∷ 39 ∷ 40 ∷ 41 ∷ 42 ∷ 43 ∷ 46 ∷ 47 ∷ 48 ∷ 54 ∷ 55 ∷ 57 ∷ 58 ∷ 59 ∷ 60 ∷ 62 ∷ 128 ∷ 130 ∷ 133 ∷ 134 ∷ 139 ∷ 140 ∷ 161 ∷ []
 
 abbrev pub commands : List (List ℕ)
 commands =
-    codes "ignorespaces" ∷ codes "message" ∷ codes "errmessage" ∷ codes "show" ∷ codes "aftergroup" ∷ codes "afterassignment" ∷ codes "long" ∷ codes "outer" ∷ codes "global" ∷ codes "def" ∷ codes "gdef" ∷ codes "edef" ∷ codes "xdef" ∷
-    codes "let" ∷ codes "futurelet" ∷ codes "catcode" ∷ codes "lccode" ∷ codes "uccode" ∷ codes "sfcode" ∷ codes "mathcode" ∷ codes "delcode" ∷ codes "count" ∷ codes "expandafter" ∷ codes "noexpand" ∷ codes "number" ∷ codes "romannumeral" ∷ codes "string" ∷ codes "meaning" ∷
-    codes "globaldefs" ∷ codes "escapechar" ∷ codes "endlinechar" ∷ codes "newlinechar" ∷ codes "errorcontextlines" ∷ []
+    codes "relax" ∷ codes "ignorespaces" ∷ codes "message" ∷ codes "errmessage" ∷ codes "show" ∷ codes "aftergroup" ∷ codes "afterassignment" ∷ codes "long" ∷ codes "outer" ∷ codes "global" ∷ codes "def" ∷ codes "gdef" ∷ codes "edef" ∷ codes "xdef" ∷
+    codes "let" ∷ codes "futurelet" ∷ codes "advance" ∷ codes "multiply" ∷ codes "divide" ∷ codes "catcode" ∷ codes "lccode" ∷ codes "uccode" ∷ codes "sfcode" ∷ codes "mathcode" ∷ codes "delcode" ∷ codes "count" ∷ codes "dimen" ∷ codes "skip" ∷
+    codes "chardef" ∷ codes "mathchardef" ∷ codes "countdef" ∷ codes "expandafter" ∷ codes "noexpand" ∷ codes "number" ∷ codes "romannumeral" ∷ codes "string" ∷ codes "meaning" ∷ codes "the" ∷
+    codes "globaldefs" ∷ codes "escapechar" ∷ codes "endlinechar" ∷ codes "newlinechar" ∷ codes "errorcontextlines" ∷ codes "parindent" ∷ codes "lineskip" ∷ []
 
 pub record WorkedRows : Type 0 where
   pub names : map primitive_name numbers ≡ commands
@@ -244,4 +379,7 @@ pub record WorkedRows : Type 0 where
   pub codes : WorkedCodes
   pub parameters : WorkedParameters
   pub registers : WorkedRegisters
+  pub arithmetic : WorkedArithmetic
+  pub shorthands : WorkedShorthands
+  pub values : WorkedValues
   pub expansions : WorkedExpansions

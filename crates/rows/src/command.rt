@@ -2,17 +2,20 @@
 ghost use Rattle.std.specs.Prelude.{◌≡◌};
 ghost use Rattle.rows.specs.Table as table;
 
-use crate::stage::Complaint::{BadCharacterCode, BadRegisterCode, InvalidCode};
+use crate::arithmetic::Operation;
+use crate::internal::{FIRST_INTEGER, LAST_INTEGER};
+use crate::stage::Complaint::{BadCharacterCode, BadMathchar, BadRegisterCode, InvalidCode};
 use crate::stage::Stage;
 use crate::stage::Stage::{
-    AnyToken, ControlSequence, Equals, LetEquals, MacroText, NonblankToken, Number, NumberTo,
-    NumberUpTo, Prefixes, Space, Text,
+    AnyToken, ControlSequence, Equals, Internal, Keyword, LetEquals, MacroText, NewName,
+    NonblankToken, Number, NumberTo, NumberUpTo, Prefixes, Space, Text, Variable,
 };
 use Action::{
-    AfterAssignment, AfterGroup, Define, DefineGlobally, ErrorMessage, ExpandBehind, FutureLet,
-    Let, MakeMeaning, MakeNumber, MakeRoman, MakeString, Message, Nothing, Obey, PutMarked,
-    SetCode, SetInteger, SetRegister, Show,
+    AfterAssignment, AfterGroup, Compute, Define, DefineGlobally, ErrorMessage, ExpandBehind,
+    FutureLet, GiveCharacter, GiveMath, GiveRegister, Let, MakeMeaning, MakeNumber, MakeRoman,
+    MakeString, MakeValue, Message, Nothing, Obey, PutMarked, SetAt, SetCode, SetRegister, Show,
 };
+use Head::{Primitive, Register};
 use Row::{Four, One, Three, Two};
 use equivalents::CodeKind::{Category, Delimiter, Lowercase, Math, SpaceFactor, Uppercase};
 use equivalents::{CodeKind, Loc};
@@ -75,10 +78,18 @@ pub enum Action {
     FutureLet,
     /// A character gets a code of this kind.
     SetCode(CodeKind),
-    /// The integer parameter at this place gets a value.
-    SetInteger(u8),
+    /// This location gets a value.
+    SetAt(Loc),
     /// A register of this kind gets a number.
     SetRegister(RegisterKind),
+    /// What stands at a location is changed by arithmetic.
+    Compute(Operation),
+    /// The name stands for a character.
+    GiveCharacter,
+    /// It stands for a mathematical character.
+    GiveMath,
+    /// It stands for a register of this kind.
+    GiveRegister(RegisterKind),
     AfterGroup,
     AfterAssignment,
     ExpandBehind,
@@ -87,6 +98,17 @@ pub enum Action {
     MakeRoman,
     MakeString,
     MakeMeaning,
+    MakeValue,
+}
+
+/// What a shorthand definition makes a name stand for. *The TeXbook*, chapter 24; *TeX: The Program*, part 49 (`shorthand_def`).
+#[derive(Clone, Copy)]
+pub enum Shorthand {
+    /// This character.
+    Character(u8),
+    /// A mathematical character, by its code.
+    Math(u16),
+    Register { kind: RegisterKind, no: u8 },
 }
 
 /// What a command does with what it has read; where its list is spoken of, it is the one read last.
@@ -107,6 +129,12 @@ pub enum Effect {
     FutureLet(Name, Seen, Seen),
     /// The location gets the number as its value.
     SetNumber(Loc, i32),
+    /// What stands at the location is changed by arithmetic with the number; where the result is out of bounds, this is reported.
+    Compute(Operation, Loc, i32),
+    /// The name stands for this.
+    Shorthand(Name, Shorthand),
+    /// An assignment that assigns nothing.
+    Unassigned,
     /// The token is kept for the end of the innermost group, if one is open.
     AfterGroup(Seen),
     /// The token is kept for the end of the next assignment.
@@ -125,16 +153,27 @@ pub enum Effect {
     MakeString(Seen),
     /// The text of what it means is put in front.
     MakeMeaning(Seen),
+    /// The text of what stands at the location is put in front.
+    MakeValue(Loc),
     /// The name of the list's characters is entered, means `\relax` in this group where it meant nothing, and is put in front.
     MakeName,
     /// The file is opened whose name is the list's characters; the token behind the name, if it is to go back, goes back first.
     StartInput(bool),
 }
 
-/// A command that is read: the number of its primitive, its name as it was written, and the prefixes that stood before it.
+/// What the name of a command that is read means.
+#[derive(Clone, Copy)]
+pub enum Head {
+    /// The primitive of this number.
+    Primitive(u16),
+    /// A register.
+    Register(RegisterKind, u8),
+}
+
+/// A command that is read: what its name means, its name as it was written, and the prefixes that stood before it.
 #[derive(Clone, Copy)]
 pub struct Call {
-    pub primitive: u16,
+    pub head: Head,
     pub name: Name,
     pub long: bool,
     pub outer: bool,
@@ -153,10 +192,8 @@ const REGISTER: Stage = NumberTo(255, BadRegisterCode);
 /// A small or a capital letter of a character, or 0.
 const OTHER_CASE: Stage = NumberTo(255, InvalidCode);
 
-/// The first and the last of the integer parameters.
-const FIRST_INTEGER: u16 = 85;
-
-const LAST_INTEGER: u16 = 139;
+/// A variable, perhaps `by`, and a number.
+const ARITHMETIC: Row = Three(Variable, Keyword(crate::words::Keyword::By), Number);
 
 /// What the primitives read, by their numbers, and what they do then; the integer parameters, which all read the same, are left out.
 pub const SYNTAX: &[(u16, Row, Action)] = &[
@@ -175,6 +212,9 @@ pub const SYNTAX: &[(u16, Row, Action)] = &[
     (29, Two(ControlSequence, MacroText(true)), DefineGlobally),
     (30, Four(ControlSequence, LetEquals, Space, AnyToken), Let),
     (31, Three(ControlSequence, AnyToken, AnyToken), FutureLet),
+    (32, ARITHMETIC, Compute(Operation::Advance)),
+    (33, ARITHMETIC, Compute(Operation::Multiply)),
+    (34, ARITHMETIC, Compute(Operation::Divide)),
     (
         35,
         Three(CHARACTER_CODE, Equals, CATEGORY),
@@ -210,12 +250,24 @@ pub const SYNTAX: &[(u16, Row, Action)] = &[
         Three(REGISTER, Equals, Number),
         SetRegister(RegisterKind::Count),
     ),
+    (46, Three(NewName, Equals, CHARACTER_CODE), GiveCharacter),
+    (
+        47,
+        Three(NewName, Equals, NumberTo(32767, BadMathchar)),
+        GiveMath,
+    ),
+    (
+        48,
+        Three(NewName, Equals, REGISTER),
+        GiveRegister(RegisterKind::Count),
+    ),
     (54, Two(AnyToken, AnyToken), ExpandBehind),
     (55, One(AnyToken), PutMarked),
     (57, One(Number), MakeNumber),
     (58, One(Number), MakeRoman),
     (59, One(AnyToken), MakeString),
     (60, One(AnyToken), MakeMeaning),
+    (62, One(Internal), MakeValue),
 ];
 
 /// The row of a primitive and what it does, among these.
@@ -232,21 +284,35 @@ fn find_among(number: u16, rows: &[(u16, Row, Action)]) -> Option<(Row, Action)>
 }
 
 /// The row of a primitive and what it does, if it is read by a row.
-pub fn find_row(number: u16) -> Option<(Row, Action)>
-    ensures { result ≡ table.find_row number }
+fn find_primitive(number: u16) -> Option<(Row, Action)>
+    ensures { result ≡ table.primitive_row number }
 {
     if (FIRST_INTEGER..=LAST_INTEGER).contains(&number) {
         let place = (number - FIRST_INTEGER) as u8;
-        return Some((Two(Equals, Number), SetInteger(place)));
+        return Some((Two(Equals, Number), SetAt(Loc::Integer(place))));
     }
     find_among(number, SYNTAX)
 }
 
-/// The row of a primitive that is read by a row, and what it does.
-pub fn row_of(number: u16) -> (Row, Action)
-    ensures { result ≡ table.row_of number }
+/// The row of a command and what it does, if it is read by a row.
+pub fn find_row(head: Head) -> Option<(Row, Action)>
+    ensures { result ≡ table.find_row head }
 {
-    match find_row(number) {
+    match head {
+        Primitive(number) => find_primitive(number),
+        Register(RegisterKind::Count, no) => {
+            let kind = RegisterKind::Count;
+            Some((Two(Equals, Number), SetAt(Loc::Register { kind, no })))
+        }
+        Register(..) => None,
+    }
+}
+
+/// The row of a command that is read by a row, and what it does.
+pub fn row_of(head: Head) -> (Row, Action)
+    ensures { result ≡ table.row_of head }
+{
+    match find_row(head) {
         Some(row) => row,
         None => (One(AnyToken), Nothing),
     }

@@ -6,6 +6,11 @@ use equivalents::{CodeKind, Loc};
 use tex_defs::{Meaning, RegisterKind};
 use tex_syntax::Report;
 
+/// The first and the last of the parameters that are integers.
+pub(crate) const FIRST_INTEGER: u16 = 85;
+
+pub(crate) const LAST_INTEGER: u16 = 139;
+
 /// Locations that are told by a number from 0 to 255 behind a name. *The TeXbook*, chapters 7 and 15.
 #[derive(Clone, Copy)]
 pub enum Bank {
@@ -61,7 +66,7 @@ fn internal_parameter(number: u16) -> Option<Internal>
     ensures found { internal.IsFound result }
 {
     let loc = match number {
-        85..=139 => Loc::Integer((number - 85) as u8),
+        FIRST_INTEGER..=LAST_INTEGER => Loc::Integer((number - FIRST_INTEGER) as u8),
         140..=160 => Loc::Dimension((number - 140) as u8),
         161..=178 => Loc::Glue((number - 161) as u8),
         _ => return None,
@@ -119,5 +124,40 @@ pub fn is_mu(loc: Loc) -> bool
         } => true,
         Loc::Glue(i) => i >= 15,
         _ => false,
+    }
+}
+
+/// Whether a dimension stands there, in sp.
+pub fn is_dimension(loc: Loc) -> bool
+    ensures { result ≡ internal.is_dimension loc }
+{
+    match loc {
+        Loc::Register {
+            kind: RegisterKind::Dimen,
+            no: _,
+        } => true,
+        Loc::Dimension(_) => true,
+        _ => false,
+    }
+}
+
+/// A register or a parameter that arithmetic changes: those of integers, until dimensions and glue are read.
+pub fn variable_of(meaning: Meaning<()>) -> Option<Internal>
+    ensures is { result ≡ internal.variable_of meaning }
+    ensures found { internal.IsFound result }
+{
+    match meaning {
+        Meaning::Register {
+            kind: RegisterKind::Count,
+            no,
+        } => {
+            let kind = RegisterKind::Count;
+            Some(Internal::At(Loc::Register { kind, no }))
+        }
+        Meaning::Prim(41) => Some(Internal::Numbered(Bank::Registers(RegisterKind::Count))),
+        Meaning::Prim(number) if (FIRST_INTEGER..=LAST_INTEGER).contains(&number) => {
+            Some(Internal::At(Loc::Integer((number - FIRST_INTEGER) as u8)))
+        }
+        _ => None,
     }
 }

@@ -4,17 +4,19 @@
 //! `specs/Stages.antt` what each stage makes of a token and of a value, `specs/Run.antt` what a row asks for.
 #![tactic(auto)]
 
+mod arithmetic;
 mod command;
 mod internal;
 mod laws;
 mod stage;
 mod words;
 
-pub use command::{Action, Call, Effect, Prefix, Row, SYNTAX, find_row, row_of};
-pub use internal::{Bank, Internal, byte_of, internal_of, is_mu};
+pub use arithmetic::{Operation, computed};
+pub use command::{Action, Call, Effect, Head, Prefix, Row, SYNTAX, Shorthand, find_row, row_of};
+pub use internal::{Bank, Internal, byte_of, internal_of, is_dimension, is_mu, variable_of};
 pub use laws::{
     macros_have_bodies, notes_are_single, readings_begin_lower, readings_start, rows_have_no_value,
     worked_rows,
 };
 pub use stage::{Complaint, Got, Met, Next, Note, Stage, Start};
-pub use words::{Datum, Kind, Value};
+pub use words::{Datum, Keyword, Kind, Value};

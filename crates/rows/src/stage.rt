@@ -1,7 +1,8 @@
 // The stages of the rows, and what a stage makes of what it reads.
 use crate::command::{Call, Prefix};
-use crate::words::{Datum, Kind};
-use tex_defs::Token;
+use crate::internal::Bank;
+use crate::words::{Datum, Keyword, Kind};
+use tex_defs::{Name, Token};
 use tex_syntax::{Report, Want};
 
 /// How a number that is out of its range is reported.
@@ -9,6 +10,7 @@ use tex_syntax::{Report, Want};
 pub enum Complaint {
     BadCharacterCode,
     BadRegisterCode,
+    BadMathchar,
     InvalidCode,
 }
 
@@ -25,6 +27,14 @@ pub enum Stage {
     Equals,
     /// The name that is assigned.
     ControlSequence,
+    /// The name that a shorthand definition defines: it means `\relax` from here.
+    NewName,
+    /// A register or a parameter that arithmetic changes.
+    Variable,
+    /// What stands for a number, a dimension or glue.
+    Internal,
+    /// An optional keyword.
+    Keyword(Keyword),
     /// The optional `=` of `\let`, behind spaces.
     LetEquals,
     /// One optional space.
@@ -57,16 +67,20 @@ pub enum Next {
     Takes(Datum),
     /// The command is over.
     Stops,
+    /// The command, an assignment, is over, and has assigned nothing.
+    Fails(Call),
     /// It goes on as this command, from the beginning.
     Turns(Call),
 }
 
-/// What is reported in the middle of a row; the token that was met may be given back before.
+/// What is reported or done in the middle of a row; the token that was met may be given back before a report.
 #[derive(Clone, Copy)]
 pub enum Note {
     Tells(Report, bool),
     /// This token is inserted before the report.
     Inserts(Token, Report, bool),
+    /// The name becomes `\relax`.
+    Relaxes(Call, Name),
 }
 
 /// What a stage makes of a token.
@@ -84,6 +98,8 @@ pub enum Met {
     Notes(Note, Next),
     /// The note comes, and the stage is read again.
     Retries(Note),
+    /// The number of a register or of a character comes, whose location is what it reads.
+    Numbers(Bank),
     /// The command goes on as this one, from the beginning.
     Turns(Call),
 }

@@ -1,6 +1,30 @@
 // What readings read and come to.
 use crate::command::Call;
+use equivalents::Loc;
 use tex_defs::{Name, Seen};
+
+/// A keyword, by its letters. *The TeXbook*, chapter 24; *TeX: The Program*, part 26 (`scan_keyword`).
+#[derive(Clone, Copy)]
+pub enum Keyword {
+    By,
+    Plus,
+    Minus,
+    Fil,
+    L,
+    True,
+    Em,
+    Ex,
+    Pt,
+    In,
+    Pc,
+    Cm,
+    Mm,
+    Bp,
+    Dd,
+    Cc,
+    Sp,
+    Mu,
+}
 
 /// What a stage has read.
 #[derive(Clone, Copy)]
@@ -9,6 +33,10 @@ pub enum Datum {
     /// The name that is assigned.
     Named(Name),
     Taken(Seen),
+    /// The location that a command uses.
+    At(Loc),
+    /// Whether a keyword was there.
+    Found(bool),
 }
 
 /// The value of a reading; its list of tokens, where it has one, goes beside it.
@@ -24,6 +52,8 @@ pub enum Kind {
     /// A command or an expansion: its row.
     Command(Call),
     Integer,
+    /// An optional keyword.
+    Keyword(Keyword),
     /// A balanced text of the command of this name, as it was written, and whether it is expanded.
     Text(Name, bool),
     /// The list of the macro of this name, and whether its body is expanded.

@@ -6,6 +6,6 @@ mod digits;
 mod laws;
 mod number;
 
-pub use digits::Radix;
+pub use digits::{Radix, integer_of};
 pub use laws::{constants_are_read, digits_are_read, texts_are_read_back};
 pub use number::{Ask, NumberScan, Place};

@@ -9,17 +9,17 @@ use Rattle.tex_defs.specs.declared.Sizes.{Sizes}
 use Rattle.tex_defs.specs.declared.Token.{Token}
 use Rattle.plain_tokens.specs.Meanings.{is_listed}
 use Rattle.plain_tokens.specs.Tables.{refused}
-use Rattle.equivalents.specs.declared.values.CodeKind.{CodeKind}
 use Rattle.equivalents.specs.declared.values.CodeKind.TheVariants as code
 use Rattle.tex_defs.specs.declared.RegisterKind.TheVariants as register
 use Rattle.equivalents.specs.declared.values.Loc.{Loc}
 use Rattle.equivalents.specs.declared.values.Loc.TheVariants as loc
 use Rattle.equivalents.specs.declared.values.Val.TheVariants as val
-use Rattle.equivalents.specs.Locations.{meaning_of}
-use Rattle.equivalents.specs.Groups.{Groups, set, set_demands}
+use Rattle.equivalents.specs.Locations.{IsInRow, Suits, meaning_of}
+use Rattle.equivalents.specs.Groups.{Groups, IsLocation, set, set_demands}
 use Rattle.equivalents.specs.Holding.{lists_held}
 use Rattle.equivalents.specs.Tables.{Tables, put}
 use Rattle.rows.specs.declared.command.Call.{Call}
+use Rattle.rows.specs.declared.command.Shorthand.{Shorthand}
 use Rattle.rows.specs.declared.command.Effect.{Effect}
 use Rattle.rows.specs.declared.command.Effect.TheVariants as effect
 use Rattle.plain_machine.specs.States.{State, Move, Set}
@@ -90,6 +90,11 @@ pub number_cuts : (sizes : Sizes) (e : Engine) (i : Stored) (book : Book) (w : W
 number_cuts sizes e i book w global l z more full same st refuses =
     unchanged_cuts sizes e i book w (Set global l (val.Number z)) more full same (asks_same sizes e book (Some full) st.sound _ _ (set_demands_of book.number global e.input.groups l) refuses)
 
+-- where a number may stand there is a location
+pub number_location : (g : Groups) (l : Loc) (z : ℤ) → IsInRow l → Suits l (val.Number z) → IsLocation g l
+number_location g (loc.Means n) z row suits = absurd suits
+number_location g l z row suits = row
+
 -- BEHIND AN ASSIGNMENT
 
 -- another token is to come behind the next one
@@ -153,12 +158,14 @@ front_stands sizes e e' book front idle st = name_stands sizes e e' book front.f
 
 -- another effect is what is put in front
 pub put_alone : (page : Page) (c : Call) (x : Effect) → ((s : Seen) → x ≡ effect.Show s → ⊥) → ((n : Name) (s : Seen) → x ≡ effect.Let n s → ⊥) → ((n : Name) (s t : Seen) → x ≡ effect.FutureLet n s t → ⊥) →
-    ((l : Loc) (value : ℤ) → x ≡ effect.SetNumber l value → ⊥) → ((s : Seen) → x ≡ effect.AfterGroup s → ⊥) → ((s : Seen) → x ≡ effect.AfterAssignment s → ⊥) →
+    ((l : Loc) (value : ℤ) → x ≡ effect.SetNumber l value → ⊥) → ((n : Name) (h : Shorthand) → x ≡ effect.Shorthand n h → ⊥) → (x ≡ effect.Unassigned → ⊥) → ((s : Seen) → x ≡ effect.AfterGroup s → ⊥) → ((s : Seen) → x ≡ effect.AfterAssignment s → ⊥) →
     done_alone page c x ≡ put_by page x
-put_alone page c (effect.Show s) shows lets later numbers groups behind = absurd (shows s refl)
-put_alone page c (effect.Let n s) shows lets later numbers groups behind = absurd (lets n s refl)
-put_alone page c (effect.FutureLet n s t) shows lets later numbers groups behind = absurd (later n s t refl)
-put_alone page c (effect.SetNumber l value) shows lets later numbers groups behind = absurd (numbers l value refl)
-put_alone page c (effect.AfterGroup s) shows lets later numbers groups behind = absurd (groups s refl)
-put_alone page c (effect.AfterAssignment s) shows lets later numbers groups behind = absurd (behind s refl)
-put_alone page c x shows lets later numbers groups behind = refl
+put_alone page c (effect.Show s) shows lets later numbers shorts ends groups behind = absurd (shows s refl)
+put_alone page c (effect.Let n s) shows lets later numbers shorts ends groups behind = absurd (lets n s refl)
+put_alone page c (effect.FutureLet n s t) shows lets later numbers shorts ends groups behind = absurd (later n s t refl)
+put_alone page c (effect.SetNumber l value) shows lets later numbers shorts ends groups behind = absurd (numbers l value refl)
+put_alone page c (effect.Shorthand n h) shows lets later numbers shorts ends groups behind = absurd (shorts n h refl)
+put_alone page c effect.Unassigned shows lets later numbers shorts ends groups behind = absurd (ends refl)
+put_alone page c (effect.AfterGroup s) shows lets later numbers shorts ends groups behind = absurd (groups s refl)
+put_alone page c (effect.AfterAssignment s) shows lets later numbers shorts ends groups behind = absurd (behind s refl)
+put_alone page c x shows lets later numbers shorts ends groups behind = refl

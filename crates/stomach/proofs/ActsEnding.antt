@@ -1,29 +1,32 @@
 -- A command does what it does, and its reading ends.
-use Rattle.std.proofs.Common.{◌≡◌, ◌+◌, ◌-◌, ◌≤◌, ◌<◌, List, [], ◌∷◌, ◌++◌, length, refl, sym, ap, subst, ◌∙◌, arith}
+use Rattle.std.proofs.Common.{◌≡◌, ℤ, List, [], ◌∷◌, ◌++◌, refl, sym, ap, subst, ◌∙◌, arith}
 use Rattle.std.proofs.lemmas.List.{append-nil}
 use Rattle.std.specs.Prelude.{Bool, Option, Some, None}
 use Rattle.tex_syntax.specs.declared.words.Outcome.{Outcome}
+use Rattle.tex_syntax.specs.declared.words.Report.TheVariants.{ArithmeticOverflow}
+use Rattle.plain_state.specs.Reports.{report_bytes}
+use Rattle.rows.specs.Arithmetic.{computed}
 use Rattle.tex_defs.specs.declared.Full.{Full}
 use Rattle.tex_defs.specs.declared.Seen.{Seen}
 use Rattle.tex_defs.specs.declared.Sizes.{Sizes}
 use Rattle.tex_defs.specs.declared.Token.{Token}
-use Rattle.tex_defs.specs.Places.{World}
+use Rattle.tex_defs.specs.Places.{World, Transcript}
 use Rattle.world_io.specs.Told.{FilesTold, SinkTold, world}
+use Rattle.equivalents.specs.declared.values.Loc.{Loc}
+use Rattle.rows.specs.declared.arithmetic.Operation.{Operation}
 use Rattle.rows.specs.declared.command.Call.{Call}
 use Rattle.rows.specs.declared.command.Effect.{Effect}
 use Rattle.rows.specs.declared.command.Effect.TheVariants as effect
 use Rattle.rows.specs.Readings.{Ask, Acts}
 use Rattle.plain_readings.specs.Readings.{Kind, Behind, Reading, ask, opened}
-use Rattle.plain_readings.specs.Weights.{frame_weight, act_weight}
 use Rattle.reading_frames.specs.Resumes.{resume}
-use Rattle.reading_frames.specs.Stack.{Stack, asks_in}
-use Rattle.reading_frames.specs.Weights.{innermost_weight}
+use Rattle.reading_frames.specs.Stack.{asks_in}
 use Rattle.reading_frames.specs.Stands as frames
 use Rattle.reading_frames.specs.declared.frame.Frame.{Frame}
-use Rattle.plain_machine.specs.States.{State, Move, Closed, Begun, made}
+use Rattle.plain_machine.specs.States.{State, Move, Closed, Begun, Reported, Written, made}
 use Rattle.plain_machine.specs.Demands.{refusal}
 use Rattle.plain_machine.specs.Plan as plan
-use Rattle.plain_machine.specs.Plan.{Page, acts, command, expanded, put_one}
+use Rattle.plain_machine.specs.Plan.{Page, acts, behind_assignment, command, computed_to, expanded, put_one, style_of}
 use Rattle.plain_machine.specs.Runs.{steps}
 use Rattle.plain_machine.specs.Does.{Did}
 use Rattle.plain_machine.proofs.Doing.{did_join, did_one}
@@ -38,21 +41,19 @@ use Rattle.engine_state.specs.declared.outcome.Ruled.TheVariants.{Step, Free, Ha
 use Rattle.engine_state.specs.Book.{Book, with_work}
 use Rattle.engine_state.specs.Calls.{FramesOf}
 use Rattle.engine_state.specs.CutReadings.{CutsIn}
-use Rattle.engine_state.specs.Rules.{world_of, Cuts, Went, Halts, DoesOnward}
-use Rattle.engine_state.specs.Stands.{Stands, FramesStand, SameBut, SameFrames, SameOthers, SameStore, state_of, page_of}
+use Rattle.engine_state.specs.Rules.{world_of, Cuts, Reports, Went, Halts, DoesOnward}
+use Rattle.engine_state.specs.Stands.{Stands, FramesStand, SameFrames, SameOthers, SameStore, state_of, page_of}
 use Rattle.gullet.specs.Stepping.{ExpandsOnce, EndsRun}
-use Rattle.engine_state.specs.Steps.{asked, freed, pending_weight, weight, IsHalted}
+use Rattle.engine_state.specs.Steps.{asked, freed, IsHalted}
 use Rattle.engine_state.proofs.Uncalled.{all_of}
 use Rattle.engine_state.proofs.CallKept.{frames_kept}
-use Rattle.gullet.proofs.CallWeighing.{lighter_by}
 use Rattle.gullet.proofs.JobName.{name_stands}
-use Rattle.engine_state.proofs.Joining.{quiet_wrote, halts_on, halts_least, went_on}
+use Rattle.engine_state.proofs.Joining.{quiet_wrote, halts_on, halts_least, went_by, went_on}
 use Rattle.engine_state.proofs.CuttingReadings.{later_in, stands_in, in_by}
 use Rattle.engine_state.proofs.Reporting.{full_out}
 use Rattle.engine_state.proofs.Standing.{same_engine}
 use Rattle.gullet.proofs.Stepping.{free_of}
-use Rattle.engine_state.proofs.Weighing.{acted_lighter}
-use Rattle.stomach.specs.Effects.{done_alone, IsAlone, IsSmall}
+use Rattle.stomach.specs.Effects.{done_alone, integer_at, IsAlone, IsSmall}
 use Rattle.stomach.specs.Halting.{DoesRuleIn}
 use Rattle.stomach.proofs.Codes.{SetsSmall, sets_small}
 
@@ -62,12 +63,14 @@ use Rattle.stomach.proofs.Codes.{SetsSmall, sets_small}
 pub alone_acts : (page : Page) (c : Call) (e : Effect) → IsAlone e → acts page c e ≡ done_alone page c e ++ Closed ∷ []
 alone_acts page c (effect.Obey x) h = absurd h
 alone_acts page c (effect.ExpandBehind x y) h = absurd h
+alone_acts page c (effect.Compute operation l n) h = absurd h
 alone_acts page c e h = refl
 
-pub is_alone : (e : Effect) → ((x : Seen) → e ≡ effect.Obey x → ⊥) → ((x y : Seen) → e ≡ effect.ExpandBehind x y → ⊥) → IsAlone e
-is_alone (effect.Obey x) obeys expands = obeys x refl
-is_alone (effect.ExpandBehind x y) obeys expands = expands x y refl
-is_alone e obeys expands = tt
+pub is_alone : (e : Effect) → ((x : Seen) → e ≡ effect.Obey x → ⊥) → ((x y : Seen) → e ≡ effect.ExpandBehind x y → ⊥) → ((operation : Operation) (l : Loc) (n : ℤ) → e ≡ effect.Compute operation l n → ⊥) → IsAlone e
+is_alone (effect.Obey x) obeys expands computes = obeys x refl
+is_alone (effect.ExpandBehind x y) obeys expands computes = expands x y refl
+is_alone (effect.Compute operation l n) obeys expands computes = computes operation l n refl
+is_alone e obeys expands computes = tt
 
 asks_as : (fs : List Frame) (held : List (List Token)) (r : Reading) (rs : List Reading) (a : Ask) → frames.FramesStand fs held (r ∷ rs) → asks_in fs held ≡ Some a → ask r.kind r.fed ≡ a
 asks_as [] held r rs a st asks = absurd st
@@ -264,17 +267,40 @@ module _ (sizes : Sizes) (e e1 : Engine) (book : Book) (r : Reading) (rs : List 
     count = free_of (acts (page_of e book) c does) (acts_none (page_of e book) c does);
   }
 
--- AND BECOMES LIGHTER
+-- A RESULT OUT OF BOUNDS IS REPORTED, and the command ends behind what comes behind an assignment
 
-some_open : (fs : List Frame) (a : Ask) → asks_in fs [] ≡ Some a → 1 ≤ length fs
-some_open [] a asks = absurd cc
-some_open (f ∷ fs) a asks = omega arith
+module _ (sizes : Sizes) (e e1 e2 : Engine) (book : Book) (r : Reading) (rs : List Reading) (f : FilesTold) (s0 s1 s2 : SinkTold) (c : Call) (l : Loc) where
+  abbrev over : Book
+  over = with_work (r ∷ rs) book
 
--- behind what changes no reading
-pub ended_lighter : (e e1 e2 : Engine) (c : Call) (does : Effect) → e.call ≡ None → SameFrames e e1 → pending_weight e1.input.pending ≡ pending_weight e.input.pending → SameBut e1 e2 → length e2.readings.frames ≡ length e1.readings.frames - 1 →
-    innermost_weight e2.readings.frames < frame_weight + act_weight → asks_in e.readings.frames [] ≡ Some (Acts c does) → weight e2 < weight e
-ended_lighter e e1 e2 c does none same left closed count light asks =
-    let fs : e1.readings.frames ≡ e.readings.frames = ap (λ (stack : Stack). stack.frames) same.readings in
-    let now : asks_in e1.readings.frames [] ≡ Some (Acts c does) = ap (λ (fs : List Frame). asks_in fs []) fs ∙ asks in
-    lighter_by e e1 e2 same left
-    (acted_lighter e1 e2 (same.call ∙ none) (closed.others.call ∙ (same.call ∙ none)) closed.pending (Acts c does) now tt (some_open e1.readings.frames (Acts c does) now) count light)
+  -- what is done alone then
+  abbrev rest : List Move
+  rest = acts (page_of e book) c effect.Unassigned
+
+  abbrev moves_of : List Move
+  moves_of = computed_to (page_of e book) c l None
+
+  module _ (h : Reports sizes (state_of e over) (state_of e1 over) (world_of f s0 e) (world_of f s1 e1) (page_of e book) ArithmeticOverflow rest) where
+    same_rest : acts (page_of e1 book) c effect.Unassigned ≡ rest
+    same_rest = ap (λ (o : Option Token). behind_assignment o ++ Closed ∷ []) (sym (ap (λ (s : State). s.after) h.did.state))
+
+    abbrev written : List Move
+    written = Written Transcript (report_bytes (style_of (page_of e book)) e.in_line e.input.pending.number ArithmeticOverflow) ∷ Reported ∷ []
+
+    pub overflow_went : Went sizes (state_of e1 over) e2 (world_of f s1 e1) (world_of f s2 e2) (acts (page_of e1 book) c effect.Unassigned) 0 → Went sizes (state_of e over) e2 (world_of f s0 e) (world_of f s2 e2) moves_of 0
+    overflow_went went =
+        went_by sizes (state_of e over) e2 (world_of f s0 e) (world_of f s2 e2) (written ++ rest) moves_of 0 h.moves
+        (went_on sizes (state_of e over) (state_of e1 over) e2 (world_of f s0 e) (world_of f s1 e1) (world_of f s2 e2) written rest 0 0 h.did refl
+        (subst (λ (ms : List Move). Went sizes (state_of e1 over) e2 (world_of f s1 e1) (world_of f s2 e2) ms 0) same_rest went))
+
+    pub overflow_cut : (b : Broken) → CutsIn sizes (state_of e1 over) e2 (world_of f s1 e1) (world_of f s2 e2) (acts (page_of e1 book) c effect.Unassigned) b → CutsIn sizes (state_of e over) e2 (world_of f s0 e) (world_of f s2 e2) moves_of b
+    overflow_cut b cuts =
+        in_by sizes (state_of e over) e2 (world_of f s0 e) (world_of f s2 e2) (written ++ rest) moves_of b h.moves
+        (later_in sizes (state_of e over) (state_of e1 over) e2 (world_of f s0 e) (world_of f s1 e1) (world_of f s2 e2) written rest b h.did
+        (subst (λ (ms : List Move). CutsIn sizes (state_of e1 over) e2 (world_of f s1 e1) (world_of f s2 e2) ms b) same_rest cuts))
+
+-- WHAT ARITHMETIC COMES TO
+
+pub computed_moves : (e : Engine) (book : Book) (c : Call) (operation : Operation) (l : Loc) (value n : ℤ) (o : Option ℤ) → value ≡ integer_at (page_of e book).now l → computed operation value n ≡ o →
+    acts (page_of e book) c (effect.Compute operation l n) ≡ computed_to (page_of e book) c l o
+computed_moves e book c operation l value n o at is = ap (computed_to (page_of e book) c l) (ap (λ (v : ℤ). computed operation v n) (sym at) ∙ is)

@@ -7,14 +7,15 @@ use Rattle.std.proofs.lemmas.List.{length-map, length-set}
 use Rattle.tex_defs.specs.Places.{World}
 use Rattle.tex_defs.specs.declared.Full.{Full}
 use Rattle.tex_defs.specs.declared.Meaning.{Meaning}
+use Rattle.tex_defs.specs.declared.Meaning.TheVariants as means
 use Rattle.tex_defs.specs.declared.Name.{Name}
 use Rattle.tex_defs.specs.declared.Seen.{Seen}
 use Rattle.tex_defs.specs.declared.Sizes.{Sizes}
 use Rattle.plain_tokens.specs.Meanings.{is_listed, location, meaning_to_let}
 use Rattle.plain_tokens.specs.Tables.{refused}
 use Rattle.equivalents.specs.Groups.{Groups, placed, placed_demands, place_of, set_placed, set_name, name_demands}
-use Rattle.equivalents.specs.Holding.{lists_held}
-use Rattle.meanings.specs.Kept.{IsPlaced}
+use Rattle.equivalents.specs.Holding.{list_of, lists_held}
+use Rattle.meanings.specs.Kept.{IsPlaced, without_list}
 use Rattle.plain_machine.specs.States.{Move, Assigned}
 use Rattle.plain_machine.specs.Plan.{Page, put_one}
 use Rattle.plain_machine.specs.Numbers.{groups_of, meaning_of, meanings_of}
@@ -90,6 +91,39 @@ pub named_cuts : (sizes : Sizes) (e : Engine) (i : Stored) (book : Book) (w : Wo
     Cuts sizes (state_of e book) (record e { input = i }) book w w (Assigned global name m ∷ more) (broken.Full full)
 named_cuts sizes e i book w global name m more full same st refuses =
     unchanged_cuts sizes e i book w (Assigned global name m) more full same (asks_same sizes e book (Some full) st.sound _ _ (name_demands_of book.number global e.input.groups name) refuses)
+
+-- A MEANING WITHOUT A LIST has the same numbers, and holds nothing
+
+bare_of : (number : ℕ → ℕ) (m : Meaning Unit) → without_list m ≡ meaning_of number (without_list m)
+bare_of number means.Undefined = refl
+bare_of number means.RelaxMarked = refl
+bare_of number (means.Char cat code) = refl
+bare_of number (means.CharGiven code) = refl
+bare_of number (means.MathGiven code) = refl
+bare_of number (means.Register kind n) = refl
+bare_of number (means.Prim n) = refl
+bare_of number (means.Macro long outer list) = refl
+
+bare_list : (m : Meaning Unit) → list_of (without_list m) ≡ None
+bare_list means.Undefined = refl
+bare_list means.RelaxMarked = refl
+bare_list (means.Char cat code) = refl
+bare_list (means.CharGiven code) = refl
+bare_list (means.MathGiven code) = refl
+bare_list (means.Register kind n) = refl
+bare_list (means.Prim n) = refl
+bare_list (means.Macro long outer list) = refl
+
+bare_held : (k : ℕ) (global : Bool) (g : Groups) (n : Name) (m : Meaning Unit) → is_listed (lists_held (set_name global g n (without_list m))) k ≡ true → is_listed (lists_held g) k ≡ true
+bare_held k global g n m held = ⊎_elim (λ own. (let none = rw (bare_list m) at own in cc)) (λ was. was) (name_cases k global g n (without_list m) held)
+
+module _ (e : Engine) (i : Stored) (global : Bool) (name : Name) (m : Meaning Unit) (is : i ≡ record e.input { groups = set_name global e.input.groups name (without_list m); lists = i.lists }) where
+  pub bare_did : (sizes : Sizes) (w : World) (book : Book) → Stands sizes e book → refused e.input.sizes (name_demands global e.input.groups name) ≡ None →
+      Did sizes (state_of e book) (state_of (record e { input = i }) book) w w (Assigned global name (without_list m) ∷ [])
+  bare_did sizes w book st fits = named_did e i global name (without_list m) is sizes book w (without_list m) (bare_of book.number m) st fits
+
+  pub bare_stands : KeepsMacros e.input i → (sizes : Sizes) (book : Book) → Stands sizes e book → Stands sizes (record e { input = i }) book
+  bare_stands kept sizes book st = named_stands e i global name (without_list m) is (λ n held. bare_held n global e.input.groups name m held) kept sizes book st
 
 -- WHAT A TOKEN MEANS
 

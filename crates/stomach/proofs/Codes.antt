@@ -1,5 +1,6 @@
--- A number that a command sets stands at a location that is there, and that has such numbers: a category code was read in its range.
-use Rattle.std.proofs.Common.{◌≡◌, ℕ, ℤ, pos, negsuc, ◌-◌, ◌<◌, Bool, true, false, List, [], ◌∷◌, ◌++◌, refl, arith}
+-- A number that a command sets stands at a location that is there, and that has such numbers: a category code was read in its range. So does what is
+-- computed, and what is shown as a text stands at a location that is there.
+use Rattle.std.proofs.Common.{◌≡◌, ℕ, ℤ, pos, negsuc, ◌-◌, Bool, true, false, List, [], ◌∷◌, ◌++◌, refl, arith}
 use Rattle.std.specs.Prelude.{Option, None, Some, nat_le, nat_lt, ◌==◌, ◌&&◌, if◌then◌else◌}
 use Rattle.std.proofs.lemmas.Bool.Decides.{nat_tests}
 use Rattle.tex_defs.specs.declared.Token.{Token}
@@ -12,15 +13,17 @@ use Rattle.plain_tokens.specs.Arguments as call
 use Rattle.tex_defs.specs.declared.RegisterKind.{RegisterKind}
 use Rattle.tex_defs.specs.declared.RegisterKind.TheVariants as register
 use Rattle.equivalents.specs.declared.values.CodeKind.TheVariants as code
+use Rattle.equivalents.specs.declared.values.Loc.{Loc}
+use Rattle.equivalents.specs.declared.values.Loc.TheVariants as loc
 use Rattle.equivalents.specs.Locations.{IsCategory}
 use Rattle.rows.specs.declared.words.Datum.{Datum}
 use Rattle.rows.specs.declared.words.Datum.TheVariants as datum
 use Rattle.rows.specs.declared.words.Value.{Value}
 use Rattle.rows.specs.declared.words.Value.TheVariants as value
 use Rattle.rows.specs.declared.words.Kind.{Kind as Begun}
-use Rattle.rows.specs.declared.words.Kind.TheVariants.{Command, Integer, Text, Definition}
+use Rattle.rows.specs.declared.words.Kind.TheVariants.{Command, Integer, Keyword, Text, Definition}
 use Rattle.rows.specs.declared.stage.Stage.{Stage}
-use Rattle.rows.specs.declared.stage.Stage.TheVariants.{Number, NumberTo, NumberUpTo, Equals, MacroText}
+use Rattle.rows.specs.declared.stage.Stage.TheVariants.{Number, NumberTo, NumberUpTo, Equals, Internal, MacroText, Variable}
 use Rattle.rows.specs.declared.stage.Start.{Start}
 use Rattle.rows.specs.declared.stage.Start.TheVariants.{Looks, Begins}
 use Rattle.rows.specs.declared.stage.Met.{Met}
@@ -31,26 +34,35 @@ use Rattle.rows.specs.declared.stage.Next.{Next}
 use Rattle.rows.specs.declared.stage.Next.TheVariants as next
 use Rattle.rows.specs.declared.stage.Note.{Note}
 use Rattle.rows.specs.declared.stage.Note.TheVariants as note
+use Rattle.rows.specs.declared.arithmetic.Operation.{Operation}
 use Rattle.rows.specs.declared.command.Action.{Action}
 use Rattle.rows.specs.declared.command.Action.TheVariants as action
 use Rattle.rows.specs.declared.command.Call.{Call}
+use Rattle.rows.specs.declared.command.Head.{Head}
+use Rattle.rows.specs.declared.command.Head.TheVariants.{Primitive, Register}
 use Rattle.rows.specs.declared.command.Row.{Row}
 use Rattle.rows.specs.declared.command.Row.TheVariants.{Two}
 use Rattle.rows.specs.declared.command.TheConstants.{SYNTAX}
-use Rattle.rows.specs.Effects.{comes_to}
-use Rattle.rows.specs.Internal.{byte_of, first_integer, last_integer}
+use Rattle.rows.specs.declared.internal.Bank.{Bank}
+use Rattle.rows.specs.declared.internal.Internal.{Internal as Stands}
+use Rattle.rows.specs.declared.internal.Internal.TheVariants as internal
+use Rattle.rows.specs.Effects.{comes_to, value_made}
+use Rattle.rows.specs.Internal.{byte_of, first_integer, last_integer, first_dimension, last_dimension, first_glue, last_glue, location_in, internal_of, internal_parameter, internal_primitive, variable_of, variable_primitive}
+use Rattle.tex_defs.specs.declared.Meaning.{Meaning}
+use Rattle.tex_defs.specs.declared.Meaning.TheVariants as means
 use Rattle.plain_tokens.specs.Categories.{is_between}
 use Rattle.rows.specs.Readings.{Fed, Tok, Val, Told, Ask, Acts}
-use Rattle.rows.specs.Run.{Outcome, Asks, Takes, Passes, Gathers, Makes, Turns, comes, due, noted, valued, inner, begins, met_with, looks, again, started, behind, run, no_turn, turned, row}
-use Rattle.rows.specs.Stages.{number, number_in, start, on_token, on_value, on_datum, on_list}
-use Rattle.rows.specs.Table.{stages_in, stages_of, row_among, row_or_token, action_of}
+use Rattle.rows.specs.Run.{Outcome, Asks, Takes, Passes, Gathers, Makes, Turns, comes, due, noted, valued, inner, begins, numbers, met_with, looks, again, started, behind, run, no_turn, turned, row}
+use Rattle.rows.specs.Stages.{number, number_in, location_read, start, standing, numbered_by, on_token, on_value, on_datum, on_list}
+use Rattle.rows.specs.Table.{stages_in, stages_of, find_row, row_among, row_or_token, action_of}
 use Rattle.rows.specs.Tokens.{is_at_most, is_up_to, is_equals}
 use Rattle.plain_readings.specs.FileNames.{character_meant, is_blank, opens, named_on, file_naming}
 use Rattle.plain_readings.specs.Readings.{Kind, Reads, Spelling, FileName, Behind, Arguments, ask}
 use Rattle.plain_readings.specs.Calls.{call_ask, gathered}
 use Rattle.plain_readings.specs.Lists.{build_ask, text, definition}
+use Rattle.plain_readings.proofs.Keywords.{keyword_holds}
 use Rattle.plain_readings.proofs.Steps.{integer_holds, spelling_holds}
-use Rattle.stomach.specs.Effects.{IsSmall}
+use Rattle.stomach.specs.Effects.{HasNumbers, IsSmall}
 
 -- what a command is to set may stand where it is set
 abbrev pub SetsSmall : Ask → Type 0
@@ -59,23 +71,33 @@ SetsSmall a = Unit {0}
 
 -- STAGES
 
--- what a stage may have read: a number in its range; an `=` isn't kept
+-- what a stage may have read: a number in its range; the location of an integer; a number, or a location that is there; an `=` isn't kept
 abbrev IsRead : Stage → Datum → Type 0
 IsRead (NumberTo greatest complaint) d = is_at_most greatest (number_in d) ≡ true
+IsRead Variable d = HasNumbers (location_read d)
+IsRead Internal d = IsSmall (value_made d)
 IsRead Equals d = ⊥
 IsRead s d = Unit {0}
 
--- whether it may be over with nothing that is kept, and whether it may be an inner reading
+-- whether it may be over with nothing that is kept, whether it may look at a token, and whether it may be an inner reading
 abbrev MayPass : Stage → Type 0
 MayPass (NumberTo greatest complaint) = ⊥
+MayPass Variable = ⊥
+MayPass Internal = ⊥
 MayPass s = Unit {0}
+
+abbrev MayLook : Stage → Type 0
+MayLook (NumberTo greatest complaint) = ⊥
+MayLook s = Unit {0}
 
 abbrev MayBegin : Stage → Type 0
 MayBegin Equals = ⊥
+MayBegin Variable = ⊥
+MayBegin Internal = ⊥
 MayBegin s = Unit {0}
 
 abbrev StartFits : Stage → Start → Type 0
-StartFits s (Looks want) = MayPass s
+StartFits s (Looks want) = MayLook s
 StartFits s (Begins k) = MayBegin s
 
 abbrev NextFits : Stage → Next → Type 0
@@ -84,7 +106,10 @@ NextFits s n = Unit {0}
 
 abbrev MetFits : Stage → Met → Type 0
 MetFits s (met.Takes d) = IsRead s d
+MetFits s met.Passes = MayPass s
+MetFits s met.Leaves = MayPass s
 MetFits s (met.Notes n m) = NextFits s m
+MetFits s (met.Numbers b) = (n : ℕ) → IsRead s (datum.At (location_in b n))
 MetFits s m = Unit {0}
 
 abbrev GotFits : Stage → Got → Type 0
@@ -100,26 +125,85 @@ Fits s o = Unit {0}
 
 start_fits : (s : Stage) (c : Call) (ds : List Datum) → StartFits s (start s c ds)
 start_fits (NumberTo greatest complaint) c ds = tt
-start_fits Equals c ds = tt
 start_fits s c ds = tt
 
 any_next : (s : Stage) → ((d : Datum) → IsRead s d) → (m : Next) → NextFits s m
 any_next s h (next.Takes d) = h d
 any_next s h m = tt
 
-any_met : (s : Stage) → ((d : Datum) → IsRead s d) → (m : Met) → MetFits s m
-any_met s h (met.Takes d) = h d
-any_met s h (met.Notes n m) = any_next s h m
-any_met s h m = tt
+any_met : (s : Stage) → MayPass s → ((d : Datum) → IsRead s d) → (m : Met) → MetFits s m
+any_met s pass h (met.Takes d) = h d
+any_met s pass h met.Passes = pass
+any_met s pass h met.Leaves = pass
+any_met s pass h (met.Notes n m) = any_next s h m
+any_met s pass h (met.Numbers b) = λ n. h (datum.At (location_in b n))
+any_met s pass h m = tt
 
 met_if : (s : Stage) (b : Bool) (l m : Met) → MetFits s l → MetFits s m → MetFits s (if b then l else m)
 met_if s true l m h i = h
 met_if s false l m h i = i
 
-token_fits : (s : Stage) (c : Call) (x : Seen) → MetFits s (on_token s c x)
-token_fits (NumberTo greatest complaint) c x = tt
-token_fits Equals c x = met_if Equals (is_equals x) met.Passes met.Leaves tt tt
-token_fits s c x = any_met s (λ d. tt) (on_token s c x)
+-- what a token stands for, where it is to be read
+abbrev StandingFits : Stage → Option Stands → Type 0
+StandingFits s (Some (internal.Given n)) = IsRead s (datum.Number (pos n))
+StandingFits s (Some (internal.At l)) = IsRead s (datum.At l)
+StandingFits s (Some (internal.Numbered b)) = (n : ℕ) → IsRead s (datum.At (location_in b n))
+StandingFits s None = Unit {0}
+
+standing_fits : (s : Stage) (otherwise : Met) (o : Option Stands) → MetFits s otherwise → StandingFits s o → MetFits s (standing otherwise o)
+standing_fits s otherwise (Some (internal.Given n)) h i = i
+standing_fits s otherwise (Some (internal.At l)) h i = i
+standing_fits s otherwise (Some (internal.Numbered b)) h i = i
+standing_fits s otherwise None h i = h
+
+stands_if : (s : Stage) (b : Bool) (l o : Option Stands) → (b ≡ true → StandingFits s l) → StandingFits s o → StandingFits s (if b then l else o)
+stands_if s true l o h i = h refl
+stands_if s false l o h i = i
+
+-- the parameters are as many as there are locations of their kind
+variable_primitive_fits : (n : ℕ) → StandingFits Variable (variable_primitive n)
+variable_primitive_fits n =
+    stands_if Variable (n == 41) _ _ (λ is. λ k. (tt, λ m. tt))
+    (stands_if Variable (is_between first_integer last_integer n) _ _ (λ is. (grind (arith, nat_tests, is), λ m. tt)) tt)
+
+variable_fits : (m : Meaning Unit) → StandingFits Variable (variable_of m)
+variable_fits (means.Register register.Count n) = (tt, λ m. tt)
+variable_fits (means.Prim n) = variable_primitive_fits n
+variable_fits m = tt
+
+parameter_fits : (n : ℕ) → StandingFits Internal (internal_parameter n)
+parameter_fits n =
+    stands_if Internal (is_between first_integer last_integer n) _ _ (λ is. grind (arith, nat_tests, is))
+    (stands_if Internal (is_between first_dimension last_dimension n) _ _ (λ is. grind (arith, nat_tests, is))
+    (stands_if Internal (is_between first_glue last_glue n) _ _ (λ is. grind (arith, nat_tests, is)) tt))
+
+internal_primitive_fits : (n : ℕ) → StandingFits Internal (internal_primitive n)
+internal_primitive_fits n =
+    stands_if Internal (n == 35) _ _ (λ is. λ k. tt)
+    (stands_if Internal (n == 36) _ _ (λ is. λ k. tt)
+    (stands_if Internal (n == 37) _ _ (λ is. λ k. tt)
+    (stands_if Internal (n == 38) _ _ (λ is. λ k. tt)
+    (stands_if Internal (n == 39) _ _ (λ is. λ k. tt)
+    (stands_if Internal (n == 40) _ _ (λ is. λ k. tt)
+    (stands_if Internal (n == 41) _ _ (λ is. λ k. tt)
+    (stands_if Internal (n == 42) _ _ (λ is. λ k. tt)
+    (stands_if Internal (n == 43) _ _ (λ is. λ k. tt)
+    (stands_if Internal (n == 44) _ _ (λ is. λ k. tt) (parameter_fits n))))))))))
+
+internal_fits : (m : Meaning Unit) → StandingFits Internal (internal_of m)
+internal_fits (means.CharGiven c) = tt
+internal_fits (means.MathGiven c) = tt
+internal_fits (means.Register register.Toks n) = tt
+internal_fits (means.Register kind n) = tt
+internal_fits (means.Prim n) = internal_primitive_fits n
+internal_fits m = tt
+
+token_fits : (s : Stage) → MayLook s → (c : Call) (x : Seen) → MetFits s (on_token s c x)
+token_fits (NumberTo greatest complaint) look c x = absurd look
+token_fits Variable look c x = standing_fits Variable _ (variable_of x.meaning) tt (variable_fits x.meaning)
+token_fits Internal look c x = standing_fits Internal _ (internal_of x.meaning) tt (internal_fits x.meaning)
+token_fits Equals look c x = met_if Equals (is_equals x) met.Passes met.Leaves tt tt
+token_fits s look c x = any_met s tt (λ d. tt) (on_token s c x)
 
 -- a number out of its range is 0
 range_fits : (b : Bool) (s : Stage) (n : ℤ) (l m : Got) → (b ≡ true → GotFits s l) → GotFits s m → GotFits s (if b then l else m)
@@ -135,6 +219,8 @@ datum_fits (NumberTo greatest complaint) h d = zero_is_read greatest
 datum_fits (NumberUpTo greatest) h (datum.Number n) = range_fits (is_up_to greatest n) (NumberUpTo greatest) n _ _ (λ is. tt) tt
 datum_fits (NumberUpTo greatest) h d = tt
 datum_fits Equals h d = absurd h
+datum_fits Variable h d = absurd h
+datum_fits Internal h d = absurd h
 datum_fits s h d = tt
 
 list_fits : (s : Stage) → GotFits s (on_list s)
@@ -145,13 +231,19 @@ value_fits : (s : Stage) → MayBegin s → (v : Value) → GotFits s (on_value 
 value_fits s h (value.Plain d) = datum_fits s h d
 value_fits s h value.List = list_fits s
 
+numbered_fits : (s : Stage) (b : Bank) → ((n : ℕ) → IsRead s (datum.At (location_in b n))) → (v : Value) → GotFits s (numbered_by b v)
+numbered_fits s b h (value.Plain (datum.Number n)) = range_fits (is_at_most 255 n) s n _ _ (λ is. h (byte_of n)) (h 0)
+numbered_fits s b h v = h 0
+
 due_sets : (n : Note) → SetsSmall (due n)
 due_sets (note.Tells report back) = tt
 due_sets (note.Inserts t report back) = tt
+due_sets (note.Relaxes c n) = tt
 
 comes_fits : (s : Stage) (m : Next) → NextFits s m → (fed : List Fed) → Fits s (comes m fed)
 comes_fits s (next.Takes d) h fed = h
 comes_fits s next.Stops h fed = tt
+comes_fits s (next.Fails c) h fed = tt
 comes_fits s (next.Turns c) h fed = tt
 
 noted_fits : (s : Stage) (n : Note) (m : Next) → NextFits s m → (fed : List Fed) → Fits s (noted n m fed)
@@ -176,27 +268,33 @@ begins_fits s h k (Tok x ∷ fed) = inner_fits s h k fed
 begins_fits s h k (Val v ts ∷ fed) = valued_fits s (on_value s v) (value_fits s h v) ts fed
 begins_fits s h k (y ∷ fed) = tt
 
-met_with_fits : (s : Stage) → MayPass s → (x : Seen) (m : Met) → MetFits s m → (skipped : Call → Outcome) (retried : Note → Outcome) (fed : List Fed) → ((c : Call) → Fits s (skipped c)) → ((n : Note) → Fits s (retried n)) →
+numbers_fits : (s : Stage) (b : Bank) → ((n : ℕ) → IsRead s (datum.At (location_in b n))) → (fed : List Fed) → Fits s (numbers b fed)
+numbers_fits s b h [] = tt
+numbers_fits s b h (Val v ts ∷ fed) = valued_fits s (numbered_by b v) (numbered_fits s b h v) ts fed
+numbers_fits s b h (y ∷ fed) = tt
+
+met_with_fits : (s : Stage) (x : Seen) (m : Met) → MetFits s m → (skipped : Call → Outcome) (retried : Note → Outcome) (fed : List Fed) → ((c : Call) → Fits s (skipped c)) → ((n : Note) → Fits s (retried n)) →
     Fits s (met_with (Tok x) m skipped retried fed)
-met_with_fits s pass x (met.Takes d) h skipped retried fed i j = h
-met_with_fits s pass x met.Passes h skipped retried fed i j = pass
-met_with_fits s pass x met.Leaves h skipped retried fed i j = pass
-met_with_fits s pass x (met.Skips c) h skipped retried fed i j = i c
-met_with_fits s pass x (met.Notes n m) h skipped retried fed i j = noted_fits s n m h fed
-met_with_fits s pass x (met.Retries n) h skipped retried fed i j = j n
-met_with_fits s pass x (met.Turns c) h skipped retried fed i j = tt
+met_with_fits s x (met.Takes d) h skipped retried fed i j = h
+met_with_fits s x met.Passes h skipped retried fed i j = h
+met_with_fits s x met.Leaves h skipped retried fed i j = h
+met_with_fits s x (met.Skips c) h skipped retried fed i j = i c
+met_with_fits s x (met.Notes n m) h skipped retried fed i j = noted_fits s n m h fed
+met_with_fits s x (met.Retries n) h skipped retried fed i j = j n
+met_with_fits s x (met.Numbers b) h skipped retried fed i j = numbers_fits s b h fed
+met_with_fits s x (met.Turns c) h skipped retried fed i j = tt
 
 mutual
-  looks_fits : (s : Stage) → MayPass s → (c : Call) (want : Want) (fed : List Fed) → Fits s (looks s c want fed)
-  looks_fits s pass c want [] = tt
-  looks_fits s pass c want (Tok x ∷ fed) =
-      met_with_fits s pass x (on_token s c x) (token_fits s c x) (λ d. looks s d want fed) (λ n. again s c want n fed) fed (λ d. looks_fits s pass d want fed) (λ n. again_fits s pass c want n fed)
-  looks_fits s pass c want (y ∷ fed) = tt
+  looks_fits : (s : Stage) → MayLook s → (c : Call) (want : Want) (fed : List Fed) → Fits s (looks s c want fed)
+  looks_fits s look c want [] = tt
+  looks_fits s look c want (Tok x ∷ fed) =
+      met_with_fits s x (on_token s c x) (token_fits s look c x) (λ d. looks s d want fed) (λ n. again s c want n fed) fed (λ d. looks_fits s look d want fed) (λ n. again_fits s look c want n fed)
+  looks_fits s look c want (y ∷ fed) = tt
 
-  again_fits : (s : Stage) → MayPass s → (c : Call) (want : Want) (n : Note) (fed : List Fed) → Fits s (again s c want n fed)
-  again_fits s pass c want n [] = due_sets n
-  again_fits s pass c want n (Told ∷ fed) = looks_fits s pass c want fed
-  again_fits s pass c want n (y ∷ fed) = tt
+  again_fits : (s : Stage) → MayLook s → (c : Call) (want : Want) (n : Note) (fed : List Fed) → Fits s (again s c want n fed)
+  again_fits s look c want n [] = due_sets n
+  again_fits s look c want n (Told ∷ fed) = looks_fits s look c want fed
+  again_fits s look c want n (y ∷ fed) = tt
 
 started_fits : (s : Stage) (c : Call) (b : Start) → StartFits s b → (fed : List Fed) → Fits s (started s c b fed)
 started_fits s c (Looks want) h fed = looks_fits s h c want fed
@@ -219,7 +317,7 @@ module _ (turn : Call → List Fed → Ask) (turns : (c : Call) (fed : List Fed)
   behind_sets c s ds onward h i (Makes ts) fits = tt
   behind_sets c s ds onward h i (Turns d fed) fits = turns d fed
 
-  run_sets : (c : Call) (ss : List Stage) (ds : List Datum) → ReadsSmall (action_of c.primitive) ss ds → (fed : List Fed) → SetsSmall (run turn c ss ds fed)
+  run_sets : (c : Call) (ss : List Stage) (ds : List Datum) → ReadsSmall (action_of c.head) ss ds → (fed : List Fed) → SetsSmall (run turn c ss ds fed)
   run_sets c [] ds h fed = h
   run_sets c (s ∷ ss) ds h fed =
       behind_sets c s ds (λ es more. run turn c ss es more) (λ d read more. run_sets c ss (ds ++ d ∷ []) (h.0 d read) more) (λ pass more. run_sets c ss ds (h.1 pass) more)
@@ -231,6 +329,21 @@ abbrev is_category_row : List Stage → Bool
 is_category_row (NumberTo m first ∷ Equals ∷ NumberTo n second ∷ []) = nat_le n 15
 is_category_row ss = false
 
+-- rows of one that reads a variable, or what stands for a value, before all else
+abbrev is_variable_row : List Stage → Bool
+is_variable_row (Variable ∷ ss) = true
+is_variable_row ss = false
+
+abbrev is_internal_row : List Stage → Bool
+is_internal_row (Internal ∷ ss) = true
+is_internal_row ss = false
+
+-- an integer's location
+abbrev is_integer : Loc → Bool
+is_integer (loc.Integer i) = nat_lt i 55
+is_integer (loc.Register register.Count n) = true
+is_integer l = false
+
 -- registers of numbers
 abbrev is_numbers : RegisterKind → Bool
 is_numbers register.Count = true
@@ -239,8 +352,10 @@ is_numbers kind = false
 
 abbrev reads_if_set : Action → List Stage → Bool
 reads_if_set (action.SetCode code.Category) ss = is_category_row ss
-reads_if_set (action.SetInteger i) ss = nat_lt i 55
+reads_if_set (action.SetAt l) ss = is_integer l
 reads_if_set (action.SetRegister kind) ss = is_numbers kind
+reads_if_set (action.Compute operation) ss = is_variable_row ss
+reads_if_set action.MakeValue ss = is_internal_row ss
 reads_if_set a ss = true
 
 abbrev all_read : List (ℕ × Row × Action) → Bool
@@ -254,14 +369,6 @@ category : (greatest : ℕ) (n : ℤ) → is_at_most greatest n ≡ true → nat
 category greatest (pos n) h i = grind (arith, nat_tests, h, i)
 category greatest (negsuc n) h i = absurd cc
 
-byte_if : (b : Bool) (n : ℕ) → nat_le n 255 ≡ b → (if b then n else 0) < 256
-byte_if true n is = grind (arith, nat_tests, is)
-byte_if false n is = omega arith
-
-byte_small : (n : ℤ) → byte_of n < 256
-byte_small (pos n) = byte_if (nat_le n 255) n refl
-byte_small (negsuc n) = omega arith
-
 -- whatever is read
 any_reads : (a : Action) → ((ds : List Datum) → IsSmall (comes_to a ds)) → (ss : List Stage) (ds : List Datum) → ReadsSmall a ss ds
 any_reads a h [] ds = h ds
@@ -269,16 +376,33 @@ any_reads a h (s ∷ ss) ds = (λ d read. any_reads a h ss (ds ++ d ∷ []), λ 
 
 category_reads : (ss : List Stage) → is_category_row ss ≡ true → ReadsSmall (action.SetCode code.Category) ss []
 category_reads (NumberTo m first ∷ Equals ∷ NumberTo n second ∷ []) h =
-    (λ a in_a. (λ b no. absurd no, λ pass. (λ d in_d. (byte_small (number_in a), category n (number_in d) in_d h), λ no. absurd no)), λ no. absurd no)
+    (λ a in_a. (λ b no. absurd no, λ pass. (λ d in_d. (tt, category n (number_in d) in_d h), λ no. absurd no)), λ no. absurd no)
 category_reads ss h = absurd cc
+
+-- whatever is read behind what the first stage has read
+first_reads : (a : Action) (d : Datum) → ((es : List Datum) → IsSmall (comes_to a (d ∷ es))) → (ss : List Stage) (es : List Datum) → ReadsSmall a ss (d ∷ es)
+first_reads a d h [] es = h es
+first_reads a d h (s ∷ ss) es = (λ e read. first_reads a d h ss (es ++ e ∷ []), λ pass. first_reads a d h ss es)
+
+variable_reads : (operation : Operation) (ss : List Stage) → is_variable_row ss ≡ true → ReadsSmall (action.Compute operation) ss []
+variable_reads operation (Variable ∷ ss) h = (λ d read. first_reads (action.Compute operation) d (λ es. read) ss [], λ no. absurd no)
+variable_reads operation ss h = absurd cc
+
+internal_reads : (ss : List Stage) → is_internal_row ss ≡ true → ReadsSmall action.MakeValue ss []
+internal_reads (Internal ∷ ss) h = (λ d read. first_reads action.MakeValue d (λ es. read) ss [], λ no. absurd no)
+internal_reads ss h = absurd cc
 
 row_reads : (a : Action) (ss : List Stage) → reads_if_set a ss ≡ true → ReadsSmall a ss []
 row_reads (action.SetCode code.Category) ss h = category_reads ss h
-row_reads (action.SetCode kind) ss h = any_reads (action.SetCode kind) (λ ds. (byte_small (number 0 ds), tt)) ss []
-row_reads (action.SetInteger i) ss h = any_reads (action.SetInteger i) (λ ds. (grind (arith, nat_tests, h), tt)) ss []
-row_reads (action.SetRegister register.Count) ss h = any_reads (action.SetRegister register.Count) (λ ds. (byte_small (number 0 ds), tt)) ss []
-row_reads (action.SetRegister register.Dimen) ss h = any_reads (action.SetRegister register.Dimen) (λ ds. (byte_small (number 0 ds), tt)) ss []
+row_reads (action.SetCode kind) ss h = any_reads (action.SetCode kind) (λ ds. (tt, tt)) ss []
+row_reads (action.SetAt (loc.Integer i)) ss h = any_reads (action.SetAt (loc.Integer i)) (λ ds. (grind (arith, nat_tests, h), tt)) ss []
+row_reads (action.SetAt (loc.Register register.Count n)) ss h = any_reads (action.SetAt (loc.Register register.Count n)) (λ ds. (tt, tt)) ss []
+row_reads (action.SetAt l) ss h = absurd cc
+row_reads (action.SetRegister register.Count) ss h = any_reads (action.SetRegister register.Count) (λ ds. (tt, tt)) ss []
+row_reads (action.SetRegister register.Dimen) ss h = any_reads (action.SetRegister register.Dimen) (λ ds. (tt, tt)) ss []
 row_reads (action.SetRegister kind) ss h = absurd cc
+row_reads (action.Compute operation) ss h = variable_reads operation ss h
+row_reads action.MakeValue ss h = internal_reads ss h
 row_reads a ss h = any_reads a (λ ds. tt) ss []
 
 abbrev found_reads : Option (Row × Action) → Bool
@@ -294,16 +418,24 @@ among_reads n (first ∷ rows) h = found_if (first.0 == n) (all_read rows) (firs
 
 -- an integer parameter is one of the 55
 parameter_reads : (b : Bool) (n : ℕ) (o : Option (Row × Action)) → is_between first_integer last_integer n ≡ b → found_reads o ≡ true →
-    found_reads (if b then Some (Two Equals Number, action.SetInteger (n - first_integer)) else o) ≡ true
+    found_reads (if b then Some (Two Equals Number, action.SetAt (loc.Integer (n - first_integer))) else o) ≡ true
 parameter_reads true n o is h = grind (arith, nat_tests, is)
 parameter_reads false n o is h = h
 
-reads_small : (n : ℕ) → ReadsSmall (action_of n) (stages_of n) []
-reads_small n = row_reads (action_of n) (stages_of n) (parameter_reads (is_between first_integer last_integer n) n (row_among n SYNTAX.now) refl (among_reads n SYNTAX.now table_reads))
+-- so is a register's name, where it has a row
+head_reads : (h : Head) → found_reads (find_row h) ≡ true
+head_reads (Primitive n) = parameter_reads (is_between first_integer last_integer n) n (row_among n SYNTAX.now) refl (among_reads n SYNTAX.now table_reads)
+head_reads (Register kind n) = register_reads kind where
+  register_reads : (k : RegisterKind) → found_reads (find_row (Register k n)) ≡ true
+  register_reads register.Count = refl
+  register_reads k = refl
+
+reads_small : (h : Head) → ReadsSmall (action_of h) (stages_of h) []
+reads_small h = row_reads (action_of h) (stages_of h) (head_reads h)
 
 row_sets : (c : Call) (fed : List Fed) → SetsSmall (row c fed)
 row_sets c fed =
-    run_sets turned (λ d more. run_sets no_turn (λ e rest. tt) d (stages_of d.primitive) [] (reads_small d.primitive) more) c (stages_of c.primitive) [] (reads_small c.primitive) fed
+    run_sets turned (λ d more. run_sets no_turn (λ e rest. tt) d (stages_of d.head) [] (reads_small d.head) more) c (stages_of c.head) [] (reads_small c.head) fed
 
 -- ALL READINGS
 
@@ -335,6 +467,7 @@ file_sets c want ts (y ∷ fed) = tt
 pub sets_small : (k : Kind) (fed : List Fed) → SetsSmall (ask k fed)
 sets_small (Reads (Command c)) fed = row_sets c fed
 sets_small (Reads Integer) fed = integer_holds (λ b a. SetsSmall a) (λ b want. tt) (λ report back. tt) (λ b n back. tt) (λ b. tt) (λ b l. tt) false false fed
+sets_small (Reads (Keyword w)) fed = keyword_holds (λ b a. SetsSmall a) (λ b want. tt) (λ b found. tt) (λ b t n few. tt) w false fed
 sets_small (Reads (Text name expanded)) fed = build_sets (text name expanded fed)
 sets_small (Reads (Definition name expanded)) fed = build_sets (definition name expanded fed)
 sets_small (Spelling c) fed = spelling_holds (λ b a. SetsSmall a) (λ b want. tt) (λ report back. tt) (λ b. tt) (λ b c ts. tt) c [] false fed

@@ -1,10 +1,12 @@
 -- What a frame asks for now: no command is begun within it, and it defines a macro only with the list that it owns.
-use Rattle.std.proofs.Common.{◌≡◌, ◌≤◌, Bool, true, false, List, [], ◌∷◌, length, refl, subst, arith}
+use Rattle.std.proofs.Common.{◌≡◌, ◌≤◌, ℕ, Bool, true, false, List, [], ◌∷◌, length, drop, refl, subst, arith}
 use Rattle.std.specs.Prelude.{◌≢◌, Some}
 use Rattle.tex_defs.specs.declared.Name.{Name}
 use Rattle.tex_defs.specs.declared.Token.{Token}
+use Rattle.tex_syntax.specs.declared.words.Want.{Want}
 use Rattle.plain_state.specs.Definitions as build
 use Rattle.rows.specs.declared.words.Datum.{Datum}
+use Rattle.rows.specs.declared.words.Keyword.{Keyword}
 use Rattle.rows.specs.declared.words.Kind.{Kind}
 use Rattle.rows.specs.declared.words.Kind.TheVariants as kind
 use Rattle.rows.specs.declared.stage.Stage.{Stage}
@@ -23,7 +25,12 @@ use Rattle.row_frames.specs.Resumes.{within, resume_row, turn_of}
 use Rattle.scan_numbers.specs.declared.number.Place.{Place}
 use Rattle.scan_numbers.specs.declared.number.Place.TheVariants as number
 use Rattle.scan_numbers.specs.Resumes.{resume_at}
+use Rattle.plain_readings.specs.Keywords.{letters, giving_back, keyword_from}
 use Rattle.plain_readings.specs.Lists.{build_ask}
+use Rattle.scan_dimens.specs.Resumes.{resume_at as keyword_at}
+use Rattle.scan_dimens.specs.Sees.{kept as kept_tokens, want_behind}
+use Rattle.scan_dimens.specs.declared.keyword.Place.{Place as Letters}
+use Rattle.scan_dimens.specs.declared.keyword.Place.TheVariants as keyword
 use Rattle.reading_frames.specs.Sees.{Lists, top_list, kept_list_of}
 use Rattle.reading_frames.specs.Resumes.{resume, resume_build, name_at, file_at, list_count, listed_count}
 use Rattle.reading_frames.specs.Stack.{asks_in, innermost_count}
@@ -31,7 +38,7 @@ use Rattle.reading_frames.specs.declared.command.CommandScan.TheVariants as comm
 use Rattle.reading_frames.specs.declared.file_name.FilePlace.{FilePlace}
 use Rattle.reading_frames.specs.declared.file_name.FilePlace.TheVariants as file
 use Rattle.reading_frames.specs.declared.frame.Frame.{Frame}
-use Rattle.reading_frames.specs.declared.frame.Frame.TheVariants.{Command, Integer, Build, Spelling, FileName, Behind}
+use Rattle.reading_frames.specs.declared.frame.Frame.TheVariants.{Command, Integer, Keyword as Word, Build, Spelling, FileName, Behind}
 use Rattle.reading_frames.specs.declared.spelling.SpellPlace.{SpellPlace}
 use Rattle.reading_frames.specs.declared.spelling.SpellPlace.TheVariants as spell
 
@@ -44,10 +51,12 @@ IsModest a = Unit {0}
 due_modest : (n : Note) → IsModest (due n)
 due_modest (note.Tells report back) = tt
 due_modest (note.Inserts t report back) = tt
+due_modest (note.Relaxes c n) = tt
 
 with_modest : (k : Kind) → IsModest (Inner k true)
 with_modest (kind.Command c) = tt
 with_modest kind.Integer = tt
+with_modest (kind.Keyword w) = tt
 with_modest (kind.Text name expanded) = tt
 with_modest (kind.Definition name expanded) = tt
 
@@ -58,6 +67,10 @@ module _ (turn : Call → List Fed → Ask) (c : Call) (ds : List Datum) (onward
   started_modest (stage.NumberUpTo greatest) = tt
   started_modest stage.Equals = tt
   started_modest stage.ControlSequence = tt
+  started_modest stage.NewName = tt
+  started_modest stage.Variable = tt
+  started_modest stage.Internal = tt
+  started_modest (stage.Keyword w) = tt
   started_modest stage.LetEquals = tt
   started_modest stage.Space = tt
   started_modest stage.AnyToken = tt
@@ -70,6 +83,7 @@ module _ (turn : Call → List Fed → Ask) (c : Call) (ds : List Datum) (onward
   within_modest s kept.Start = started_modest s
   within_modest s (kept.Looking d want) = tt
   within_modest s (kept.Within k) = with_modest k
+  within_modest s (kept.Numbered b) = tt
   within_modest s (kept.Noting n m) = due_modest n
   within_modest s (kept.Retrying d want n) = due_modest n
 
@@ -92,6 +106,19 @@ number_modest negative (number.BadNumber b n) = tt
 number_modest negative (number.Fetching l) = tt
 number_modest negative (number.MuFound n) = tt
 number_modest negative (number.Ended n back) = tt
+
+letters_modest : (cs : List ℕ) (ts : List Token) (want : Want) → IsModest (keyword_from cs ts want [])
+letters_modest [] ts want = tt
+letters_modest (c ∷ cs) ts want = tt
+
+back_modest : (ts : List Token) → IsModest (giving_back ts [])
+back_modest [] = tt
+back_modest (t ∷ ts) = tt
+
+keyword_modest : (w : Keyword) (ts : List Token) (p : Letters) → IsModest (keyword_at w ts p [])
+keyword_modest w ts (keyword.Letters n) = letters_modest (drop n (letters w)) (kept_tokens n ts) (want_behind n)
+keyword_modest w ts (keyword.PutsBack n) = back_modest (kept_tokens n ts)
+keyword_modest w ts (keyword.Ended found) = tt
 
 build_modest : (a : build.Answer) → IsModest (build_ask a)
 build_modest (build.More want list) = tt
@@ -121,6 +148,7 @@ begins_none (Command (command.ActsOn d e listed) p) held c is = cc
 begins_none (Command (command.Defines d n listed) p) held c is = cc
 begins_none (Command command.Ended p) held c is = cc
 begins_none (Integer scan) held c is = not_so _ _ is (number_modest scan.negative scan.place)
+begins_none (Word scan) held c is = not_so _ _ is (keyword_modest scan.keyword scan.tokens scan.place)
 begins_none (Build scan) held c is = not_so _ _ is (build_modest (resume_build scan (top_list held) []))
 begins_none (Spelling scan) held c is = not_so _ _ is (name_modest scan.call scan.place (top_list held))
 begins_none (FileName scan) held c is = not_so _ _ is (file_modest scan.call scan.place (top_list held))
@@ -138,6 +166,7 @@ defines_own (Command (command.ActsOn d e listed) p) held c n ts is some = absurd
 defines_own (Command (command.Defines d m listed) p) held c n ts is some = owned listed d c m n held ts is some
 defines_own (Command command.Ended p) held c n ts is some = absurd cc
 defines_own (Integer scan) held c n ts is some = absurd (not_so _ _ is (number_modest scan.negative scan.place))
+defines_own (Word scan) held c n ts is some = absurd (not_so _ _ is (keyword_modest scan.keyword scan.tokens scan.place))
 defines_own (Build scan) held c n ts is some = refl
 defines_own (Spelling scan) held c n ts is some = refl
 defines_own (FileName scan) held c n ts is some = refl

@@ -1,5 +1,5 @@
 -- A reading that begins within another, or ends with a value.
-use Rattle.std.proofs.Common.{◌≡◌, ◌≤◌, ◌<◌, ◌+◌, ◌-◌, Bool, true, false, List, [], ◌∷◌, length, arith, refl, sym, ap, ◌∙◌, subst}
+use Rattle.std.proofs.Common.{◌≡◌, ◌≤◌, ◌<◌, ◌+◌, ◌-◌, Bool, true, false, List, [], ◌∷◌, length, arith, refl, sym, ap, ◌∙◌}
 use Rattle.std.proofs.lemmas.List.{append-nil}
 use Rattle.std.specs.Prelude.{Some, None}
 use Rattle.tex_defs.specs.declared.Full.{Full}
@@ -8,13 +8,12 @@ use Rattle.tex_defs.specs.declared.Token.{Token}
 use Rattle.tex_defs.specs.Places.{World}
 use Rattle.rows.specs.declared.command.Call.{Call}
 use Rattle.rows.specs.declared.words.Kind.{Kind as Begun}
-use Rattle.rows.specs.declared.words.Kind.TheVariants.{Command, Integer, Text, Definition}
+use Rattle.rows.specs.declared.words.Kind.TheVariants.{Command, Integer, Keyword, Text, Definition}
 use Rattle.rows.specs.declared.words.Value.{Value}
 use Rattle.rows.specs.Readings.{Tok, Val, Inner, Done}
-use Rattle.plain_readings.specs.Laws.{BeginsNoCommand}
-use Rattle.plain_readings.specs.Readings.{Kind, Reads, Spelling, FileName, Behind, Arguments, Reading, ask, lists, fed_with, opened, opened_with}
+use Rattle.plain_readings.specs.Readings.{Kind, Reading, ask, lists, fed_with, opened, opened_with}
 use Rattle.plain_readings.specs.Weights.{frame_weight, act_weight, value_weight}
-use Rattle.plain_readings.proofs.Lower.{lower}
+use Rattle.plain_readings.proofs.Lower.{no_command as begins_no_command}
 use Rattle.reading_frames.specs.Resumes.{resume}
 use Rattle.reading_frames.specs.Stack.{Stack, asks_in}
 use Rattle.reading_frames.specs.Stands as frames
@@ -52,7 +51,7 @@ no_command (f ∷ fs) held [] c begins st asks = st
 no_command (f ∷ fs) held (r ∷ rs) c begins st asks =
     let now : ask r.kind r.fed ≡ resume f held [] = ap (ask r.kind) (sym (append-nil r.fed)) ∙ st.0.goes_on [] in
     let is : resume f held [] ≡ Inner (Command c) begins = cc asks in
-    subst BeginsNoCommand (now ∙ is) (lower r.kind r.fed)
+    begins_no_command r.kind r.fed c begins (now ∙ is)
 
 pub asks_no_command : {A : Type 0} → (sizes : Sizes) (e : Engine) (book : Book) (k : Begun) (c : Call) (begins : Bool) → k ≡ Command c → Stands sizes e book → asked e ≡ Some (Inner k begins) → A
 asks_no_command sizes e book k c begins is st asks =
@@ -101,12 +100,14 @@ module _ (sizes : Sizes) (e e' : Engine) (book : Book) (w : World) (k : Kind) (b
 begun_least : (k : Begun) → ((c : Call) → k ≡ Command c → ⊥) → begun_weight (opening.Reads k) ≡ 0
 begun_least (Command c) h = absurd (h c refl)
 begun_least Integer h = refl
+begun_least (Keyword w) h = refl
 begun_least (Text name expanded) h = refl
 begun_least (Definition name expanded) h = refl
 
 with_least : (k : Begun) → ((c : Call) → k ≡ Command c → ⊥) → begun_with_weight (opening.Reads k) ≡ 19
 with_least (Command c) h = absurd (h c refl)
 with_least Integer h = refl
+with_least (Keyword w) h = refl
 with_least (Text name expanded) h = refl
 with_least (Definition name expanded) h = refl
 

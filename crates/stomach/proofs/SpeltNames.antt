@@ -1,5 +1,5 @@
 -- Names that are spelt: behind the open lines; a name that joins those that are entered, and one that becomes `\relax`.
-use Rattle.std.proofs.Common.{◌≡◌, ℕ, Bool, true, false, List, [], ◌∷◌, ◌++◌, refl, sym, ap, ◌∙◌, subst, append_assoc, ⊎_elim}
+use Rattle.std.proofs.Common.{◌≡◌, ℕ, Bool, true, false, List, [], ◌∷◌, ◌++◌, refl, sym, ap, ◌∙◌, subst, append_assoc}
 use Rattle.std.specs.Prelude.{Option, Some, None, if◌then◌else◌}
 use Rattle.tex_defs.specs.Places.{World}
 use Rattle.tex_defs.specs.declared.Full.{Full}
@@ -10,23 +10,19 @@ use Rattle.tex_defs.specs.declared.Sizes.{Sizes}
 use Rattle.tex_defs.specs.declared.Token.{Token}
 use Rattle.tex_defs.specs.declared.Token.TheVariants as token
 use Rattle.plain_tokens.specs.Lex.{WordName}
-use Rattle.plain_tokens.specs.Meanings.{is_listed, name_meaning, seen_as}
+use Rattle.plain_tokens.specs.Meanings.{name_meaning, seen_as}
 use Rattle.plain_tokens.specs.Names.{relax_primitive}
 use Rattle.plain_tokens.specs.Tables.{Demand, spelt_name, refused}
 use Rattle.plain_tokens.specs.Tokens.{character_codes, is_undefined}
-use Rattle.equivalents.specs.Groups.{Groups, set_name, name_demands}
-use Rattle.equivalents.specs.Holding.{lists_held}
 use Rattle.input_state.specs.HeldLists.{first_list}
-use Rattle.input_state.specs.Stored.{Stored, KeepsMacros}
 use Rattle.reading_frames.specs.Sees.{kept_list_of}
 use Rattle.plain_machine.specs.States.{State, Move, Assigned, Spelt}
 use Rattle.plain_machine.specs.Demands.{refusal}
 use Rattle.plain_machine.specs.Numbers.{meanings_of}
 use Rattle.plain_machine.specs.Plan.{Page, spelt, newly_spelt, relax_if_undefined, name_made, entered, put_one}
 use Rattle.plain_machine.specs.Does.{Did}
-use Rattle.plain_machine.proofs.Doing.{did_join, did_one}
+use Rattle.plain_machine.proofs.Doing.{did_join, did_none, did_one}
 use Rattle.plain_machine.proofs.Renumbering.{name_seen_of, spelt_name_of}
-use Rattle.plain_machine.proofs.Holders.{name_cases}
 use Rattle.engine_state.specs.declared.broken.Broken.{Broken}
 use Rattle.engine_state.specs.declared.broken.Broken.TheVariants as broken
 use Rattle.engine_state.specs.declared.engine.Engine.{Engine}
@@ -40,7 +36,6 @@ use Rattle.engine_state.proofs.Joining.{quiet_here}
 use Rattle.engine_state.proofs.Pulling.{FewNames, few_names, did_entered, cut_entered, sound_names}
 use Rattle.engine_state.proofs.Reporting.{stands_still}
 use Rattle.stomach.specs.Naming.{IsTooLong, OnlySpelt}
-use Rattle.stomach.proofs.Assigning.{named_cuts, named_did, named_stands}
 
 abbrev Cell : Type 0
 Cell = Meaning (Option ℕ)
@@ -133,10 +128,6 @@ relax_named : (e : Engine) (book : Book) (new : List (List ℕ)) (n : Name) → 
 relax_named e book new n =
     ap (relaxed_if n) (lacking_of book.number e.input.groups.now.meanings n ∙ ap (λ (m : Cell). is_undefined (seen_as m)) (sym (meaning_more new e.input.groups n)) ∙ sym (lacking_of book.number (all_entered new e.input.groups).now.meanings n))
 
--- a primitive has no list
-primitive_held : (k : ℕ) (global : Bool) (g : Groups) (n : Name) (number : ℕ) → is_listed (lists_held (set_name global g n (means.Prim number))) k ≡ true → is_listed (lists_held g) k ≡ true
-primitive_held k global g n number held = ⊎_elim (λ none. cc) (λ was. was) (name_cases k global g n (means.Prim number) held)
-
 module _ (sizes : Sizes) (e : Engine) (book : Book) (n : Name) where
   abbrev plan : List Move
   plan = relax_if_undefined (page_of e book).now.meanings n
@@ -144,26 +135,19 @@ module _ (sizes : Sizes) (e : Engine) (book : Book) (n : Name) where
   plan_is : (b : Bool) → is_lacking e.input.groups.now.meanings n ≡ b → plan ≡ relaxed_if n b
   plan_is b is = ap (relaxed_if n) (lacking_of book.number e.input.groups.now.meanings n ∙ is)
 
-  lacking_did : (s' : State) (w : World) → is_lacking e.input.groups.now.meanings n ≡ true → Did sizes (state_of e book) s' w w (relaxed_if n true) → Did sizes (state_of e book) s' w w plan
-  lacking_did s' w is h = subst (λ (ms : List Move). Did sizes (state_of e book) s' w w ms) (sym (plan_is true is)) h
-
   -- it becomes `\relax`
-  module _ (i : Stored) (same : i ≡ record e.input { groups = set_name false e.input.groups n (means.Prim relax_primitive); lists = i.lists }) where
-    pub relaxed_did : (w : World) → is_lacking e.input.groups.now.meanings n ≡ true → Stands sizes e book → refused e.input.sizes (name_demands false e.input.groups n) ≡ None → Did sizes (state_of e book) (state_of (record e { input = i }) book) w w plan
-    relaxed_did w is st fits =
-        lacking_did (state_of (record e { input = i }) book) w is
-        (named_did e i false n (means.Prim relax_primitive) same sizes book w (means.Prim relax_primitive) refl st fits)
+  pub relaxed_did : (s' : State) (w : World) → is_lacking e.input.groups.now.meanings n ≡ true → Did sizes (state_of e book) s' w w (Assigned false n (means.Prim relax_primitive) ∷ []) → Did sizes (state_of e book) s' w w plan
+  relaxed_did s' w is h = subst (λ (ms : List Move). Did sizes (state_of e book) s' w w ms) (sym (plan_is true is)) h
 
-    pub relaxed_stands : KeepsMacros e.input i → Stands sizes e book → Stands sizes (record e { input = i }) book
-    relaxed_stands kept st =
-        named_stands e i false n (means.Prim relax_primitive) same (λ k held. primitive_held k false e.input.groups n relax_primitive held) kept sizes book st
+  -- or there is no room for what it meant
+  pub relaxed_cuts : (e' : Engine) (w : World) (more : List Move) (b : Broken) → is_lacking e.input.groups.now.meanings n ≡ true → Cuts sizes (state_of e book) e' book w w (Assigned false n (means.Prim relax_primitive) ∷ more) b →
+      Cuts sizes (state_of e book) e' book w w (plan ++ more) b
+  relaxed_cuts e' w more b is h =
+      cuts_by sizes (state_of e book) e' book w w (relaxed_if n true ++ more) (plan ++ more) b (ap (λ (ms : List Move). ms ++ more) (plan_is true is)) h
 
-  -- or the save stack has no room
-  pub relaxed_cuts : (i : Stored) (w : World) (more : List Move) (full : Full) → i ≡ e.input → is_lacking e.input.groups.now.meanings n ≡ true → Stands sizes e book → refused e.input.sizes (name_demands false e.input.groups n) ≡ Some full →
-      Cuts sizes (state_of e book) (record e { input = i }) book w w (plan ++ more) (broken.Full full)
-  relaxed_cuts i w more full same is st refuses =
-      cuts_by sizes (state_of e book) (record e { input = i }) book w w (relaxed_if n true ++ more) (plan ++ more) (broken.Full full) (ap (λ (ms : List Move). ms ++ more) (plan_is true is))
-      (named_cuts sizes e i book w false n (means.Prim relax_primitive) more full same st refuses)
+  -- a name that means something stays
+  pub defined_did : (w : World) → is_lacking e.input.groups.now.meanings n ≡ false → Did sizes (state_of e book) (state_of e book) w w plan
+  defined_did w is = subst (λ (ms : List Move). Did sizes (state_of e book) (state_of e book) w w ms) (sym (plan_is false is)) (did_none sizes (state_of e book) w)
 
 -- A NAME IS MADE, behind its spelling
 

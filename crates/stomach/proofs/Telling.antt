@@ -1,18 +1,27 @@
 -- The innermost reading reports.
 use Rattle.std.proofs.Common.{◌≡◌, ◌<◌, ℕ, List, [], ◌∷◌, ◌++◌, length, Bool, sym, ap, ◌∙◌, subst, append_assoc}
 use Rattle.std.specs.Prelude.{Option, None}
+use Rattle.tex_defs.specs.declared.Meaning.TheVariants as means
+use Rattle.tex_defs.specs.declared.Name.{Name}
+use Rattle.plain_tokens.specs.Names.{relax_primitive}
+use Rattle.rows.specs.declared.command.Call.{Call as Command}
+use Rattle.rows.specs.Readings.{Told, Puts, Relaxes}
 use Rattle.tex_syntax.specs.declared.words.Outcome.{Outcome}
 use Rattle.tex_syntax.specs.declared.words.Report.{Report}
 use Rattle.tex_defs.specs.declared.Sizes.{Sizes}
 use Rattle.tex_defs.specs.declared.Token.{Token}
 use Rattle.tex_defs.specs.Places.{World, Transcript}
 use Rattle.plain_state.specs.Reports.{report_bytes}
-use Rattle.plain_readings.specs.Readings.{Reading}
+use Rattle.plain_readings.specs.Readings.{Reading, fed_with}
 use Rattle.reading_frames.specs.Stack.{Stack, asks_in}
 use Rattle.reading_frames.specs.Weights.{innermost_weight, IsReported}
-use Rattle.plain_machine.specs.States.{State, Move, Written, Reported}
-use Rattle.plain_machine.specs.Plan.{Page, reported, told, noting}
+use Rattle.plain_machine.specs.States.{State, Move, Assigned, Written, Reported}
+use Rattle.plain_machine.specs.Plan as plan
+use Rattle.plain_machine.specs.Runs.{steps}
+use Rattle.plain_machine.specs.Plan.{Page, is_global, put_one, reported, told, noting}
 use Rattle.plain_machine.specs.Does.{Did}
+use Rattle.plain_machine.proofs.Doing.{did_join}
+use Rattle.plain_machine.proofs.Pulls.{answered_none}
 use Rattle.world_io.specs.Told.{FilesTold, SinkTold, world}
 use Rattle.engine_state.specs.declared.broken.Broken.{Broken}
 use Rattle.engine_state.specs.declared.call.Call.{Call}
@@ -20,10 +29,12 @@ use Rattle.engine_state.specs.declared.engine.Engine.{Engine}
 use Rattle.engine_state.specs.Book.{Book, with_work}
 use Rattle.engine_state.specs.Calls.{FramesOf}
 use Rattle.engine_state.specs.CutReadings.{CutsIn}
-use Rattle.engine_state.specs.Rules.{world_of, Halts, Reports}
+use Rattle.engine_state.specs.Rules.{world_of, Halts, Reports, Went}
 use Rattle.engine_state.specs.Stands.{Stands, SameFrames, state_of, page_of, own_style}
 use Rattle.engine_state.specs.Steps.{weight, pending_weight}
 use Rattle.engine_state.proofs.CallKept.{frames_kept}
+use Rattle.engine_state.proofs.Uncalled.{all_of}
+use Rattle.gullet.proofs.Stepping.{free_of}
 use Rattle.gullet.proofs.CallWeighing.{lighter_by}
 use Rattle.engine_state.proofs.CuttingReadings.{column_in, in_by, later_in}
 use Rattle.engine_state.proofs.Putting.{fronts}
@@ -72,3 +83,25 @@ pub told_light : (e e1 e2 : Engine) → e.call ≡ None → SameFrames e e1 → 
 told_light e e1 e2 none same left call pending light count reported =
     let none1 : e1.call ≡ None = same.call ∙ none in
     lighter_by e e1 e2 same left (noted_lighter e1 e2 none1 (call ∙ none1) pending (light (subst (λ (s : Stack). IsReported (asks_in s.frames [])) (sym same.readings) reported)) count)
+
+-- BEHIND MOVES WITHOUT A REPORT the innermost reading goes on
+
+module _ (sizes : Sizes) (e e1 e2 : Engine) (book : Book) (w : World) (r : Reading) (rs : List Reading) (moves : List Move) (first : Did sizes (state_of e (with_work (r ∷ rs) book)) (state_of e1 (with_work (r ∷ rs) book)) w w moves) where
+  pub noted_went : steps (moves ++ noting r) ≡ 0 → Did sizes (state_of e1 (with_work (r ∷ rs) book)) (state_of e2 (with_work (fed_with Told (r ∷ rs)) book)) w w (noting r) → Stands sizes e2 (with_work (fed_with Told (r ∷ rs)) book) →
+      Went sizes (state_of e (with_work (r ∷ rs) book)) e2 w w (moves ++ noting r) 0
+  noted_went none did st = record {
+    book' = with_work (fed_with Told (r ∷ rs)) book;
+    stands = all_of sizes e2 (with_work (fed_with Told (r ∷ rs)) book) st;
+    did = did_join sizes _ _ _ w w w moves (noting r) first did;
+    count = none;
+  }
+
+  pub noted_in : (b : Broken) → CutsIn sizes (state_of e1 (with_work (r ∷ rs) book)) e2 w w (noting r) b → CutsIn sizes (state_of e (with_work (r ∷ rs) book)) e2 w w (moves ++ noting r) b
+  noted_in b cuts = later_in sizes _ _ e2 w w w moves (noting r) b first cuts
+
+-- such moves have no step
+pub put_free : (s : State) (r : Reading) (t : Token) → steps (put_one t ++ noting r) ≡ 0
+put_free s r t = free_of (put_one t ++ noting r) (answered_none s [] r (Puts t 0) tt)
+
+pub relax_free : (s : State) (r : Reading) (c : Command) (n : Name) → steps (Assigned (is_global (plan.page_of s) c) n (means.Prim relax_primitive) ∷ noting r) ≡ 0
+relax_free s r c n = free_of (Assigned (is_global (plan.page_of s) c) n (means.Prim relax_primitive) ∷ noting r) (answered_none s [] r (Relaxes c n) tt)

@@ -1,15 +1,19 @@
 -- What a command does before its reading ends.
-use Rattle.std.specs.Prelude.{List, [], ◌∷◌, ◌++◌, Some}
+use Rattle.std.specs.Prelude.{◌<◌, ℤ, List, [], ◌∷◌, ◌++◌, Some}
 use Rattle.plain_tokens.specs.Meanings.{meaning_to_let}
 use Rattle.plain_tokens.specs.Numerals.{whole_number, roman}
 use Rattle.plain_state.specs.Reports.{string_text}
+use Rattle.equivalents.specs.declared.values.Loc.{Loc}
+use Rattle.equivalents.specs.declared.values.Loc.TheVariants as loc
 use Rattle.equivalents.specs.declared.values.Val.TheVariants as val
-use Rattle.equivalents.specs.Locations.{IsInRow, Suits}
+use Rattle.equivalents.specs.Locations.{Suits, value_seen}
+use Rattle.equivalents.specs.Tables.{Tables, get}
+use Rattle.rows.specs.Internal.{integer_of, value_text}
 use Rattle.rows.specs.declared.command.Call.{Call}
 use Rattle.rows.specs.declared.command.Effect.{Effect}
 use Rattle.rows.specs.declared.command.Effect.TheVariants as effect
 use Rattle.plain_machine.specs.States.{Move, Set, Assigned, KeptForAssignment}
-use Rattle.plain_machine.specs.Plan.{Page, is_global, assigned, kept_for_group, shown, put_one, put_characters, marked, meaning_characters, style_of}
+use Rattle.plain_machine.specs.Plan.{Page, is_global, assigned, behind_assignment, kept_for_group, short_meaning, shown, put_one, put_characters, marked, meaning_characters, style_of}
 
 -- what is put in front
 abbrev pub put_by : Page → Effect → List Move
@@ -19,14 +23,17 @@ put_by page (effect.MakeNumber n) = put_characters (whole_number n)
 put_by page (effect.MakeRoman n) = put_characters (roman n)
 put_by page (effect.MakeString x) = put_characters (string_text (style_of page) x.token)
 put_by page (effect.MakeMeaning x) = put_characters (meaning_characters page x)
+put_by page (effect.MakeValue l) = put_characters (value_text l (value_seen (get page.now l)))
 put_by page e = []
 
--- what is done alone, where no token is obeyed and none expanded
+-- what is done alone, where no token is obeyed and none expanded, and nothing is computed
 abbrev pub done_alone : Page → Call → Effect → List Move
 done_alone page c (effect.Show x) = shown page x
 done_alone page c (effect.Let n x) = assigned page (Assigned (is_global page c) n (meaning_to_let page.now.meanings x))
 done_alone page c (effect.FutureLet n x y) = put_one y.token ++ (put_one x.token ++ assigned page (Assigned (is_global page c) n (meaning_to_let page.now.meanings y)))
 done_alone page c (effect.SetNumber l value) = assigned page (Set (is_global page c) l (val.Number value))
+done_alone page c (effect.Shorthand n s) = assigned page (Assigned (is_global page c) n (short_meaning s))
+done_alone page c effect.Unassigned = behind_assignment page.after
 done_alone page c (effect.AfterGroup x) = kept_for_group page.group x.token
 done_alone page c (effect.AfterAssignment x) = KeptForAssignment (Some x.token) ∷ []
 done_alone page c e = put_by page e
@@ -35,9 +42,30 @@ done_alone page c e = put_by page e
 abbrev pub IsAlone : Effect → Type 0
 IsAlone (effect.Obey x) = ⊥
 IsAlone (effect.ExpandBehind x y) = ⊥
+IsAlone (effect.Compute operation l n) = ⊥
 IsAlone e = Unit {0}
 
--- a number is set at a location that is there and has such numbers
+-- a location that is there, and no name's: each byte is the number of a register and of a character
+abbrev pub IsThere : Loc → Type 0
+IsThere (loc.Integer i) = i < 55
+IsThere (loc.Dimension i) = i < 21
+IsThere (loc.Glue i) = i < 18
+IsThere (loc.Tokens i) = i < 8
+IsThere (loc.Means n) = ⊥
+IsThere l = Unit {0}
+
+-- and which has all numbers
+abbrev pub HasNumbers : Loc → Type 0
+HasNumbers l = IsThere l × ((n : ℤ) → Suits l (val.Number n))
+
+-- the integer that stands at a location
+abbrev pub integer_at : Tables → Loc → ℤ
+integer_at m l = integer_of (value_seen (get m l))
+
+-- A number is set at a location that is there and has such numbers; what is computed is at one that has all; the text of a value is that of one that
+-- is there.
 abbrev pub IsSmall : Effect → Type 0
-IsSmall (effect.SetNumber l value) = IsInRow l × Suits l (val.Number value)
+IsSmall (effect.SetNumber l value) = IsThere l × Suits l (val.Number value)
+IsSmall (effect.Compute operation l n) = HasNumbers l
+IsSmall (effect.MakeValue l) = IsThere l
 IsSmall e = Unit {0}

@@ -6,21 +6,24 @@ ghost use Rattle.plain_tokens.specs.Meanings.{meaning_to_let};
 ghost use Rattle.equivalents.specs.declared.values.Loc.TheVariants as loc;
 ghost use Rattle.equivalents.specs.declared.values.Val.TheVariants as val;
 ghost use Rattle.equivalents.specs.Locations.{IsInRow, Suits};
+ghost use Rattle.meanings.specs.Kept.{without_list};
 ghost use Rattle.plain_readings.specs.Readings.{Reading};
-ghost use Rattle.rows.specs.Readings.{Acts};
+ghost use Rattle.rows.specs.Internal.{IsFetchable};
+ghost use Rattle.rows.specs.Readings.{Ask, Acts};
 ghost use Rattle.rows.specs.declared.command.Effect.TheVariants as effects;
 ghost use Rattle.reading_frames.specs.Stack.{asks_in};
+ghost use Rattle.reading_frames.specs.Weights.{IsEnd};
 ghost use Rattle.plain_machine.specs.States.{Move, Set, Assigned};
-ghost use Rattle.plain_machine.specs.Plan.{acts, is_global as plain_global, marked as plain_marked, put_one};
+ghost use Rattle.plain_machine.specs.Plan.{acts, computed_to, is_global as plain_global, marked as plain_marked, put_one, short_meaning as plain_short};
 ghost use Rattle.plain_machine.specs.Does.{Did};
 ghost use Rattle.world_io.specs.Told.{FilesTold};
 ghost use Rattle.engine_state.specs.Book.{Book, with_work};
 ghost use Rattle.engine_state.specs.Making.{IsInFront};
 ghost use Rattle.engine_state.specs.CutReadings.{CutsIn};
 ghost use Rattle.engine_state.specs.Stands.{Stands, Counts, SameFrames, state_of, page_of};
-ghost use Rattle.engine_state.specs.Rules.{world_of, Cuts};
+ghost use Rattle.engine_state.specs.Rules.{world_of, Cuts, Went};
 ghost use Rattle.engine_state.specs.Steps.{asked, pending_weight, freed, weight, IsFree, IsStep};
-ghost use Rattle.stomach.specs.Effects.{put_by, done_alone, IsSmall};
+ghost use Rattle.stomach.specs.Effects.{put_by, done_alone, integer_at as plain_integer, HasNumbers, IsAlone, IsSmall, IsThere};
 ghost use Rattle.stomach.specs.Halting.{DoesRuleIn};
 
 use crate::obeying::obey;
@@ -28,8 +31,10 @@ use engine_state::{Broken, Engine, Made, Ruled};
 use equivalents::{CodeKind, Loc};
 use gullet::{Once, expand_once};
 use reading_frames::Opening;
-use rows::{Call, Effect};
-use tex_defs::{Name, RegisterKind, Seen, Token};
+use rows::{Call, Effect, Operation, Shorthand, computed};
+use scan_numbers::integer_of;
+use tex_defs::{Fatal, Meaning, Name, RegisterKind, Seen, Token};
+use tex_syntax::{Outcome, Report};
 use world_io::Sink;
 
 /// A name as a marked one; another token as it is.
@@ -42,10 +47,47 @@ fn marked(token: Token) -> Token
     }
 }
 
+/// How many integer parameters there are, how many of dimensions, of glue and of lists of tokens.
+const INTEGER_PARAMETERS: u8 = 55;
+
+const DIMENSION_PARAMETERS: u8 = 21;
+
+const GLUE_PARAMETERS: u8 = 18;
+
+const TOKEN_PARAMETERS: u8 = 8;
+
+/// Whether a location is there, and no name's.
+fn is_there(loc: Loc) -> bool
+    ensures { MatchBool result (IsFetchable loc) (IsThere loc → ⊥) }
+{
+    match loc {
+        Loc::Code { .. } | Loc::Register { .. } => true,
+        Loc::Integer(i) => i < INTEGER_PARAMETERS,
+        Loc::Dimension(i) => i < DIMENSION_PARAMETERS,
+        Loc::Glue(i) => i < GLUE_PARAMETERS,
+        Loc::Tokens(i) => i < TOKEN_PARAMETERS,
+        Loc::Means(_) => false,
+    }
+}
+
+/// Puts in front the text of what stands at a location, if it is there. *TeX: The Program*, part 27 (`the_toks`).
+fn put_value(engine: &mut Engine, loc: Loc) -> Result<(), Broken>
+    requires idle { engine.old.input.making ≡ None }
+    ensures did { OnOk result (IsThere loc → (sizes : Sizes) (w : World) (book : Book) → Counts sizes engine.old book → Did sizes (state_of engine.old book) (state_of engine.new book) w w (put_by (page_of engine.old book) (effects.MakeValue loc))) }
+    ensures err { IfErr result (λ b. (sizes : Sizes) (w : World) (book : Book) (more : List Move) → Counts sizes engine.old book → Cuts sizes (state_of engine.old book) engine.new book w w (put_by (page_of engine.old book) (effects.MakeValue loc) ++ more) b) }
+    ensures front { IsInFront engine.old engine.new }
+    ensures idle { OnOk result (engine.new.input.making ≡ None) }
+{
+    if is_there(loc) {
+        return engine.put_characters(Made::Value(loc));
+    }
+    Ok(())
+}
+
 /// Puts in front what a command gives back or makes.
 fn put_effect(engine: &mut Engine, effect: Effect) -> Result<(), Broken>
     requires idle { engine.old.input.making ≡ None }
-    ensures did { OnOk result ((sizes : Sizes) (w : World) (book : Book) → Counts sizes engine.old book → Did sizes (state_of engine.old book) (state_of engine.new book) w w (put_by (page_of engine.old book) effect)) }
+    ensures did { OnOk result (IsSmall effect → (sizes : Sizes) (w : World) (book : Book) → Counts sizes engine.old book → Did sizes (state_of engine.old book) (state_of engine.new book) w w (put_by (page_of engine.old book) effect)) }
     ensures err { IfErr result (λ b. (sizes : Sizes) (w : World) (book : Book) (more : List Move) → Counts sizes engine.old book → Cuts sizes (state_of engine.old book) engine.new book w w (put_by (page_of engine.old book) effect ++ more) b) }
     ensures front { IsInFront engine.old engine.new }
     ensures idle { OnOk result (engine.new.input.making ≡ None) }
@@ -57,14 +99,10 @@ fn put_effect(engine: &mut Engine, effect: Effect) -> Result<(), Broken>
         Effect::MakeRoman(n) => engine.put_characters(Made::Roman(n)),
         Effect::MakeString(x) => engine.put_characters(Made::Spelling(x.token)),
         Effect::MakeMeaning(x) => engine.put_characters(Made::Meaning(x)),
+        Effect::MakeValue(loc) => put_value(engine, loc),
         _ => Ok(()),
     }
 }
-
-/// How many integer parameters there are, and how many dimension parameters.
-const INTEGER_PARAMETERS: u8 = 55;
-
-const DIMENSION_PARAMETERS: u8 = 21;
 
 /// The place of `\globaldefs` among the integer parameters.
 const GLOBAL_DEFINITIONS: u8 = 43;
@@ -97,6 +135,40 @@ fn assign(engine: &mut Engine, name: Name, x: Seen, global: bool) -> Result<(), 
     Ok(())
 }
 
+/// A name gets this meaning, which is no macro's.
+///
+/// # Errors
+/// The save stack is full; nothing has changed.
+pub(crate) fn give_meaning(
+    engine: &mut Engine,
+    name: Name,
+    meaning: Meaning<()>,
+    global: bool,
+) -> Result<(), Broken>
+    ensures did { OnOk result ((sizes : Sizes) (w : World) (book : Book) → Stands sizes engine.old book → Did sizes (state_of engine.old book) (state_of engine.new book) w w (Assigned global name (without_list meaning) ∷ [])) }
+    ensures err { IfErr result (λ b. (sizes : Sizes) (w : World) (book : Book) (more : List Move) → Stands sizes engine.old book → Cuts sizes (state_of engine.old book) engine.new book w w (Assigned global name (without_list meaning) ∷ more) b) }
+    ensures stands { OnOk result ((sizes : Sizes) (book : Book) → Stands sizes engine.old book → Stands sizes engine.new book) }
+    ensures frames { SameFrames engine.old engine.new }
+    ensures only { engine.new ≡ record engine.old { input = record engine.old.input { groups = engine.new.input.groups; lists = engine.new.input.lists } } }
+{
+    if !engine.input.is_placed(name) || engine.input.is_calling() {
+        return Ok(());
+    }
+    engine.input.set_meaning(name, meaning, global)?;
+    Ok(())
+}
+
+/// What a name means that a shorthand definition defines.
+fn short_meaning(shorthand: Shorthand) -> Meaning<()>
+    ensures { without_list result ≡ plain_short shorthand }
+{
+    match shorthand {
+        Shorthand::Character(code) => Meaning::CharGiven(code),
+        Shorthand::Math(code) => Meaning::MathGiven(code),
+        Shorthand::Register { kind, no } => Meaning::Register { kind, no },
+    }
+}
+
 /// Both tokens are put back, and the name means what the second one means.
 ///
 /// # Errors
@@ -126,7 +198,7 @@ fn assign_behind(
 
 /// Whether a number may stand at a location, which is there.
 fn takes_number(loc: Loc, value: i32) -> bool
-    ensures { MatchBool result ((IsInRow loc) × Suits loc (val.Number value)) ((IsInRow loc) × Suits loc (val.Number value) → ⊥) }
+    ensures { MatchBool result ((IsInRow loc) × Suits loc (val.Number value)) (IsThere loc → Suits loc (val.Number value) → ⊥) }
 {
     match loc {
         Loc::Code {
@@ -149,7 +221,7 @@ fn takes_number(loc: Loc, value: i32) -> bool
 /// # Errors
 /// The save stack is full; nothing has changed.
 fn set_number(engine: &mut Engine, loc: Loc, value: i32, global: bool) -> Result<(), Broken>
-    ensures did { OnOk result (IsInRow loc → Suits loc (val.Number value) → (sizes : Sizes) (w : World) (book : Book) → Stands sizes engine.old book → Did sizes (state_of engine.old book) (state_of engine.new book) w w (Set global loc (val.Number value) ∷ [])) }
+    ensures did { OnOk result (IsThere loc → Suits loc (val.Number value) → (sizes : Sizes) (w : World) (book : Book) → Stands sizes engine.old book → Did sizes (state_of engine.old book) (state_of engine.new book) w w (Set global loc (val.Number value) ∷ [])) }
     ensures err { IfErr result (λ b. (sizes : Sizes) (w : World) (book : Book) (more : List Move) → Stands sizes engine.old book → Cuts sizes (state_of engine.old book) engine.new book w w (Set global loc (val.Number value) ∷ more) b) }
     ensures stands { OnOk result ((sizes : Sizes) (book : Book) → Stands sizes engine.old book → Stands sizes engine.new book) }
     ensures frames { SameFrames engine.old engine.new }
@@ -161,7 +233,17 @@ fn set_number(engine: &mut Engine, loc: Loc, value: i32, global: bool) -> Result
     Ok(())
 }
 
-/// Does what a command says, where no token is obeyed and none expanded.
+/// The integer that stands at a location.
+fn integer_at(engine: &Engine, loc: Loc) -> i32
+    ensures { HasNumbers loc → (book : Book) → result ≡ plain_integer (page_of engine.now book).now loc }
+{
+    if takes_number(loc, 0) {
+        return integer_of(engine.input.value(loc));
+    }
+    0
+}
+
+/// Does what a command says, where no token is obeyed and none expanded, and nothing is computed.
 ///
 /// # Errors
 /// There is no room for what is put in front or in the save stack, or a write failed: the engine stands for the moment before.
@@ -198,6 +280,12 @@ fn act_alone<S: Sink>(
             set_number(engine, loc, value, global)?;
             engine.put_after()
         }
+        Effect::Shorthand(name, shorthand) => {
+            let global = is_global(engine, call);
+            give_meaning(engine, name, short_meaning(shorthand), global)?;
+            engine.put_after()
+        }
+        Effect::Unassigned => engine.put_after(),
         Effect::AfterGroup(x) => engine.keep_for_group(x.token),
         Effect::AfterAssignment(x) => {
             engine.keep_after(x.token);
@@ -277,6 +365,83 @@ fn expand_behind<S: Sink>(
     }
 }
 
+/// Does what a command says, where no token is obeyed and none expanded, and nothing is computed, and its reading ends.
+///
+/// # Errors
+/// As [`act_alone`].
+fn end_alone<S: Sink>(
+    engine: &mut Engine,
+    out: &mut S,
+    call: Call,
+    effect: Effect,
+) -> Result<(), Broken>
+    requires idle { engine.old.input.making ≡ None }
+    requires uncalled { engine.old.call ≡ None }
+    ensures rule { OnOk result (IsAlone effect → IsSmall effect → (sizes : Sizes) (f : FilesTold) (book : Book) (r : Reading) (rs : List Reading) → Stands sizes engine.old (with_work (r ∷ rs) book) →
+        Went sizes (state_of engine.old (with_work (r ∷ rs) book)) engine.new (world_of f (S.told out.old) engine.old) (world_of f (S.told out.new) engine.new) (acts (page_of engine.old book) call effect) 0) }
+    ensures err { IfErr result (λ b. IsAlone effect → IsSmall effect → (sizes : Sizes) (f : FilesTold) (book : Book) (r : Reading) (rs : List Reading) → Stands sizes engine.old (with_work (r ∷ rs) book) →
+        CutsIn sizes (state_of engine.old (with_work (r ∷ rs) book)) engine.new (world_of f (S.told out.old) engine.old) (world_of f (S.told out.new) engine.new) (acts (page_of engine.old book) call effect) b) }
+    ensures light { OnOk result ((a : Ask) → asks_in engine.old.readings.frames [] ≡ Some a → IsEnd a → weight engine.new < weight engine.old) }
+    ensures idle { OnOk result (engine.new.input.making ≡ None) }
+{
+    act_alone(engine, out, call, effect)?;
+    engine.close_reading();
+    Ok(())
+}
+
+/// A result that is out of bounds is reported, and the command ends; nothing is assigned.
+///
+/// # Errors
+/// There is no room for the token behind the assignment, or a write failed: the engine stands for the moment before.
+fn report_overflow<S: Sink>(engine: &mut Engine, out: &mut S, call: Call) -> Result<Ruled, Broken>
+    requires idle { engine.old.input.making ≡ None }
+    requires uncalled { engine.old.call ≡ None }
+    ensures rule { IfOk result (λ ruled. (sizes : Sizes) (f : FilesTold) (book : Book) (r : Reading) (rs : List Reading) (l : Loc) → Stands sizes engine.old (with_work (r ∷ rs) book) →
+        DoesRuleIn sizes (state_of engine.old (with_work (r ∷ rs) book)) engine.new (world_of f (S.told out.old) engine.old) (world_of f (S.told out.new) engine.new) (computed_to (page_of engine.old book) call l None) ruled) }
+    ensures err { IfErr result (λ b. (sizes : Sizes) (f : FilesTold) (book : Book) (r : Reading) (rs : List Reading) (l : Loc) → Stands sizes engine.old (with_work (r ∷ rs) book) →
+        CutsIn sizes (state_of engine.old (with_work (r ∷ rs) book)) engine.new (world_of f (S.told out.old) engine.old) (world_of f (S.told out.new) engine.new) (computed_to (page_of engine.old book) call l None) b) }
+    ensures step { IfOk result (λ ruled. IsStep ruled → ⊥) }
+    ensures light { IfOk result (λ ruled. IsFree ruled → (a : Ask) → asks_in engine.old.readings.frames [] ≡ Some a → IsEnd a → weight engine.new < weight engine.old) }
+    ensures idle { OnOk result (engine.new.input.making ≡ None) }
+{
+    if engine.report(out, Report::ArithmeticOverflow)? {
+        end_alone(engine, out, call, Effect::Unassigned)?;
+        return Ok(Ruled::Free);
+    }
+    Ok(Ruled::Halted(Outcome::AtFatal(Fatal::HundredErrors)))
+}
+
+/// What stands at a location is changed by arithmetic, and the command ends. *TeX: The Program*, part 49 (`do_register_command`).
+///
+/// # Errors
+/// There is no room for what comes, or a write failed: the engine stands for the moment before.
+fn compute<S: Sink>(
+    engine: &mut Engine,
+    out: &mut S,
+    call: Call,
+    operation: Operation,
+    loc: Loc,
+    number: i32,
+) -> Result<Ruled, Broken>
+    requires idle { engine.old.input.making ≡ None }
+    requires uncalled { engine.old.call ≡ None }
+    ensures rule { IfOk result (λ ruled. HasNumbers loc → (sizes : Sizes) (f : FilesTold) (book : Book) (r : Reading) (rs : List Reading) → Stands sizes engine.old (with_work (r ∷ rs) book) →
+        DoesRuleIn sizes (state_of engine.old (with_work (r ∷ rs) book)) engine.new (world_of f (S.told out.old) engine.old) (world_of f (S.told out.new) engine.new) (acts (page_of engine.old book) call (effects.Compute operation loc number)) ruled) }
+    ensures err { IfErr result (λ b. HasNumbers loc → (sizes : Sizes) (f : FilesTold) (book : Book) (r : Reading) (rs : List Reading) → Stands sizes engine.old (with_work (r ∷ rs) book) →
+        CutsIn sizes (state_of engine.old (with_work (r ∷ rs) book)) engine.new (world_of f (S.told out.old) engine.old) (world_of f (S.told out.new) engine.new) (acts (page_of engine.old book) call (effects.Compute operation loc number)) b) }
+    ensures step { IfOk result (λ ruled. IsStep ruled → ⊥) }
+    ensures light { IfOk result (λ ruled. IsFree ruled → (a : Ask) → asks_in engine.old.readings.frames [] ≡ Some a → IsEnd a → weight engine.new < weight engine.old) }
+    ensures idle { OnOk result (engine.new.input.making ≡ None) }
+{
+    match computed(operation, integer_at(engine, loc), number) {
+        Some(n) => {
+            end_alone(engine, out, call, Effect::SetNumber(loc, n))?;
+            Ok(Ruled::Free)
+        }
+        None => report_overflow(engine, out, call),
+    }
+}
+
 /// Does what a command says, and its reading ends.
 ///
 /// # Errors
@@ -300,9 +465,9 @@ pub(crate) fn act<S: Sink>(
     match effect {
         Effect::Obey(x) => obey_behind(engine, out, call, x),
         Effect::ExpandBehind(x, y) => expand_behind(engine, out, call, x, y),
+        Effect::Compute(operation, loc, n) => compute(engine, out, call, operation, loc, n),
         _ => {
-            act_alone(engine, out, call, effect)?;
-            engine.close_reading();
+            end_alone(engine, out, call, effect)?;
             Ok(Ruled::Free)
         }
     }

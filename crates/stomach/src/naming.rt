@@ -17,6 +17,7 @@ ghost use Rattle.engine_state.specs.Rules.{Cuts};
 ghost use Rattle.engine_state.specs.Steps.{pending_weight};
 ghost use Rattle.stomach.specs.Naming.{IsTooLong, OnlySpelt};
 
+use crate::effects::give_meaning;
 use engine_state::{Broken, Engine, name};
 use name_table::NameTable;
 use tex_defs::{Full, Meaning, Name, Token};
@@ -104,11 +105,10 @@ fn relax_if_undefined(engine: &mut Engine, name: Name) -> Result<(), Broken>
     ensures frames { SameFrames engine.old engine.new }
     ensures only { engine.new ≡ record engine.old { input = record engine.old.input { groups = engine.new.input.groups; lists = engine.new.input.lists } } }
 {
-    if !is_undefined(engine, name) || !engine.input.is_placed(name) || engine.input.is_calling() {
+    if !is_undefined(engine, name) {
         return Ok(());
     }
-    engine.input.set_primitive(name, RELAX, false)?;
-    Ok(())
+    give_meaning(engine, name, Meaning::Prim(RELAX), false)
 }
 
 /// The name of the characters of the list on top, if it is listed, and else of none, is spelt, entered where it is new, becomes `\relax` where it means nothing,

@@ -3,7 +3,7 @@ ghost use Rattle.std.specs.Prelude.{◌≡◌, IfOk, IfErr, OnOk, None, [], ◌�
 ghost use Rattle.tex_defs.specs.declared.Sizes.{Sizes};
 ghost use Rattle.tex_defs.specs.Places.{World};
 ghost use Rattle.plain_machine.specs.States.{GroupOpened};
-ghost use Rattle.plain_machine.specs.Plan.{brace_met, endgroup_met, character, command, primitive};
+ghost use Rattle.plain_machine.specs.Plan.{begun, brace_met, endgroup_met, character, command, primitive, register};
 ghost use Rattle.world_io.specs.Told.{FilesTold};
 ghost use Rattle.engine_state.specs.Book.{Book};
 ghost use Rattle.engine_state.specs.CutReadings.{CutsIn};
@@ -17,9 +17,9 @@ ghost use Rattle.stomach.specs.Obeying.{Obeys, is_dropped as plain_dropped};
 use engine_state::{Broken, Engine, Last, Ruled};
 use gullet::call_of;
 use reading_frames::Opening;
-use rows::{Kind, find_row};
+use rows::{Head, Kind, find_row};
 use save_stack::GroupKind;
-use tex_defs::{Meaning, Seen, Token};
+use tex_defs::{Meaning, RegisterKind, Seen, Token};
 use tex_syntax::{Report, Want};
 use world_io::Sink;
 
@@ -118,6 +118,25 @@ fn meet_endgroup<S: Sink>(engine: &mut Engine, out: &mut S, token: Token) -> Res
     }
 }
 
+/// A command is read by its row.
+fn begin_row(engine: &mut Engine, token: Token, head: Head) -> Result<Ruled, Broken>
+    requires idle { engine.old.input.making ≡ None }
+    requires uncalled { engine.old.call ≡ None }
+    ensures rule { IfOk result (λ ruled. (sizes : Sizes) (w : World) (book : Book) → Stands sizes engine.old book →
+        DoesOnward sizes (state_of engine.old book) engine.new book w w (begun token head) ruled) }
+    ensures err { IfErr result (λ b. (sizes : Sizes) (w : World) (book : Book) → Stands sizes engine.old book →
+        CutsIn sizes (state_of engine.old book) engine.new w w (begun token head) b) }
+    ensures step { IfOk result (λ ruled. ruled ≡ Step) }
+    ensures column { engine.new.in_line ≡ engine.old.in_line }
+    ensures frames { OnOk result (Obeys engine.old engine.new) }
+    ensures light { OnOk result (pending_weight engine.new.input.pending ≡ pending_weight engine.old.input.pending) }
+    ensures call { OnOk result (engine.new.call ≡ engine.old.call) }
+    ensures idle { OnOk result (engine.new.input.making ≡ None) }
+{
+    engine.begin(Opening::Reads(Kind::Command(call_of(token, head))))?;
+    Ok(Ruled::Step)
+}
+
 /// What a primitive in the stomach comes to that isn't expanded.
 fn obey_primitive<S: Sink>(
     engine: &mut Engine,
@@ -138,9 +157,9 @@ fn obey_primitive<S: Sink>(
     ensures call { OnOk result (engine.new.call ≡ engine.old.call) }
     ensures idle { OnOk result (engine.new.input.making ≡ None) }
 {
-    if find_row(number).is_some() {
-        engine.begin(Opening::Reads(Kind::Command(call_of(token, number))))?;
-        return Ok(Ruled::Step);
+    let head = Head::Primitive(number);
+    if find_row(head).is_some() {
+        return begin_row(engine, token, head);
     }
     match number {
         END => engine.halt(out, Last::End),
@@ -153,6 +172,34 @@ fn obey_primitive<S: Sink>(
             Ok(Ruled::Step)
         }
     }
+}
+
+/// The name of a register, which is an assignment where registers of its kind have a row. *TeX: The Program*, part 49 (`assign_int`).
+fn obey_register<S: Sink>(
+    engine: &mut Engine,
+    out: &mut S,
+    token: Token,
+    kind: RegisterKind,
+    no: u8,
+) -> Result<Ruled, Broken>
+    requires idle { engine.old.input.making ≡ None }
+    requires uncalled { engine.old.call ≡ None }
+    ensures rule { IfOk result (λ ruled. (sizes : Sizes) (f : FilesTold) (book : Book) → Stands sizes engine.old book →
+        DoesOnward sizes (state_of engine.old book) engine.new book (world_of f (S.told out.old) engine.old) (world_of f (S.told out.new) engine.new) (register (page_of engine.old book) token kind no) ruled) }
+    ensures err { IfErr result (λ b. (sizes : Sizes) (f : FilesTold) (book : Book) → Stands sizes engine.old book →
+        CutsIn sizes (state_of engine.old book) engine.new (world_of f (S.told out.old) engine.old) (world_of f (S.told out.new) engine.new) (register (page_of engine.old book) token kind no) b) }
+    ensures step { IfOk result (λ ruled. ruled ≡ Step) }
+    ensures frames { OnOk result (Obeys engine.old engine.new) }
+    ensures light { OnOk result (pending_weight engine.new.input.pending ≡ pending_weight engine.old.input.pending) }
+    ensures call { OnOk result (engine.new.call ≡ engine.old.call) }
+    ensures idle { OnOk result (engine.new.input.making ≡ None) }
+{
+    let head = Head::Register(kind, no);
+    if find_row(head).is_some() {
+        return begin_row(engine, token, head);
+    }
+    engine.token_line(out, Meaning::Register { kind, no })?;
+    Ok(Ruled::Step)
 }
 
 /// A character in the stomach, explicit or implicit: braces open and close groups.
@@ -203,6 +250,7 @@ pub(crate) fn obey<S: Sink>(engine: &mut Engine, out: &mut S, x: Seen) -> Result
 {
     match x.meaning {
         Meaning::Prim(number) => obey_primitive(engine, out, x.token, number),
+        Meaning::Register { kind, no } => obey_register(engine, out, x.token, kind, no),
         Meaning::RelaxMarked => Ok(Ruled::Step),
         Meaning::Char { cat, code } => obey_character(engine, out, cat, code),
         meaning => {

@@ -20,7 +20,7 @@ ghost use Rattle.stomach.specs.Halting.{DoesRuleIn, DoesPlanIn, CutsPlanIn};
 
 use crate::define::define;
 use crate::effects::act;
-use crate::ends::{begin_inner, done, tell};
+use crate::ends::{begin_inner, done, put, relax, tell};
 use crate::naming::make_name;
 use crate::obeying::hand_on;
 use engine_state::{Broken, Engine, Ruled, stops};
@@ -149,6 +149,14 @@ fn ask_rule<S: Sink>(engine: &mut Engine, out: &mut S, ask: Ask) -> Result<Ruled
         }
         Ask::Tells(report, back) => tell(engine, out, report, None, back),
         Ask::Inserts(token, report, back) => tell(engine, out, report, Some(token), back),
+        Ask::Puts(token, _) => {
+            put(engine, token)?;
+            Ok(Ruled::Free)
+        }
+        Ask::Relaxes(call, name) => {
+            relax(engine, call, name)?;
+            Ok(Ruled::Free)
+        }
         Ask::Fetches(loc) => {
             engine.fetch(loc);
             Ok(Ruled::Free)

@@ -4,4 +4,4 @@
 
 mod words;
 
-pub use words::{Manner, Outcome, Report, Scanned, Want};
+pub use words::{Manner, Outcome, Report, Scanned, UnitTaken, Want};

@@ -35,6 +35,17 @@ pub enum Scanned {
     Text,
 }
 
+/// The unit of measure that is taken in place of an illegal one.
+#[derive(Clone, Copy, PartialEq, Eq)]
+pub enum UnitTaken {
+    /// "pt inserted".
+    Pt,
+    /// "mu inserted".
+    Mu,
+    /// "replaced by filll".
+    Filll,
+}
+
 /// What is reported. *The TeXbook*, chapter 27; *TeX: The Program*, part 6 (`error`).
 #[derive(Clone, Copy, PartialEq, Eq)]
 pub enum Report {
@@ -52,6 +63,16 @@ pub enum Report {
     BadCharacterCode(i32),
     /// "Bad register code (n)".
     BadRegisterCode(i32),
+    /// "Bad mathchar (n)".
+    BadMathchar(i32),
+    /// "You can't use `X' after \the": what the token means, and the number of the primitive that can't use it.
+    CantUseAfter(Meaning<()>, u16),
+    /// "Dimension too large".
+    DimensionTooLarge,
+    /// "Illegal unit of measure (pt inserted)" and its like.
+    IllegalUnit(UnitTaken),
+    /// "Arithmetic overflow": a sum, a product or a quotient that is out of bounds.
+    ArithmeticOverflow,
     /// "Incompatible glue units": glue in mu, where a number or other glue is read.
     IncompatibleUnits,
     /// "Invalid code (n), should be in the range 0..m": the code, and the greatest of its range.

@@ -5,9 +5,10 @@ use Rattle.std.specs.Fmt.{decimal}
 use Rattle.std.proofs.lemmas.List.{append-nil}
 use Rattle.std.proofs.lemmas.Grind.{flat_map-append}
 use Rattle.tex_syntax.specs.declared.words.Report.{Report}
-use Rattle.tex_syntax.specs.declared.words.Report.TheVariants.{UndefinedName, InvalidCharacter, ImproperConstant, MissingNumber, NumberTooBig, BadCharacterCode, BadRegisterCode, IncompatibleUnits, InvalidCode, CodeTooGreat, MissingBrace, FileEnded, Forbidden, MissingName, NotConsecutive, AlreadyNine, IllegalNumber, UseMismatch, ExtraBrace, ParagraphEnded, PrefixWith, LongOrOuterWith, MissingEndcsname, ExtraEndcsname, TooManyBraces, ForgottenEndgroup, ExtraEndgroup, MissingRightBrace}
+use Rattle.tex_syntax.specs.declared.words.Report.TheVariants.{UndefinedName, InvalidCharacter, ImproperConstant, MissingNumber, NumberTooBig, BadCharacterCode, BadRegisterCode, BadMathchar, CantUseAfter, DimensionTooLarge, IllegalUnit, ArithmeticOverflow, IncompatibleUnits, InvalidCode, CodeTooGreat, MissingBrace, FileEnded, Forbidden, MissingName, NotConsecutive, AlreadyNine, IllegalNumber, UseMismatch, ExtraBrace, ParagraphEnded, PrefixWith, LongOrOuterWith, MissingEndcsname, ExtraEndcsname, TooManyBraces, ForgottenEndgroup, ExtraEndgroup, MissingRightBrace}
 use Rattle.tex_syntax.specs.declared.words.Scanned.{Scanned}
 use Rattle.tex_syntax.specs.declared.words.Scanned.TheVariants as scanned
+use Rattle.tex_syntax.specs.declared.words.UnitTaken.TheVariants as unit
 use Rattle.tex_defs.specs.declared.Name.{Name}
 use Rattle.tex_defs.specs.declared.Token.{Token}
 use Rattle.tex_defs.specs.declared.Token.TheVariants.{Char, Named, Marked, Place, Number, EndPlaces}
@@ -16,7 +17,7 @@ use Rattle.plain_tokens.specs.Printed.{Style, escaped, meaning_head, list_text, 
 use Rattle.plain_state.specs.Reports as plain
 use Rattle.plain_state.specs.Reports.{fresh_line, report_text, report_bytes, error_message_bytes, shown_name, macro_feed, shown_meaning_bytes}
 use Rattle.token_show.specs.Bytes.{all_printed}
-use Rattle.transcript.specs.Reported.{opening, subject, closing, token_name, equals_behind}
+use Rattle.transcript.specs.Reported.{opening, subject, closing, closing_name, token_name, equals_behind}
 
 -- PIECES, each printed as f prints its characters
 
@@ -48,6 +49,15 @@ module _ (f : ℕ → List ℕ) where
       ((fresh ++ flat_map f mark) ++ flat_map f opening) ++ (flat_map f subject ++ (flat_map f closing ++ (flat_map f dot ++ (10 ∷ (flat_map f line ++ (flat_map f number ++ 10 ∷ []))))))
       ≡ fresh ++ ((flat_map f (mark ++ ((opening ++ (subject ++ closing)) ++ dot)) ++ 10 ∷ []) ++ (flat_map f (line ++ number) ++ 10 ∷ []))
   report_around fresh mark opening subject closing dot line number = simp (flat_map-append, append_assoc)
+
+  -- and with a name behind
+  pub report_named : (fresh mark opening subject closing name dot line number start before shown close last behind first second said : List ℕ) →
+      start ≡ fresh ++ flat_map f mark → before ≡ start ++ flat_map f opening → shown ≡ flat_map f subject → close ≡ flat_map f closing → last ≡ flat_map f name →
+      behind ≡ flat_map f dot ++ (10 ∷ (flat_map f line ++ (flat_map f number ++ 10 ∷ []))) →
+      first ≡ before ++ (shown ++ close) → second ≡ last ++ behind → said ≡ first ++ second →
+      said ≡ fresh ++ ((flat_map f (mark ++ ((opening ++ (subject ++ (closing ++ name))) ++ dot)) ++ 10 ∷ []) ++ (flat_map f (line ++ number) ++ 10 ∷ []))
+  report_named fresh mark opening subject closing name dot line number start before shown close last behind first second said m b s k n h i j w =
+      rw (w, i, j, b, m, s, k, n, h) (simp (flat_map-append, append_assoc))
 
   -- a report whose text is one list
   pub message_around : (fresh mark text dot line number : List ℕ) →
@@ -91,8 +101,8 @@ forbidden_is style scanned.Definition name = ap (λ (t : List ℕ). codes "Forbi
 forbidden_is style scanned.Use name = ap (λ (t : List ℕ). codes "Forbidden control sequence found while scanning use of " ++ t) (append-nil (subject style (Forbidden scanned.Use name)))
 forbidden_is style scanned.Text name = ap (λ (t : List ℕ). codes "Forbidden control sequence found while scanning text of " ++ t) (append-nil (subject style (Forbidden scanned.Text name)))
 
--- a report's text is its opening, the name or meaning in it, and what closes it
-report_is : (style : Style) (r : Report) → opening style r ++ (subject style r ++ closing r) ≡ report_text style r
+-- a report's text is its opening, the name or meaning in it, and what stands behind that
+report_is : (style : Style) (r : Report) → opening style r ++ (subject style r ++ (closing r ++ closing_name style r)) ≡ report_text style r
 report_is style UndefinedName = refl
 report_is style InvalidCharacter = refl
 report_is style ImproperConstant = refl
@@ -100,6 +110,13 @@ report_is style MissingNumber = refl
 report_is style NumberTooBig = refl
 report_is style (BadCharacterCode n) = append-nil (opening style (BadCharacterCode n))
 report_is style (BadRegisterCode n) = append-nil (opening style (BadRegisterCode n))
+report_is style (BadMathchar n) = append-nil (opening style (BadMathchar n))
+report_is style (CantUseAfter m number) = refl
+report_is style DimensionTooLarge = refl
+report_is style (IllegalUnit unit.Pt) = refl
+report_is style (IllegalUnit unit.Mu) = refl
+report_is style (IllegalUnit unit.Filll) = refl
+report_is style ArithmeticOverflow = refl
 report_is style IncompatibleUnits = refl
 report_is style (InvalidCode n greatest) = append-nil (opening style (InvalidCode n greatest))
 report_is style (CodeTooGreat n greatest) = append-nil (opening style (CodeTooGreat n greatest))
@@ -122,12 +139,15 @@ report_is style ForgottenEndgroup = append-nil (opening style ForgottenEndgroup)
 report_is style ExtraEndgroup = append-nil (opening style ExtraEndgroup)
 report_is style MissingRightBrace = refl
 
-pub report_parts : (style : Style) (b : Bool) (line : ℕ) (r : Report) (start before shown close behind : List ℕ) →
-    start ≡ fresh_line b ++ printed_all style (codes "! ") → before ≡ start ++ printed_all style (opening style r) → shown ≡ printed_all style (subject style r) → close ≡ closing r →
-    behind ≡ printed_all style close ++ (printed_all style (codes ".") ++ (10 ∷ (printed_all style (codes "l.") ++ (printed_all style (decimal line) ++ 10 ∷ [])))) →
-    before ++ (shown ++ behind) ≡ report_bytes style b line r
-report_parts style b line r start before shown close behind m i s k h =
-    around_parts (printed_by style.newline) (fresh_line b) (codes "! ") (opening style r) (subject style r) (closing r) (codes ".") (codes "l.") (decimal line) start before shown behind m i s (rw k at h)
+pub report_parts : (style : Style) (b : Bool) (line : ℕ) (r : Report) (start before shown close last behind first second said : List ℕ) →
+    start ≡ fresh_line b ++ printed_all style (codes "! ") → before ≡ start ++ printed_all style (opening style r) → shown ≡ printed_all style (subject style r) → close ≡ printed_all style (closing r) →
+    last ≡ printed_all style (closing_name style r) →
+    behind ≡ printed_all style (codes ".") ++ (10 ∷ (printed_all style (codes "l.") ++ (printed_all style (decimal line) ++ 10 ∷ []))) →
+    first ≡ before ++ (shown ++ close) → second ≡ last ++ behind → said ≡ first ++ second →
+    said ≡ report_bytes style b line r
+report_parts style b line r start before shown close last behind first second said m i s k n h x y z =
+    report_named (printed_by style.newline) (fresh_line b) (codes "! ") (opening style r) (subject style r) (closing r) (closing_name style r) (codes ".") (codes "l.") (decimal line)
+    start before shown close last behind first second said m i s k n h x y z
     ∙ ap (λ (text : List ℕ). plain.reported_line style b line text) (report_is style r)
 
 -- the same opening, of a report and with a newline character that have other names

@@ -1,11 +1,11 @@
 -- What the engine's reports stand for, and the parts in which their texts and those of `\show` are written.
 use Rattle.std.specs.Prelude.{ℕ, List, [], ◌++◌, codes}
 use Rattle.tex_syntax.specs.declared.words.Report.{Report}
-use Rattle.tex_syntax.specs.declared.words.Report.TheVariants.{BadCharacterCode, BadRegisterCode, InvalidCode, CodeTooGreat, FileEnded, Forbidden, IllegalNumber, UseMismatch, ExtraBrace, ParagraphEnded, PrefixWith, LongOrOuterWith, MissingEndcsname, ExtraEndcsname, ForgottenEndgroup, ExtraEndgroup}
+use Rattle.tex_syntax.specs.declared.words.Report.TheVariants.{BadCharacterCode, BadRegisterCode, BadMathchar, CantUseAfter, InvalidCode, CodeTooGreat, FileEnded, Forbidden, IllegalNumber, UseMismatch, ExtraBrace, ParagraphEnded, PrefixWith, LongOrOuterWith, MissingEndcsname, ExtraEndcsname, ForgottenEndgroup, ExtraEndgroup}
 use Rattle.tex_syntax.specs.declared.words.Scanned.{Scanned}
 use Rattle.tex_defs.specs.declared.Token.{Token}
 use Rattle.tex_defs.specs.declared.Token.TheVariants.{Named, Marked}
-use Rattle.plain_tokens.specs.Printed.{Style, escaped, name_text, meaning_head}
+use Rattle.plain_tokens.specs.Printed.{Style, escaped, primitive_word, name_text, meaning_head}
 use Rattle.plain_state.specs.Reports.{report_text, scanned_word}
 
 -- what stands before the name where a file ended, or the name of an \outer macro came
@@ -28,6 +28,7 @@ opening style (UseMismatch name) = codes "Use of "
 opening style (ExtraBrace name) = codes "Argument of "
 opening style (ParagraphEnded name) = codes "Paragraph ended before "
 opening style (PrefixWith m) = codes "You can't use a prefix with `"
+opening style (CantUseAfter m number) = codes "You can't use `"
 opening style (LongOrOuterWith m) = prefix_opening style
 opening style r = report_text style r
 
@@ -35,6 +36,7 @@ opening style r = report_text style r
 abbrev pub IsFixed : Report → Type 0
 IsFixed (BadCharacterCode n) = ⊥
 IsFixed (BadRegisterCode n) = ⊥
+IsFixed (BadMathchar n) = ⊥
 IsFixed (InvalidCode n greatest) = ⊥
 IsFixed (CodeTooGreat n greatest) = ⊥
 IsFixed (LongOrOuterWith m) = ⊥
@@ -53,17 +55,24 @@ subject style (UseMismatch name) = name_text style name
 subject style (ExtraBrace name) = name_text style name
 subject style (ParagraphEnded name) = name_text style name
 subject style (PrefixWith m) = meaning_head style m
+subject style (CantUseAfter m number) = meaning_head style m
 subject style (LongOrOuterWith m) = meaning_head style m
 subject style r = []
 
--- and what closes the text behind it
+-- and what stands behind it
 abbrev pub closing : Report → List ℕ
 closing (PrefixWith m) = codes "'"
+closing (CantUseAfter m number) = codes "' after "
 closing (LongOrOuterWith m) = codes "'"
 closing (UseMismatch name) = codes " doesn't match its definition"
 closing (ExtraBrace name) = codes " has an extra }"
 closing (ParagraphEnded name) = codes " was complete"
 closing r = []
+
+-- the name of a primitive that closes the text, if there is one
+abbrev pub closing_name : Style → Report → List ℕ
+closing_name style (CantUseAfter m number) = escaped style (primitive_word number)
+closing_name style r = []
 
 -- the name that `\show` has before a meaning, and what stands between them
 abbrev pub token_name : Style → Token → List ℕ

@@ -1,7 +1,7 @@
 // Reports.
 ghost use Rattle.std.specs.Prelude.{◌≡◌, ◌≤◌, ◌+◌, ◌∷◌, ◌++◌, [], codes, length, OnOk, IfErr, IfSome, IsTrue};
 ghost use Rattle.std.specs.Fmt.{decimal};
-ghost use Rattle.plain_state.specs.Reports.{fresh_line, report_bytes, error_message_bytes, missing_file_bytes};
+ghost use Rattle.plain_state.specs.Reports.{fresh_line, unit_taken, report_bytes, error_message_bytes, missing_file_bytes};
 ghost use Rattle.token_lists.specs.Table.{IsHeld};
 ghost use Rattle.token_lists.specs.Ids.{build_id};
 ghost use Rattle.plain_tokens.specs.Printed.{Style, escaped, printed_all};
@@ -9,14 +9,16 @@ ghost use Rattle.token_show.specs.Bytes.{all_printed};
 ghost use Rattle.token_show.specs.Views.{style_of, build_tokens, IsView};
 ghost use Rattle.transcript.specs.Given.{tokens_given};
 ghost use Rattle.transcript.specs.Plain.{is_plain};
-ghost use Rattle.transcript.specs.Reported.{opening, prefix_opening, ended_opening, forbidden_opening, subject, closing, IsFixed};
+ghost use Rattle.transcript.specs.Reported.{opening, prefix_opening, ended_opening, forbidden_opening, subject, closing, closing_name, IsFixed};
 ghost use Rattle.transcript.specs.Taken.{Took, TookFront};
 
 use crate::fixed::{fresh_line, put_escape, put_fixed, put_number, put_signed};
 use crate::message::show_given;
-use crate::writing::put_around;
+use crate::said::{Said, SaidParts};
+use crate::writing::{put_around, put_said};
 use char_text::Text;
-use tex_syntax::{Report, Scanned};
+use tex_defs::Meaning;
+use tex_syntax::{Report, Scanned, UnitTaken};
 use token_lists::Build;
 use token_show::{Shown, View, meaning_head, name_text, show_bytes};
 use world_io::{Fault, Sink};
@@ -47,6 +49,16 @@ fn put_bad_register(text: &mut Text, newline: i32, n: i32)
     ensures { (style : Style) → text.new ≡ text.old ++ all_printed newline (opening style (Report.BadRegisterCode n)) }
 {
     put_fixed(text, newline, b"Bad register code (");
+    put_signed(text, newline, n);
+    put_fixed(text, newline, b")");
+}
+
+// Puts the report of the code of a mathematical character.
+fn put_bad_mathchar(text: &mut Text, newline: i32, n: i32)
+    requires { length text.old ≤ 3 }
+    ensures { (style : Style) → text.new ≡ text.old ++ all_printed newline (opening style (Report.BadMathchar n)) }
+{
+    put_fixed(text, newline, b"Bad mathchar (");
     put_signed(text, newline, n);
     put_fixed(text, newline, b")");
 }
@@ -125,6 +137,19 @@ fn forbidden_while(what: Scanned) -> &'static [u8]
     }
 }
 
+// The report of an illegal unit, by what is taken in its place.
+fn illegal_unit(taken: UnitTaken) -> &'static [u8]
+    ensures text { result.now ≡ codes "Illegal unit of measure (" ++ (unit_taken taken ++ codes ")") }
+    ensures plain { IsTrue (is_plain result.now) }
+    ensures short { length result.now ≤ 70 }
+{
+    match taken {
+        UnitTaken::Pt => b"Illegal unit of measure (pt inserted)",
+        UnitTaken::Mu => b"Illegal unit of measure (mu inserted)",
+        UnitTaken::Filll => b"Illegal unit of measure (replaced by filll)",
+    }
+}
+
 // A report's text, up to the name or meaning in it, where no number and no escape character stands in it.
 fn fixed_opening(report: Report) -> &'static [u8]
     requires { IsFixed report }
@@ -138,6 +163,10 @@ fn fixed_opening(report: Report) -> &'static [u8]
         Report::ImproperConstant => b"Improper alphabetic constant",
         Report::MissingNumber => b"Missing number, treated as zero",
         Report::NumberTooBig => b"Number too big",
+        Report::CantUseAfter(_, _) => b"You can't use `",
+        Report::DimensionTooLarge => b"Dimension too large",
+        Report::IllegalUnit(taken) => illegal_unit(taken),
+        Report::ArithmeticOverflow => b"Arithmetic overflow",
         Report::IncompatibleUnits => b"Incompatible glue units",
         Report::MissingBrace => b"Missing { inserted",
         Report::FileEnded(what, _) => ended_while(what),
@@ -154,6 +183,7 @@ fn fixed_opening(report: Report) -> &'static [u8]
         Report::MissingRightBrace => b"Missing } inserted",
         Report::BadCharacterCode(_)
         | Report::BadRegisterCode(_)
+        | Report::BadMathchar(_)
         | Report::InvalidCode(_, _)
         | Report::CodeTooGreat(_, _)
         | Report::LongOrOuterWith(_)
@@ -173,6 +203,7 @@ fn put_opening(text: &mut Text, view: View<'_>, report: Report)
     match report {
         Report::BadCharacterCode(n) => put_bad_code(text, view.names.newline, n),
         Report::BadRegisterCode(n) => put_bad_register(text, view.names.newline, n),
+        Report::BadMathchar(n) => put_bad_mathchar(text, view.names.newline, n),
         Report::InvalidCode(n, greatest) => put_invalid_code(text, view.names.newline, n, greatest),
         Report::CodeTooGreat(n, greatest) => put_great_code(text, view.names.newline, n, greatest),
         Report::LongOrOuterWith(_) => put_prefix(text, view),
@@ -198,14 +229,14 @@ fn show_subject<'a>(view: View<'a>, report: Report) -> Shown<'a>
         | Report::UseMismatch(name)
         | Report::ExtraBrace(name)
         | Report::ParagraphEnded(name) => name_text(view, name),
-        Report::PrefixWith(meaning) | Report::LongOrOuterWith(meaning) => {
-            meaning_head(view, &meaning)
-        }
+        Report::PrefixWith(meaning)
+        | Report::LongOrOuterWith(meaning)
+        | Report::CantUseAfter(meaning, _) => meaning_head(view, &meaning),
         _ => show_bytes(view, b""),
     }
 }
 
-// What closes a report's text behind the name or meaning in it.
+// What stands in a report's text behind the name or meaning in it.
 fn closing(report: Report) -> &'static [u8]
     ensures text { result.now ≡ closing report }
     ensures plain { IsTrue (is_plain result.now) }
@@ -213,10 +244,31 @@ fn closing(report: Report) -> &'static [u8]
 {
     match report {
         Report::PrefixWith(_) | Report::LongOrOuterWith(_) => b"'",
+        Report::CantUseAfter(_, _) => b"' after ",
         Report::UseMismatch(_) => b" doesn't match its definition",
         Report::ExtraBrace(_) => b" has an extra }",
         Report::ParagraphEnded(_) => b" was complete",
         _ => b"",
+    }
+}
+
+// The same, printed.
+fn closing_text(newline: i32, report: Report) -> Text
+    ensures { result ≡ all_printed newline (closing report) }
+{
+    let mut text = Text::new();
+    put_fixed(&mut text, newline, closing(report));
+    text
+}
+
+// The name of a primitive that closes a report's text, if there is one.
+fn show_closing_name<'a>(view: View<'a>, report: Report) -> Shown<'a>
+    requires { IsView view }
+    ensures { result ≡ printed_all (style_of view.entry) (closing_name (style_of view.entry) report) }
+{
+    match report {
+        Report::CantUseAfter(_, number) => meaning_head(view, &Meaning::<()>::Prim(number)),
+        _ => show_bytes(view, b""),
     }
 }
 
@@ -255,14 +307,11 @@ pub fn write_report<S: Sink>(
 {
     let mut before = report_mark(view.names.newline, *in_line);
     put_opening(&mut before, view, report);
-    let behind = line_number(view.names.newline, closing(report), line);
-    put_around(
-        out,
-        in_line,
-        before.bytes(),
-        show_subject(view, report),
-        behind.bytes(),
-    )
+    let close = closing_text(view.names.newline, report);
+    let behind = line_number(view.names.newline, b"", line);
+    let text = Said::new(before.bytes(), show_subject(view, report), close.bytes());
+    let last = Said::new(b"", show_closing_name(view, report), behind.bytes());
+    put_said(out, in_line, SaidParts::two(text, last))
 }
 
 /// Writes a report whose text is a list as a message has it, no tokens where there is no list, and then the number of the line

@@ -94,6 +94,18 @@ impl<'a> SaidParts<'a> {
         }
     }
 
+    // Two texts.
+    #[tactic(auto, using(crate::proofs::Joins::alone))]
+    pub(crate) fn two(first: Said<'a>, second: Said<'a>) -> SaidParts<'a>
+        ensures { result ≡ first.entry ++ second.entry }
+    {
+        SaidParts {
+            first,
+            second: Some(second),
+            third: None,
+        }
+    }
+
     // Three texts.
     pub(crate) fn three(first: Said<'a>, second: Said<'a>, third: Said<'a>) -> SaidParts<'a>
         ensures { result ≡ first.entry ++ (second.entry ++ third.entry) }

@@ -11,6 +11,11 @@ returns c = record {
     others = record { category = refl; delimiter = refl; no_character = refl; chardef = refl; mathchardef = refl; countdef = refl; toks = refl; everypar = refl; toksdef = refl };
   };
   reports = record { missing = refl; no_octal = refl; improper = refl; greatest = refl; too_big = refl };
+  keywords = record {
+    found = record { found = refl; capitals = refl; single = refl };
+    given_back = record { space = refl; space_held = refl; digit = refl; name = refl; fourth = refl; fifth = refl };
+    lent = record { first = refl; refused = refl; whole = refl };
+  };
   names = record { name = refl; name_held = refl; empty = refl; let_name = refl; missing = refl; missing_held = refl };
   files = record { space = refl; space_held = refl; relax = refl; relax_held = refl; implicit = refl; implicit_held = refl; empty = refl; active = refl };
   built = record { text = refl; text_held = refl; raw_text = refl; brace = refl; message_held = refl; empty_message_held = refl; number_held = refl; def_held = refl; waiting = refl; waiting_held = refl; macro_held = refl };

@@ -48,6 +48,11 @@ returns-in-Within c ts =
     at c.args.stage c.args.call (values c.args.read.now) ts c.args.y c.behind.result (kept.Within c.in-Within.kind) c.args.kept c.in-Within.is
     (c.behind.ensures c.args.call (values c.args.read.now) ts)
 
+pub returns-in-Numbered : goal.returns-in-Numbered
+returns-in-Numbered c ts =
+    at c.args.stage c.args.call (values c.args.read.now) ts c.args.y c.numbered.result (kept.Numbered c.in-Numbered.bank) c.args.kept c.in-Numbered.is
+    (c.numbered.ensures c.args.stage c.args.call (values c.args.read.now) ts)
+
 pub returns-in-Noting : goal.returns-in-Noting
 returns-in-Noting c ts =
     at c.args.stage c.args.call (values c.args.read.now) ts c.args.y c.told.result (kept.Noting c.in-Noting.note c.in-Noting.next) c.args.kept c.in-Noting.is

@@ -9,6 +9,7 @@ use Rattle.rows.proofs.laws.notes_are_single.Goals as goal
 due_once : (n : Note) → NotesOnce false (due n)
 due_once (note.Tells report back) = refl
 due_once (note.Inserts t report back) = refl
+due_once (note.Relaxes c n) = tt
 
 pub returns : goal.returns
 returns _ c fed = row_holds NotesOnce (λ b want. tt) (λ b k begins low. tt) (λ b c e. tt) (λ b c e ts. tt) (λ b c n ts. tt) (λ b. tt) due_once c fed

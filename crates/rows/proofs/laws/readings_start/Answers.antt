@@ -15,4 +15,4 @@ first_starts c s ss (Looks want) = tt
 first_starts c s ss (Begins k) = tt
 
 pub returns : goal.returns
-returns _ c = first_starts c (first_in (row_of c.primitive).0) (rest_in (row_of c.primitive).0) (start (first_in (row_of c.primitive).0) c [])
+returns _ c = first_starts c (first_in (row_of c.head).0) (rest_in (row_of c.head).0) (start (first_in (row_of c.head).0) c [])

@@ -1,11 +1,11 @@
 -- Each is computed.
 use Rattle.std.proofs.Common.{◌≡◌, map, refl}
-use Rattle.prim_table.specs.Primitives.{primitive_name, primitive_names, command_names, assignment_names, expandable_names, conditional_names, integer_names}
+use Rattle.prim_table.specs.Primitives.{primitive_name, primitive_names, command_names, assignment_names, expandable_names, conditional_names, integer_names, dimension_names, glue_names}
 use Rattle.rows.specs.Worked.{numbers, commands}
 use Rattle.rows.proofs.laws.worked_rows.Goals as goal
 
 names : map primitive_name numbers ≡ commands
-unfolding primitive_name primitive_names command_names assignment_names expandable_names conditional_names integer_names
+unfolding primitive_name primitive_names command_names assignment_names expandable_names conditional_names integer_names dimension_names glue_names
 names = refl
 
 pub returns : goal.returns
@@ -19,6 +19,47 @@ returns c = record {
   categories = record { sets = refl; begins = refl; too_great = refl; negative = refl; greatest = refl };
   codes = record { lowercase = refl; uppercase = refl; space_factor = refl; math = refl; math_too_great = refl; delimiter = refl; delimiter_too_great = refl };
   parameters = record { equals_number = refl; begins = refl; negative = refl; global = refl; last = refl; aftergroup = refl; afterassignment = refl };
-  registers = record { sets = refl; too_great = refl };
+  registers = record { sets = refl; too_great = refl; named = refl; named_begins = refl; named_global = refl; named_long = refl };
+  arithmetic = record {
+    advance = refl;
+    without = refl;
+    too_great = refl;
+    parameter = refl;
+    named = refl;
+    letter_refused = refl;
+    relax_refused = refl;
+    code_refused = refl;
+    character_refused = refl;
+    global = refl;
+    global_refused = refl;
+    multiply = refl;
+    divide = refl;
+  };
+  shorthands = record {
+    chardef = refl;
+    mathchardef = refl;
+    countdef = refl;
+    character_too_great = refl;
+    math_too_great = refl;
+    math_negative = refl;
+    math_greatest = refl;
+    register_too_great = refl;
+    missing = refl;
+    global = refl;
+  };
+  values = record {
+    character = refl;
+    math = refl;
+    integer = refl;
+    dimension = refl;
+    glue = refl;
+    named = refl;
+    category = refl;
+    category_too_great = refl;
+    skip = refl;
+    dimen_negative = refl;
+    letter_refused = refl;
+    relax_refused = refl;
+  };
   expansions = record { expandafter = refl; noexpand = refl; number_made = refl; romannumeral = refl; string = refl; meaning = refl; statuses = refl };
 }

@@ -1,14 +1,16 @@
-use Rattle.std.proofs.Common.{[], ◌∷◌, subst, sym}
+use Rattle.std.proofs.Common.{◌∷◌, subst, sym, rules, w32, FitsSigned}
+use Rattle.std.proofs.lemmas.Int.{to_z-of_z}
 use Rattle.rows.specs.declared.command.Effect.{Effect}
+use Rattle.rows.specs.Readings.{Acts}
 use Rattle.plain_machine.specs.Plan.{acts}
-use Rattle.plain_machine.specs.States.{Closed}
 use Rattle.engine_state.specs.Book.{with_work}
 use Rattle.engine_state.specs.CutReadings.{CutsIn}
 use Rattle.engine_state.specs.Rules.{world_of}
 use Rattle.engine_state.specs.Stands.{state_of, page_of}
 use Rattle.engine_state.proofs.Joining.{same_err, ok_to, err_to}
 use Rattle.stomach.specs.Halting.{DoesRuleIn}
-use Rattle.stomach.proofs.ActsEnding.{is_alone, small_effect, alone_cut, alone_rule, ended_lighter}
+use Rattle.stomach.specs.Effects.{IsSmall}
+use Rattle.stomach.proofs.ActsEnding.{is_alone, small_effect}
 use Rattle.stomach.proofs.effects.act.Goals as goal
 
 pub returns-in-Obey-clause-rule : goal.returns-in-Obey-clause-rule
@@ -39,19 +41,31 @@ returns-in-ExpandBehind-clause-err g c = let e = c.args.engine.now in let e2 = c
     subst (λ (does : Effect). CutsIn sizes (state_of e (with_work (r ∷ rs) book)) e2 (world_of f (g.S.Sink.told c.args.out.now) e) (world_of f (g.S.Sink.told c.expand_behind.new.out) e2) (acts (page_of e book) c.args.call does) b) (sym c.in-ExpandBehind.is)
     (h sizes f book r rs st)) c.expand_behind.ensures.err
 
-pub returns-in_err-act_alone-in_default-clause-err : goal.returns-in_err-act_alone-in_default-clause-err
-returns-in_err-act_alone-in_default-clause-err g c = let e = c.args.engine.now in let n = c.in_err-act_alone-in_default in
+pub returns-in-Compute-clause-rule : goal.returns-in-Compute-clause-rule
+returns-in-Compute-clause-rule g c = let e = c.args.engine.now in let e2 = c.compute.new.engine in let is = c.in-Compute.is in let value : FitsSigned w32 c.in-Compute.n = search rules in
+    ok_to c.compute.result
+    (λ ruled h sizes f book r rs st asks.
+    subst (λ (does : Effect). DoesRuleIn sizes (state_of e (with_work (r ∷ rs) book)) e2 (world_of f (g.S.Sink.told c.args.out.now) e) (world_of f (g.S.Sink.told c.compute.new.out) e2) (acts (page_of e book) c.args.call does) ruled) (sym is)
+    (h (subst IsSmall is (small_effect sizes e book r rs c.args.call c.args.effect st asks)) sizes f book r rs st)) (rw (to_z-of_z w32 c.in-Compute.n value) at c.compute.ensures.rule)
+
+pub returns-in-Compute-clause-err : goal.returns-in-Compute-clause-err
+returns-in-Compute-clause-err g c = let e = c.args.engine.now in let e2 = c.compute.new.engine in let is = c.in-Compute.is in let value : FitsSigned w32 c.in-Compute.n = search rules in
+    err_to c.compute.result
+    (λ b h sizes f book r rs st asks.
+    subst (λ (does : Effect). CutsIn sizes (state_of e (with_work (r ∷ rs) book)) e2 (world_of f (g.S.Sink.told c.args.out.now) e) (world_of f (g.S.Sink.told c.compute.new.out) e2) (acts (page_of e book) c.args.call does) b) (sym is)
+    (h (subst IsSmall is (small_effect sizes e book r rs c.args.call c.args.effect st asks)) sizes f book r rs st)) (rw (to_z-of_z w32 c.in-Compute.n value) at c.compute.ensures.err)
+
+pub returns-in-Compute-clause-light : goal.returns-in-Compute-clause-light
+returns-in-Compute-clause-light g c = ok_to c.compute.result (λ ruled h free asks. h free (Acts c.args.call c.args.effect) asks tt) c.compute.ensures.light
+
+pub returns-in_err-end_alone-in_default-clause-err : goal.returns-in_err-end_alone-in_default-clause-err
+returns-in_err-end_alone-in_default-clause-err g c = let e = c.args.engine.now in let n = c.in_err-end_alone-in_default in let d = c.in_default in
     same_err c.from_residual.result n.field-0.0 _ c.from_residual.ensures.1
-    (λ sizes f book r rs st asks.
-    alone_cut sizes e c.act_alone.new.engine book r rs f (g.S.Sink.told c.args.out.now) (g.S.Sink.told c.act_alone.new.out) c.args.call c.args.effect n.field-0.0 (is_alone c.args.effect c.in_default.not-Obey c.in_default.not-ExpandBehind) n.ensures.frames st
-    (n.ensures.err (small_effect sizes e book r rs c.args.call c.args.effect st asks) sizes f _ (Closed ∷ []) st))
+    (λ sizes f book r rs st asks. n.ensures.err (is_alone c.args.effect d.not-Obey d.not-ExpandBehind d.not-Compute) (small_effect sizes e book r rs c.args.call c.args.effect st asks) sizes f book r rs st)
 
-pub returns-in_ok-act_alone-in_default-clause-rule : goal.returns-in_ok-act_alone-in_default-clause-rule
-returns-in_ok-act_alone-in_default-clause-rule g c = let e = c.args.engine.now in let n = c.in_ok-act_alone-in_default.ensures in let l = c.close_reading.ensures in
-    λ sizes f book r rs st asks. let done = n.stands sizes _ st in
-    alone_rule sizes e c.act_alone.new.engine book r rs f (g.S.Sink.told c.args.out.now) (g.S.Sink.told c.act_alone.new.out) c.args.call c.args.effect c.close_reading.new.self (is_alone c.args.effect c.in_default.not-Obey c.in_default.not-ExpandBehind)
-    (n.did (small_effect sizes e book r rs c.args.call c.args.effect st asks) sizes f _ st) (l.state sizes book r rs done) l.same.others.in_line (l.stands sizes book r rs done)
+pub returns-in_ok-end_alone-in_default-clause-rule : goal.returns-in_ok-end_alone-in_default-clause-rule
+returns-in_ok-end_alone-in_default-clause-rule g c = let e = c.args.engine.now in let n = c.in_ok-end_alone-in_default.ensures in let d = c.in_default in
+    λ sizes f book r rs st asks. n.rule (is_alone c.args.effect d.not-Obey d.not-ExpandBehind d.not-Compute) (small_effect sizes e book r rs c.args.call c.args.effect st asks) sizes f book r rs st
 
-pub returns-in_ok-act_alone-in_default-clause-light : goal.returns-in_ok-act_alone-in_default-clause-light
-returns-in_ok-act_alone-in_default-clause-light g c free = let n = c.in_ok-act_alone-in_default.ensures in let l = c.close_reading.ensures in
-    ended_lighter c.args.engine.now c.act_alone.new.engine c.close_reading.new.self c.args.call c.args.effect c.requires.uncalled n.frames n.light l.same l.frames l.weight
+pub returns-in_ok-end_alone-in_default-clause-light : goal.returns-in_ok-end_alone-in_default-clause-light
+returns-in_ok-end_alone-in_default-clause-light g c free = λ asks. c.in_ok-end_alone-in_default.ensures.light (Acts c.args.call c.args.effect) asks tt

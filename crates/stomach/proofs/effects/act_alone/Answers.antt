@@ -3,7 +3,7 @@ use Rattle.std.proofs.lemmas.Int.{to_z-of_z}
 use Rattle.plain_tokens.specs.Meanings.{meaning_to_let}
 use Rattle.equivalents.specs.declared.values.Val.TheVariants as val
 use Rattle.plain_machine.specs.States.{Move, Set, Assigned}
-use Rattle.plain_machine.specs.Plan.{is_global, put_one, behind_assignment}
+use Rattle.plain_machine.specs.Plan.{is_global, put_one, short_meaning, behind_assignment}
 use Rattle.plain_machine.specs.Does.{Did}
 use Rattle.engine_state.specs.Rules.{world_of}
 use Rattle.engine_state.specs.Stands.{state_of, page_of}
@@ -146,6 +146,61 @@ pub returns-in_ok-set_number-in-SetNumber-clause-stands : goal.returns-in_ok-set
 returns-in_ok-set_number-in-SetNumber-clause-stands g c = let n = c.in_ok-set_number-in-SetNumber.ensures in let p = c.put_after-in-SetNumber in let s = p.ensures in
     on_ok p.result (λ idle sizes book st. behind_stands sizes c.set_number.new.engine p.new.self book s.frames s.others s.store idle (n.stands sizes book st)) s.idle
 
+pub returns-in_err-give_meaning-in-Shorthand-clause-err : goal.returns-in_err-give_meaning-in-Shorthand-clause-err
+returns-in_err-give_meaning-in-Shorthand-clause-err g c =
+    let e = c.args.engine.now in let e1 = c.give_meaning.new.engine in let t = g.S.Sink.told c.args.out.now in let d = c.in-Shorthand in let is = c.is_global-global-in-Shorthand in
+    let n = c.in_err-give_meaning-in-Shorthand in let r = c.from_residual-in_err-give_meaning-in-Shorthand in
+    let column : e1.in_line ≡ e.in_line = search (rules, c.give_meaning.ensures.only) in
+    rw d.is
+    (same_err r.result n.field-0.0 _ r.ensures.1 (λ small sizes f book more st.
+    set_cuts sizes e e1 book f t (λ (b : Bool). Assigned b d.name (short_meaning d.shorthand) ∷ [])
+    is.result (is_global (page_of e book) c.args.call) (is.ensures book) column
+    n.field-0.0 more ((rw c.short_meaning.ensures at n.ensures.err) sizes (world_of f t e) book (behind_assignment e.after ++ more) st)))
+
+pub returns-in_ok-give_meaning-in-Shorthand-clause-did : goal.returns-in_ok-give_meaning-in-Shorthand-clause-did
+returns-in_ok-give_meaning-in-Shorthand-clause-did g c =
+    let e = c.args.engine.now in let e1 = c.give_meaning.new.engine in let t = g.S.Sink.told c.args.out.now in let d = c.in-Shorthand in let is = c.is_global-global-in-Shorthand in
+    let n = c.in_ok-give_meaning-in-Shorthand.ensures in let p = c.put_after-in-Shorthand in
+    let column : e1.in_line ≡ e.in_line = search (rules, c.give_meaning.ensures.only) in
+    let after : e1.after ≡ e.after = search (rules, c.give_meaning.ensures.only) in
+    rw d.is
+    (on_ok p.result (λ h small sizes f book st.
+    behind_did sizes e e1 book f t (λ (b : Bool). Assigned b d.name (short_meaning d.shorthand) ∷ [])
+    is.result (is_global (page_of e book) c.args.call) (is.ensures book) column
+    p.new.self p.ensures.others after ((rw c.short_meaning.ensures at n.did) sizes (world_of f t e) book st)
+    (h sizes (world_of f t e) book (counts_of sizes e1 book (n.stands sizes book st)))) p.ensures.did)
+
+pub returns-in_ok-give_meaning-in-Shorthand-clause-err : goal.returns-in_ok-give_meaning-in-Shorthand-clause-err
+returns-in_ok-give_meaning-in-Shorthand-clause-err g c =
+    let e = c.args.engine.now in let e1 = c.give_meaning.new.engine in let t = g.S.Sink.told c.args.out.now in let d = c.in-Shorthand in let is = c.is_global-global-in-Shorthand in
+    let n = c.in_ok-give_meaning-in-Shorthand.ensures in let p = c.put_after-in-Shorthand in
+    let column : e1.in_line ≡ e.in_line = search (rules, c.give_meaning.ensures.only) in
+    let after : e1.after ≡ e.after = search (rules, c.give_meaning.ensures.only) in
+    rw d.is
+    (err_to p.result (λ b h small sizes f book more st.
+    behind_cuts sizes e e1 book f t (λ (b : Bool). Assigned b d.name (short_meaning d.shorthand) ∷ [])
+    is.result (is_global (page_of e book) c.args.call) (is.ensures book) column
+    p.new.self p.ensures.others after ((rw c.short_meaning.ensures at n.did) sizes (world_of f t e) book st) b more
+    (h sizes (world_of f t e) book more (counts_of sizes e1 book (n.stands sizes book st)))) p.ensures.err)
+
+pub returns-in_ok-give_meaning-in-Shorthand-clause-stands : goal.returns-in_ok-give_meaning-in-Shorthand-clause-stands
+returns-in_ok-give_meaning-in-Shorthand-clause-stands g c = let n = c.in_ok-give_meaning-in-Shorthand.ensures in let p = c.put_after-in-Shorthand in let s = p.ensures in
+    on_ok p.result (λ idle sizes book st. behind_stands sizes c.give_meaning.new.engine p.new.self book s.frames s.others s.store idle (n.stands sizes book st)) s.idle
+
+pub returns-in-Unassigned-clause-did : goal.returns-in-Unassigned-clause-did
+returns-in-Unassigned-clause-did g c = let e = c.args.engine.now in let t = g.S.Sink.told c.args.out.now in let p = c.put_after-in-Unassigned in
+    rw c.in-Unassigned.is
+    (on_ok p.result (λ h small sizes f book st. did_still sizes (state_of e book) (state_of p.new.self book) e p.new.self f t _ p.ensures.others.in_line (h sizes (world_of f t e) book (counts_of sizes e book st))) p.ensures.did)
+
+pub returns-in-Unassigned-clause-err : goal.returns-in-Unassigned-clause-err
+returns-in-Unassigned-clause-err g c = let e = c.args.engine.now in let t = g.S.Sink.told c.args.out.now in let p = c.put_after-in-Unassigned in
+    rw c.in-Unassigned.is
+    (err_to p.result (λ b h small sizes f book more st. cuts_still sizes (state_of e book) e p.new.self book f t _ b p.ensures.others.in_line (h sizes (world_of f t e) book more (counts_of sizes e book st))) p.ensures.err)
+
+pub returns-in-Unassigned-clause-stands : goal.returns-in-Unassigned-clause-stands
+returns-in-Unassigned-clause-stands g c = let e = c.args.engine.now in let p = c.put_after-in-Unassigned in let s = p.ensures in
+    on_ok p.result (λ idle sizes book st. behind_stands sizes e p.new.self book s.frames s.others s.store idle st) s.idle
+
 pub returns-in-AfterGroup-clause-did : goal.returns-in-AfterGroup-clause-did
 returns-in-AfterGroup-clause-did g c = let e = c.args.engine.now in let k = c.keep_for_group in let t = g.S.Sink.told c.args.out.now in
     let column : k.new.self.in_line ≡ e.in_line = search (rules, k.ensures.only) in
@@ -162,15 +217,15 @@ pub returns-in_default-clause-did : goal.returns-in_default-clause-did
 returns-in_default-clause-did g c = let e = c.args.engine.now in let e1 = c.put_effect.new.engine in let t = g.S.Sink.told c.args.out.now in let o = c.in_default in
     on_ok c.put_effect.result (λ h small sizes f book st.
     did_still sizes (state_of e book) (state_of e1 book) e e1 f t (done_alone (page_of e book) c.args.call c.args.effect) c.put_effect.ensures.front.others.in_line
-    (subst (λ (ms : List Move). Did sizes (state_of e book) (state_of e1 book) (world_of f t e) (world_of f t e) ms) (sym (put_alone (page_of e book) c.args.call c.args.effect o.not-Show o.not-Let o.not-FutureLet o.not-SetNumber o.not-AfterGroup o.not-AfterAssignment))
-    (h sizes (world_of f t e) book (counts_of sizes e book st)))) c.put_effect.ensures.did
+    (subst (λ (ms : List Move). Did sizes (state_of e book) (state_of e1 book) (world_of f t e) (world_of f t e) ms) (sym (put_alone (page_of e book) c.args.call c.args.effect o.not-Show o.not-Let o.not-FutureLet o.not-SetNumber o.not-Shorthand o.not-Unassigned o.not-AfterGroup o.not-AfterAssignment))
+    (h small sizes (world_of f t e) book (counts_of sizes e book st)))) c.put_effect.ensures.did
 
 pub returns-in_default-clause-err : goal.returns-in_default-clause-err
 returns-in_default-clause-err g c = let e = c.args.engine.now in let e1 = c.put_effect.new.engine in let t = g.S.Sink.told c.args.out.now in let o = c.in_default in
     err_to c.put_effect.result (λ b h small sizes f book more st.
     cuts_still sizes (state_of e book) e e1 book f t (done_alone (page_of e book) c.args.call c.args.effect ++ more) b c.put_effect.ensures.front.others.in_line
     (cuts_by sizes (state_of e book) e1 book (world_of f t e) (world_of f t e) (put_by (page_of e book) c.args.effect ++ more) (done_alone (page_of e book) c.args.call c.args.effect ++ more) b
-    (ap (λ (ms : List Move). ms ++ more) (put_alone (page_of e book) c.args.call c.args.effect o.not-Show o.not-Let o.not-FutureLet o.not-SetNumber o.not-AfterGroup o.not-AfterAssignment))
+    (ap (λ (ms : List Move). ms ++ more) (put_alone (page_of e book) c.args.call c.args.effect o.not-Show o.not-Let o.not-FutureLet o.not-SetNumber o.not-Shorthand o.not-Unassigned o.not-AfterGroup o.not-AfterAssignment))
     (h sizes (world_of f t e) book more (counts_of sizes e book st)))) c.put_effect.ensures.err
 
 pub returns-in_default-clause-stands : goal.returns-in_default-clause-stands

@@ -26,7 +26,7 @@ pub returns-in-MakeRoman-clause-did : goal.returns-in-MakeRoman-clause-did
 returns-in-MakeRoman-clause-did c = let e = c.args.engine.now in let e1 = c.put_characters-in-MakeRoman.new.self in let n = c.in-MakeRoman.n in
     let fits : FitsSigned w32 n = search rules in
     rw c.in-MakeRoman.is
-    (on_ok c.put_characters-in-MakeRoman.result (λ h sizes w book counts.
+    (on_ok c.put_characters-in-MakeRoman.result (λ h small sizes w book counts.
     subst (λ (x : ℤ). Did sizes (state_of e book) (state_of e1 book) w w (put_characters (roman x))) (to_z-of_z w32 n fits) (h sizes w book counts c.requires.idle)) c.put_characters-in-MakeRoman.ensures.did)
 
 pub returns-in-MakeRoman-clause-err : goal.returns-in-MakeRoman-clause-err
@@ -40,7 +40,13 @@ pub returns-in-MakeString-clause-err : goal.returns-in-MakeString-clause-err
 returns-in-MakeString-clause-err c = rw c.in-MakeString.is (err_to c.put_characters-in-MakeString.result (λ b h sizes w book more counts. h sizes w book more counts c.requires.idle) c.put_characters-in-MakeString.ensures.err)
 
 pub returns-in-MakeMeaning-clause-did : goal.returns-in-MakeMeaning-clause-did
-returns-in-MakeMeaning-clause-did c = rw c.in-MakeMeaning.is (on_ok c.put_characters-in-MakeMeaning.result (λ h sizes w book counts. h sizes w book counts c.requires.idle) c.put_characters-in-MakeMeaning.ensures.did)
+returns-in-MakeMeaning-clause-did c = rw c.in-MakeMeaning.is (on_ok c.put_characters-in-MakeMeaning.result (λ h small sizes w book counts. h sizes w book counts c.requires.idle) c.put_characters-in-MakeMeaning.ensures.did)
 
 pub returns-in-MakeMeaning-clause-err : goal.returns-in-MakeMeaning-clause-err
 returns-in-MakeMeaning-clause-err c = rw c.in-MakeMeaning.is (err_to c.put_characters-in-MakeMeaning.result (λ b h sizes w book more counts. h sizes w book more counts c.requires.idle) c.put_characters-in-MakeMeaning.ensures.err)
+
+pub returns-in-MakeValue-clause-did : goal.returns-in-MakeValue-clause-did
+returns-in-MakeValue-clause-did c = rw c.in-MakeValue.is (on_ok c.put_value.result (λ h small sizes w book counts. h small sizes w book counts) c.put_value.ensures.did)
+
+pub returns-in-MakeValue-clause-err : goal.returns-in-MakeValue-clause-err
+returns-in-MakeValue-clause-err c = rw c.in-MakeValue.is (err_to c.put_value.result (λ b h sizes w book more counts. h sizes w book more counts) c.put_value.ensures.err)

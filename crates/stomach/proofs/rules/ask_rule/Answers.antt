@@ -3,7 +3,7 @@ use Rattle.std.specs.Prelude.{Some}
 use Rattle.tex_defs.specs.declared.Token.{Token}
 use Rattle.rows.specs.Readings as reading
 use Rattle.reading_frames.specs.Weights.{IsReported}
-use Rattle.reading_frames.specs.declared.ask.Ask.TheVariants.{More, Inner, Done, Acts, ActsOn, Defines, Ends, Tells, Inserts, Fetches}
+use Rattle.reading_frames.specs.declared.ask.Ask.TheVariants.{More, Inner, Done, Acts, ActsOn, Defines, Ends, Tells, Inserts, Puts, Relaxes, Fetches}
 use Rattle.reading_frames.specs.Sees.{IsFetchedAt, kept_list_of}
 use Rattle.plain_machine.specs.States.{no_files}
 use Rattle.engine_state.specs.Book.{with_work}
@@ -156,6 +156,41 @@ returns-in-Fetches-clause-err g c = tt
 
 pub returns-in-Fetches-clause-idle : goal.returns-in-Fetches-clause-idle
 returns-in-Fetches-clause-idle g c = c.fetch.ensures.same.making ∙ c.requires.idle
+
+-- A READING PUTS A TOKEN IN FRONT, or makes a name `\relax`
+
+pub returns-in_ok-put-in-Puts-clause-rule : goal.returns-in_ok-put-in-Puts-clause-rule
+returns-in_ok-put-in-Puts-clause-rule g c = let e = c.args.engine.now in let e' = c.put.new.engine in let i = c.in-Puts in let n = c.in_ok-put-in-Puts.ensures in let s = g.S.Sink.told c.args.out.now in
+    λ sizes f book. asked_rules e e' s s c.args.ask (Puts i.token i.field-1) Free i.is c.requires.stands sizes f (λ b r rs st. column_went sizes _ e' f s e.in_line _ 0 n.column (n.rule sizes _ b r rs st)) book
+
+pub returns-in_err-put-in-Puts-clause-err : goal.returns-in_err-put-in-Puts-clause-err
+returns-in_err-put-in-Puts-clause-err g c = let e = c.args.engine.now in let e' = c.put.new.engine in let i = c.in-Puts in let n = c.in_err-put-in-Puts in let s = g.S.Sink.told c.args.out.now in
+    same_err c.from_residual-in_err-put-in-Puts.result n.field-0.0 _ c.from_residual-in_err-put-in-Puts.ensures.1
+    (λ sizes f book. asked_cuts e e' s s c.args.ask (Puts i.token i.field-1) n.field-0.0 i.is c.requires.stands sizes f (λ b r rs st. column_in sizes _ e' f s e.in_line _ n.field-0.0 n.ensures.column (n.ensures.err sizes _ b r rs st)) book)
+
+pub returns-in_ok-put-in-Puts-clause-light : goal.returns-in_ok-put-in-Puts-clause-light
+returns-in_ok-put-in-Puts-clause-light g c free = let i = c.in-Puts in c.in_ok-put-in-Puts.ensures.light (subst IsReported (sym (asked_bare c.args.engine.now c.args.ask (Puts i.token i.field-1) i.is c.requires.asks)) tt)
+
+pub returns-in_ok-put-in-Puts-clause-step : goal.returns-in_ok-put-in-Puts-clause-step
+returns-in_ok-put-in-Puts-clause-step g c = let e = c.args.engine.now in let i = c.in-Puts in asked_steps e _ c.requires.uncalled (asked_here e c.args.ask (Puts i.token i.field-1) i.is c.requires.asks)
+
+pub returns-in_ok-relax-in-Relaxes-clause-rule : goal.returns-in_ok-relax-in-Relaxes-clause-rule
+returns-in_ok-relax-in-Relaxes-clause-rule g c = let e = c.args.engine.now in let e' = c.relax.new.engine in let i = c.in-Relaxes in let n = c.in_ok-relax-in-Relaxes.ensures in let s = g.S.Sink.told c.args.out.now in
+    λ sizes f book. asked_rules e e' s s c.args.ask (Relaxes i.call i.name) Free i.is c.requires.stands sizes f (λ b r rs st. column_went sizes _ e' f s e.in_line _ 0 n.column (n.rule sizes _ b r rs st)) book
+
+pub returns-in_err-relax-in-Relaxes-clause-err : goal.returns-in_err-relax-in-Relaxes-clause-err
+returns-in_err-relax-in-Relaxes-clause-err g c = let e = c.args.engine.now in let e' = c.relax.new.engine in let i = c.in-Relaxes in let n = c.in_err-relax-in-Relaxes in let s = g.S.Sink.told c.args.out.now in
+    same_err c.from_residual-in_err-relax-in-Relaxes.result n.field-0.0 _ c.from_residual-in_err-relax-in-Relaxes.ensures.1
+    (λ sizes f book. asked_cuts e e' s s c.args.ask (Relaxes i.call i.name) n.field-0.0 i.is c.requires.stands sizes f (λ b r rs st. column_in sizes _ e' f s e.in_line _ n.field-0.0 n.ensures.column (n.ensures.err sizes _ b r rs st)) book)
+
+pub returns-in_ok-relax-in-Relaxes-clause-light : goal.returns-in_ok-relax-in-Relaxes-clause-light
+returns-in_ok-relax-in-Relaxes-clause-light g c free = let i = c.in-Relaxes in c.in_ok-relax-in-Relaxes.ensures.light (subst IsReported (sym (asked_bare c.args.engine.now c.args.ask (Relaxes i.call i.name) i.is c.requires.asks)) tt)
+
+pub returns-in_ok-relax-in-Relaxes-clause-step : goal.returns-in_ok-relax-in-Relaxes-clause-step
+returns-in_ok-relax-in-Relaxes-clause-step g c = let e = c.args.engine.now in let i = c.in-Relaxes in asked_steps e _ c.requires.uncalled (asked_here e c.args.ask (Relaxes i.call i.name) i.is c.requires.asks)
+
+pub returns-in_ok-relax-in-Relaxes-clause-idle : goal.returns-in_ok-relax-in-Relaxes-clause-idle
+returns-in_ok-relax-in-Relaxes-clause-idle g c = c.relax.ensures.idle ∙ c.requires.idle
 
 -- A READING REPORTS
 

@@ -19,4 +19,4 @@ pub returns-in-Ok-clause-listed : goal.returns-in-Ok-clause-listed
 returns-in-Ok-clause-listed c = λ some held. opened_list c.args.opening held (omega (arith, c.feed.ensures.listed some, c.in-Ok.ensures.holds []))
 
 pub returns-in-Ok-clause-weight : goal.returns-in-Ok-clause-weight
-returns-in-Ok-clause-weight c = begun_with_light c.args.opening c.feed.new.self.frames (c.feed.ensures.ends ∙ c.in-Ok.ensures.ends)
+returns-in-Ok-clause-weight c = begun_with_light c.args.opening c.feed.new.self.frames (c.feed.ensures.ends ∙ c.in-Ok.ensures.ends) (omega (arith, c.feed.ensures.read, c.in-Ok.ensures.unread))

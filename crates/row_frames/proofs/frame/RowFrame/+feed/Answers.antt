@@ -1,5 +1,5 @@
 -- What the row comes to is what its stage comes to, and then what the rest of the row comes to.
-use Rattle.std.proofs.Common.{List, ◌∙◌}
+use Rattle.std.proofs.Common.{List, [], refl, ◌∙◌}
 use Rattle.rows.specs.declared.command.Call.{Call}
 use Rattle.rows.specs.Readings as reading
 use Rattle.row_frames.specs.declared.frame.RowFrame.{RowFrame}
@@ -12,6 +12,12 @@ use Rattle.row_frames.proofs.frame.RowFrame.+feed.Goals as goal
 -- what comes where the command goes on as another
 abbrev turn : RowFrame → Call → List reading.Fed → reading.Ask
 turn f c fed = turn_of f.is_turned c fed
+
+pub returns-in-Takes-clause-answer : goal.returns-in-Takes-clause-answer
+returns-in-Takes-clause-answer t c ts =
+    let f = c.args.self.now in
+    row_takes (turn f) f.call f.left c.in-Some.stages c.in-Some.is c.first.result c.first.ensures (values f.read) f.kept (fed_of ts c.args.y) c.rest-self.result c.rest-self.ensures
+    c.in-Takes.datum (c.in-Takes.ensures ts) (values c.push.new.self) c.push.ensures [] ∙ c.first_ask.ensures.asks refl ts
 
 pub returns-in-Takes-clause-goes_on : goal.returns-in-Takes-clause-goes_on
 returns-in-Takes-clause-goes_on t c o ts fed =

@@ -13,5 +13,5 @@ use Rattle.row_frames.proofs.frame.RowFrame.begin.Goals as goal
 pub returns-clause-stands : goal.returns-clause-stands
 returns-clause-stands c fed =
     let turn : Call → List reading.Fed → reading.Ask = λ d more. turn_of c.args.is_turned d more in
-    run_starts turn c.args.call (stages_of c.args.call.primitive) [] fed
+    run_starts turn c.args.call (stages_of c.args.call.head) [] fed
     ∙ ap (λ (row : Row × Action). resume_row turn c.args.call (stages_in row.0) [] kept.Start fed) (sym c.row_of.ensures)

@@ -1,5 +1,0 @@
-use Rattle.plain_readings.proofs.Lower.{lower}
-use Rattle.plain_readings.proofs.laws.readings_begin_no_command.Goals as goal
-
-pub returns : goal.returns
-returns _ k fed = lower k fed

@@ -1,0 +1,4 @@
+pub mod Letters
+pub mod Strays
+pub mod Amounts
+pub mod ReadBack

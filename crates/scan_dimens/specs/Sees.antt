@@ -1,0 +1,40 @@
+-- What the scanner's words stand for, and where it may stand.
+use Rattle.std.specs.Prelude.{ℕ, zero, suc, ◌-◌, List, drop}
+use Rattle.tex_defs.specs.declared.Token.{Token}
+use Rattle.tex_syntax.specs.declared.words.Want.{Want}
+use Rattle.tex_syntax.specs.declared.words.Want.TheVariants.{Expanded, Nonblank}
+use Rattle.rows.specs.Readings as reading
+use Rattle.plain_readings.specs.Keywords.{ends_found}
+use Rattle.scan_dimens.specs.declared.keyword.Ask.{Ask}
+use Rattle.scan_dimens.specs.declared.keyword.Ask.TheVariants.{More, Puts, Done}
+use Rattle.scan_dimens.specs.declared.keyword.Place.{Place}
+use Rattle.scan_dimens.specs.declared.keyword.Place.TheVariants.{Letters, PutsBack, Ended}
+
+abbrev pub ask_of : Ask → reading.Ask
+ask_of (More want) = reading.More want
+ask_of (Puts t more) = reading.Puts t more
+ask_of (Done found) = ends_found found
+
+-- behind how many letters it stands, and how many tokens are to be put back; elsewhere a number that counts nothing
+abbrev pub letters_at : Place → ℕ
+letters_at (Letters n) = n
+letters_at p = 0
+
+abbrev pub back_at : Place → ℕ
+back_at (PutsBack n) = n
+back_at p = 1
+
+-- the last of the tokens, so many, the last one first
+abbrev pub kept : ℕ → List Token → List Token
+kept n ts = drop (5 - n) ts
+
+-- how many are kept
+abbrev pub kept_at : Place → ℕ
+kept_at (Letters n) = n
+kept_at (PutsBack n) = n
+kept_at (Ended found) = 0
+
+-- spaces are skipped before the first letter alone
+abbrev pub want_behind : ℕ → Want
+want_behind zero = Nonblank
+want_behind (suc n) = Expanded

@@ -1,0 +1,15 @@
+//! The scanner of an optional keyword: it is fed token by token, keeps the tokens read, and answers what the definition `keyword` asks for
+//! behind all that it was fed with. Where the keyword isn't there, it puts them back. And the scanner of a dimension, which reads no keyword itself.
+#![tactic(auto)]
+
+mod decimals;
+mod dimen;
+mod keyword;
+mod laws;
+mod units;
+
+pub use decimals::Digits;
+pub use dimen::{DimenAsk, DimenPlace, DimenScan, Inner, Sought};
+pub use keyword::{Ask, KeywordScan, Place};
+pub use laws::{dimensions_are_read, printed_dimensions_are_read_back};
+pub use units::{Amount, DimenKind, Measure};
