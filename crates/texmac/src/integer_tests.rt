@@ -269,8 +269,8 @@ fn numbers_out_of_range_are_reported(rt: HostRuntime) {
 /// Names of commands and numbers that are not built.
 const UNDEFINED: [Row; 2] = [
     (
-        b"\\showbox\\dimen\\skip\\muskip\\toks\\the\\advance\\chardef\\mathchardef\\countdef\\hsize\\baselineskip\\everypar\\end",
-        b"! Undefined control sequence.\nl.2\n! Undefined control sequence.\nl.2\n! Undefined control sequence.\nl.2\n! Undefined control sequence.\nl.2\n! Undefined control sequence.\nl.2\n! Undefined control sequence.\nl.2\n! Undefined control sequence.\nl.2\n! Undefined control sequence.\nl.2\n! Undefined control sequence.\nl.2\n! Undefined control sequence.\nl.2\n! Undefined control sequence.\nl.2\n! Undefined control sequence.\nl.2\n! Undefined control sequence.\nl.2\n",
+        b"\\showbox\\dimen\\skip\\muskip\\toks\\hsize\\baselineskip\\everypar\\end",
+        b"! Undefined control sequence.\nl.2\n! Undefined control sequence.\nl.2\n! Undefined control sequence.\nl.2\n! Undefined control sequence.\nl.2\n! Undefined control sequence.\nl.2\n! Undefined control sequence.\nl.2\n! Undefined control sequence.\nl.2\n! Undefined control sequence.\nl.2\n",
         1,
     ),
     (

@@ -5,6 +5,8 @@
 #![tactic(auto)]
 
 #[cfg(test)]
+mod arithmetic_tests;
+#[cfg(test)]
 mod command_tests;
 #[cfg(test)]
 mod file_tests;
