@@ -1,0 +1,5 @@
+pub mod Glues
+pub mod Sums
+pub mod GlueSees
+pub mod GlueResumes
+pub mod GlueWorked
