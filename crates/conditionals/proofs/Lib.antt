@@ -1,0 +1,4 @@
+pub mod Fronts
+pub mod Passed
+pub mod Alike
+pub mod Enders

@@ -1,0 +1,6 @@
+pub mod Skipping
+pub mod Limits
+pub mod Choices
+pub mod Same
+pub mod Laws
+pub mod Worked

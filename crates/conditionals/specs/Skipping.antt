@@ -1,0 +1,63 @@
+-- Skipped text. The TeXbook, chapter 20; TeX: The Program, part 28 (`pass_text`).
+use Rattle.std.specs.Prelude.{ℕ, ◌+◌, ◌-◌, ◌<◌, ◌==◌, ◌&&◌, nat_le, ◌≡◌, Bool, true, false, if◌then◌else◌, List, take, count_by, slice_get, Option, Some, None}
+use Rattle.tex_defs.specs.declared.Meaning.{Meaning}
+use Rattle.tex_defs.specs.declared.Meaning.TheVariants as means
+use Rattle.tex_defs.specs.declared.Seen.{Seen}
+use Rattle.conditionals.specs.declared.skip.Ender.{Ender}
+use Rattle.conditionals.specs.declared.skip.Ender.TheVariants.{Fi, Else, Or}
+use Rattle.conditionals.specs.declared.skip.Part.{Part}
+use Rattle.conditionals.specs.declared.skip.Part.TheVariants.{Conditional, Ends, Plain}
+
+-- TOKENS count by their meanings: the primitives 65 to 81 are the conditionals, 82 is `\fi`, 83 `\else` and 84 `\or`.
+abbrev pub part : Meaning Unit → Part
+part (means.Prim n) =
+    if nat_le 65 n && nat_le n 81 then Conditional
+    else if n == 82 then Ends Fi
+    else if n == 83 then Ends Else
+    else if n == 84 then Ends Or
+    else Plain
+part m = Plain
+
+abbrev pub is_conditional : Part → Bool
+is_conditional Conditional = true
+is_conditional p = false
+
+abbrev pub is_fi : Part → Bool
+is_fi (Ends Fi) = true
+is_fi p = false
+
+abbrev pub ender : Part → Option Ender
+ender (Ends e) = Some e
+ender p = None
+
+-- how many of these tokens are conditionals, and how many are `\fi`
+abbrev pub conditionals : List Seen → ℕ
+conditionals = count_by (λ x. is_conditional (part x.meaning))
+
+abbrev pub fis : List Seen → ℕ
+fis = count_by (λ x. is_fi (part x.meaning))
+
+-- what this token ends, behind so many conditionals and `\fi`s
+abbrev pub ender_behind : (conditionals fis : ℕ) → Option Seen → Option Ender
+ender_behind c f None = None
+ender_behind c f (Some x) = if c == f then ender (part x.meaning) else None
+
+-- THE END: as what the last of the first k + 1 tokens ends the text, if it is a `\fi`, an `\else` or an `\or` with as many conditionals as `\fi`s
+-- before it.
+abbrev pub ender_at : List Seen → ℕ → Option Ender
+ender_at text k = ender_behind (conditionals (take k text)) (fis (take k text)) (slice_get text k)
+
+-- The skipped text is k tokens and their ender, where k is the least.
+pub record IsSkipped (text : List Seen) (k : ℕ) (e : Ender) : Type 0 where
+  pub ends : ender_at text k ≡ Some e
+  pub least : (j : ℕ) → j < k → ender_at text j ≡ None
+
+-- None of these tokens ends the text, and so many conditionals are open behind them.
+pub record GoesOn (depth : ℕ) (text : List Seen) : Type 0 where
+  pub level : conditionals text ≡ fis text + depth
+  pub none : (k : ℕ) → ender_at text k ≡ None
+
+-- how many are open behind an ender among them
+abbrev pub depth_behind : Ender → ℕ → ℕ
+depth_behind Fi n = n - 1
+depth_behind e n = n

@@ -1,0 +1,181 @@
+// Where a conditional goes on by the value of its test. *The TeXbook*, chapter 20; *TeX: The Program*, part 28 (`conditional`, `change_if_limit`).
+ghost use Rattle.std.specs.Prelude.{◌≡◌};
+ghost use Rattle.conditionals.specs.Choices as choices;
+
+use crate::limits::Limit;
+use crate::skip::Ender;
+
+/// The value of a test.
+#[derive(Clone, Copy)]
+pub enum Value {
+    Truth(bool),
+    /// The number of a case of `\ifcase`.
+    Case(i32),
+}
+
+/// What a conditional skips to.
+#[derive(Clone, Copy)]
+pub enum Aim {
+    /// Nothing: its branch is read.
+    Branch,
+    /// The case behind so many `\or`s, or its `\else` or `\fi`, where one comes first.
+    Case(u32),
+    /// Its `\else` or `\fi`; and whether its own `\or` is reported.
+    Other(bool),
+}
+
+/// How skipping ends.
+#[derive(Clone, Copy)]
+pub enum End {
+    /// The conditional has this limit, and its text is read.
+    Reads(Limit),
+    /// It closes.
+    Closes,
+}
+
+/// What is done at an ender behind which skipping goes on.
+#[derive(Clone, Copy)]
+pub enum Passing {
+    Nothing,
+    /// The topmost of the conditionals above it closes.
+    ClosesAbove,
+    /// "Extra \or" is reported.
+    ExtraOr,
+}
+
+/// What an ender comes to.
+#[must_use]
+#[derive(Clone, Copy)]
+pub enum Step {
+    /// This is done, and text is skipped for what is sought then.
+    Skips(Passing, Choice),
+    Ends(End),
+}
+
+/// A conditional whose test has its value, and that skips text.
+#[derive(Clone, Copy)]
+pub struct Choice {
+    pub aim: Aim,
+    /// How many conditionals stand above it, which its test left open.
+    pub above: u32,
+}
+
+/// What a conditional with a test of this value skips to.
+fn aim_of(value: Value) -> Aim
+    ensures { result ≡ choices.aim value }
+{
+    match value {
+        Value::Truth(true) => Aim::Branch,
+        Value::Truth(false) => Aim::Other(true),
+        Value::Case(n) => {
+            if n < 0 {
+                Aim::Other(false)
+            } else {
+                Aim::Case(n.unsigned_abs())
+            }
+        }
+    }
+}
+
+impl Choice {
+    ghost use Rattle.std.specs.Prelude.{◌≡◌, ◌<◌, List, [], ◌∷◌};
+    ghost use Rattle.conditionals.specs.declared.skip.Ender.{Ender};
+    ghost use Rattle.conditionals.specs.Choices.{end, passing, start, end_behind, passing_behind};
+
+    /// The test has this value, and left so many conditionals open above its own.
+    pub fn new(value: Value, above: u32) -> Choice
+        ensures end { (es : List Ender) → end (choices.aim value) above es ≡ end result.aim result.above es }
+        ensures passing { (es : List Ender) (e : Ender) → passing (choices.aim value) above es e ≡ passing result.aim result.above es e }
+    {
+        Choice {
+            aim: aim_of(value),
+            above,
+        }
+    }
+
+    /// The limit with which text is read, where none is skipped.
+    pub fn start(self) -> Option<Limit>
+        ensures { result ≡ start self.aim }
+    {
+        match self.aim {
+            Aim::Branch => Some(Limit::Branch),
+            Aim::Case(0) => Some(Limit::Case),
+            Aim::Case(_) | Aim::Other(_) => None,
+        }
+    }
+
+    /// Takes the ender to which text was skipped.
+    pub fn feed(self, ender: Ender) -> Step
+        ensures end { (es : List Ender) → end self.aim self.above (ender ∷ es) ≡ end_behind result es }
+        ensures passing { (es : List Ender) (e : Ender) → passing_behind result (passing self.aim self.above [] ender) (passing self.aim self.above (ender ∷ es) e) es e }
+    {
+        if let Some(limit) = self.start() {
+            Step::Ends(End::Reads(limit))
+        } else if self.above > 0 {
+            self.feed_above(ender)
+        } else {
+            self.feed_own(ender)
+        }
+    }
+
+    /// Where conditionals stand above it.
+    fn feed_above(self, ender: Ender) -> Step
+        requires skips { start self.aim ≡ choices.none }
+        requires above { 0 < self.above }
+        ensures end { (es : List Ender) → end self.aim self.above (ender ∷ es) ≡ end_behind result es }
+        ensures passing { (es : List Ender) (e : Ender) → passing_behind result (passing self.aim self.above [] ender) (passing self.aim self.above (ender ∷ es) e) es e }
+    {
+        match ender {
+            Ender::Fi => Step::Skips(
+                Passing::ClosesAbove,
+                Choice {
+                    aim: self.aim,
+                    above: self.above - 1,
+                },
+            ),
+            Ender::Else => Step::Skips(Passing::Nothing, self),
+            Ender::Or => Step::Skips(Passing::Nothing, self),
+        }
+    }
+
+    /// Where the ender is its own.
+    fn feed_own(self, ender: Ender) -> Step
+        requires skips { start self.aim ≡ choices.none }
+        requires own { self.above ≡ 0 }
+        ensures end { (es : List Ender) → end self.aim self.above (ender ∷ es) ≡ end_behind result es }
+        ensures passing { (es : List Ender) (e : Ender) → passing_behind result (passing self.aim self.above [] ender) (passing self.aim self.above (ender ∷ es) e) es e }
+    {
+        match ender {
+            Ender::Fi => Step::Ends(End::Closes),
+            Ender::Else => Step::Ends(End::Reads(Limit::AfterElse)),
+            Ender::Or => self.feed_or(),
+        }
+    }
+
+    /// At an `\or` of its own.
+    fn feed_or(self) -> Step
+        requires skips { start self.aim ≡ choices.none }
+        requires own { self.above ≡ 0 }
+        ensures end { (es : List Ender) → end self.aim self.above (choices.or ∷ es) ≡ end_behind result es }
+        ensures passing { (es : List Ender) (e : Ender) → passing_behind result (passing self.aim self.above [] choices.or) (passing self.aim self.above (choices.or ∷ es) e) es e }
+    {
+        match self.aim {
+            Aim::Branch => Step::Ends(End::Reads(Limit::Branch)),
+            Aim::Case(n) => {
+                if n > 1 {
+                    Step::Skips(
+                        Passing::Nothing,
+                        Choice {
+                            aim: Aim::Case(n - 1),
+                            above: self.above,
+                        },
+                    )
+                } else {
+                    Step::Ends(End::Reads(Limit::Case))
+                }
+            }
+            Aim::Other(true) => Step::Skips(Passing::ExtraOr, self),
+            Aim::Other(false) => Step::Skips(Passing::Nothing, self),
+        }
+    }
+}
