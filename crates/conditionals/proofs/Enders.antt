@@ -1,10 +1,10 @@
 -- Enders of the conditionals above, and an `\or`.
-use Rattle.std.proofs.Common.{◌≡◌, ℕ, zero, suc, ◌-◌, ◌<◌, List, ◌∷◌, refl, ap, arith}
+use Rattle.std.proofs.Common.{◌≡◌, ℕ, zero, suc, ◌-◌, ◌<◌, List, [], ◌∷◌, None, refl, sym, ap, arith}
 use Rattle.conditionals.specs.declared.skip.Ender.{Ender}
 use Rattle.conditionals.specs.declared.skip.Ender.TheVariants.{Fi, Else, Or}
 use Rattle.conditionals.specs.declared.choice.Aim.{Aim}
 use Rattle.conditionals.specs.declared.choice.Aim.TheVariants.{Branch, Case, Other}
-use Rattle.conditionals.specs.Choices.{own, other, case, end}
+use Rattle.conditionals.specs.Choices.{own, other, case, end, start}
 
 one_less : (n : ℕ) → n ≡ suc n - 1
 one_less n = omega arith
@@ -43,3 +43,22 @@ pub or_own : (n : ℕ) (es : List Ender) → 1 < n → end (Case n) 0 (Or ∷ es
 or_own zero es h = absurd (omega arith)
 or_own (suc zero) es h = absurd (omega arith)
 or_own (suc (suc m)) es h = ap (λ (k : ℕ). end (Case k) 0 es) (one_less (suc m))
+
+own_none : (n : ℕ) → own n [] ≡ []
+own_none zero = refl
+own_none (suc n) = refl
+
+-- where text is skipped, the first ender is awaited
+pub none_yet : (a : Aim) (n : ℕ) → start a ≡ None → end a n [] ≡ None
+none_yet Branch n h = absurd (cc)
+none_yet (Case zero) n h = absurd (cc)
+none_yet (Case (suc m)) n h = ap (λ (us : List Ender). case (suc m) us) (own_none n)
+none_yet (Other reports) n h = ap (λ (us : List Ender). other us) (own_none n)
+
+start_suc : (n : ℕ) → 1 < n → start (Case (n - 1)) ≡ None
+start_suc zero h = absurd (omega arith)
+start_suc (suc zero) h = absurd (omega arith)
+start_suc (suc (suc m)) h = ap (λ (k : ℕ). start (Case k)) (sym (one_less (suc m)))
+
+pub case_left : (n above : ℕ) → 1 < n → end (Case (n - 1)) above [] ≡ None
+case_left n above h = none_yet (Case (n - 1)) above (start_suc n h)

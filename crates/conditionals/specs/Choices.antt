@@ -94,3 +94,8 @@ pub record IsPassed (done first rest told : Passing) : Type 0 where
 abbrev pub passing_behind : Step → (first rest : Passing) → List Ender → Ender → Type 0
 passing_behind (Skips p c) first rest es e = IsPassed p first rest (passing c.aim c.above es e)
 passing_behind (Ends how) first rest es e = Unit {0}
+
+-- Skipping goes on only where it hasn't ended.
+abbrev pub IsOpen : Step → Type 0
+IsOpen (Skips p c) = end c.aim c.above [] ≡ None
+IsOpen (Ends how) = Unit {0}

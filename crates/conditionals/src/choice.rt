@@ -80,7 +80,7 @@ fn aim_of(value: Value) -> Aim
 impl Choice {
     ghost use Rattle.std.specs.Prelude.{◌≡◌, ◌<◌, List, [], ◌∷◌};
     ghost use Rattle.conditionals.specs.declared.skip.Ender.{Ender};
-    ghost use Rattle.conditionals.specs.Choices.{end, passing, start, end_behind, passing_behind};
+    ghost use Rattle.conditionals.specs.Choices.{end, passing, start, end_behind, passing_behind, IsOpen};
 
     /// The test has this value, and left so many conditionals open above its own.
     pub fn new(value: Value, above: u32) -> Choice
@@ -108,6 +108,7 @@ impl Choice {
     pub fn feed(self, ender: Ender) -> Step
         ensures end { (es : List Ender) → end self.aim self.above (ender ∷ es) ≡ end_behind result es }
         ensures passing { (es : List Ender) (e : Ender) → passing_behind result (passing self.aim self.above [] ender) (passing self.aim self.above (ender ∷ es) e) es e }
+        ensures goes_on { IsOpen result }
     {
         if let Some(limit) = self.start() {
             Step::Ends(End::Reads(limit))
@@ -119,11 +120,13 @@ impl Choice {
     }
 
     /// Where conditionals stand above it.
+    #[tactic(auto, using(crate::proofs::Enders::none_yet))]
     fn feed_above(self, ender: Ender) -> Step
         requires skips { start self.aim ≡ choices.none }
         requires above { 0 < self.above }
         ensures end { (es : List Ender) → end self.aim self.above (ender ∷ es) ≡ end_behind result es }
         ensures passing { (es : List Ender) (e : Ender) → passing_behind result (passing self.aim self.above [] ender) (passing self.aim self.above (ender ∷ es) e) es e }
+        ensures goes_on { IsOpen result }
     {
         match ender {
             Ender::Fi => Step::Skips(
@@ -144,6 +147,7 @@ impl Choice {
         requires own { self.above ≡ 0 }
         ensures end { (es : List Ender) → end self.aim self.above (ender ∷ es) ≡ end_behind result es }
         ensures passing { (es : List Ender) (e : Ender) → passing_behind result (passing self.aim self.above [] ender) (passing self.aim self.above (ender ∷ es) e) es e }
+        ensures goes_on { IsOpen result }
     {
         match ender {
             Ender::Fi => Step::Ends(End::Closes),
@@ -153,11 +157,13 @@ impl Choice {
     }
 
     /// At an `\or` of its own.
+    #[tactic(auto, using(crate::proofs::Enders::none_yet))]
     fn feed_or(self) -> Step
         requires skips { start self.aim ≡ choices.none }
         requires own { self.above ≡ 0 }
         ensures end { (es : List Ender) → end self.aim self.above (choices.or ∷ es) ≡ end_behind result es }
         ensures passing { (es : List Ender) (e : Ender) → passing_behind result (passing self.aim self.above [] choices.or) (passing self.aim self.above (choices.or ∷ es) e) es e }
+        ensures goes_on { IsOpen result }
     {
         match self.aim {
             Aim::Branch => Step::Ends(End::Reads(Limit::Branch)),

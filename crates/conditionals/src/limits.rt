@@ -9,7 +9,7 @@ use crate::skip::Ender;
 pub enum Limit {
     /// Its test is under way.
     Test,
-    /// Behind `\else`, or behind a case that `\else` or `\fi` skipped to.
+    /// Behind the `\else` to which text was skipped.
     AfterElse,
     /// In a true branch.
     Branch,

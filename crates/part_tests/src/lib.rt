@@ -9,6 +9,8 @@ mod char_text_tests;
 #[cfg(test)]
 mod command_words_tests;
 #[cfg(test)]
+mod conditionals_tests;
+#[cfg(test)]
 mod cs_hash_tests;
 #[cfg(test)]
 mod eqtb_tests;
@@ -28,6 +30,10 @@ mod prim_table_tests;
 mod rows_tests;
 #[cfg(test)]
 mod scaled_arith_tests;
+#[cfg(test)]
+mod scan_dimens_tests;
+#[cfg(test)]
+mod scan_glue_tests;
 #[cfg(test)]
 mod scan_numbers_tests;
 #[cfg(test)]

@@ -3,7 +3,7 @@ use Rattle.conditionals.specs.declared.skip.Ender.TheVariants.{Or}
 use Rattle.conditionals.specs.declared.choice.Aim.{Aim}
 use Rattle.conditionals.specs.declared.choice.Aim.TheVariants.{Case}
 use Rattle.conditionals.specs.Choices.{end}
-use Rattle.conditionals.proofs.Enders.{or_own}
+use Rattle.conditionals.proofs.Enders.{or_own, case_left}
 use Rattle.conditionals.proofs.choice.Choice.feed_or.Goals as goal
 
 pub returns-then-n-gt1-clause-end : goal.returns-then-n-gt1-clause-end
@@ -13,3 +13,6 @@ returns-then-n-gt1-clause-end c = λ es.
     ∙ ap (λ (k : ℕ). end (Case c.in-Case.n) k (Or ∷ es)) c.requires.own
     ∙ or_own c.in-Case.n es more
     ∙ ap (λ (k : ℕ). end (Case (c.in-Case.n - 1)) k es) (sym c.requires.own)
+
+pub returns-then-n-gt1-clause-goes_on : goal.returns-then-n-gt1-clause-goes_on
+returns-then-n-gt1-clause-goes_on c = case_left c.in-Case.n c.args.self.above (omega (arith, c.if-n-gt1.true))
