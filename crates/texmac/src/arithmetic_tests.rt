@@ -146,7 +146,7 @@ fn names_stand_for_characters(rt: HostRuntime) {
 }
 
 /// The text of what stands at a location.
-const TOLD: [Row; 6] = [
+const TOLD: [Row; 9] = [
     (
         b"\\message{\\the x,\\the\\relax,\\the{}\\end",
         b"! You can't use `the letter x' after \\the.\nl.2\n! You can't use `\\relax' after \\the.\nl.2\n! You can't use `begin-group character {' after \\the.\nl.2\n0,0,0\n",
@@ -176,6 +176,21 @@ const TOLD: [Row; 6] = [
         b"\\edef\\a{\\the\\mag\\the\\mag}\\message{\\a,\\meaning\\the,\\meaning\\advance,\\meaning\\countdef}\\end",
         b"10001000,\\the,\\advance,\\countdef\n",
         0,
+    ),
+    (
+        b"\\count1=1 {\\count1=2 \\global\\count1=3 \\count1=4 }\\message{\\the\\count1}\\end",
+        b"3\n",
+        0,
+    ),
+    (
+        b"\\count0=\"80000000 \\message{\\the\\count0}\\end",
+        b"! Number too big.\nl.2\n2147483647\n",
+        1,
+    ),
+    (
+        b"\\def\\a{\\the\\a}\\a",
+        b"! TeX capacity exceeded, sorry [expansion depth=400].\n",
+        3,
     ),
 ];
 
