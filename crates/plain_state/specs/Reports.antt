@@ -6,7 +6,7 @@ use Rattle.tex_syntax.specs.declared.words.Scanned.TheVariants as scanned
 use Rattle.tex_syntax.specs.declared.words.UnitTaken.{UnitTaken}
 use Rattle.tex_syntax.specs.declared.words.UnitTaken.TheVariants as unit
 use Rattle.tex_syntax.specs.declared.words.Report.{Report}
-use Rattle.tex_syntax.specs.declared.words.Report.TheVariants.{UndefinedName, InvalidCharacter, ImproperConstant, MissingNumber, NumberTooBig, BadCharacterCode, BadRegisterCode, BadMathchar, CantUseAfter, DimensionTooLarge, IllegalUnit, ArithmeticOverflow, IncompatibleUnits, InvalidCode, CodeTooGreat, MissingBrace, FileEnded, Forbidden, MissingName, NotConsecutive, AlreadyNine, IllegalNumber, UseMismatch, ExtraBrace, ParagraphEnded, PrefixWith, LongOrOuterWith, MissingEndcsname, ExtraEndcsname, TooManyBraces, ForgottenEndgroup, ExtraEndgroup, MissingRightBrace}
+use Rattle.tex_syntax.specs.declared.words.Report.TheVariants.{UndefinedName, InvalidCharacter, ImproperConstant, MissingNumber, NumberTooBig, BadCharacterCode, BadRegisterCode, BadMathchar, CantUseAfter, DimensionTooLarge, IllegalUnit, IncompatibleMagnification, IllegalMagnification, ArithmeticOverflow, IncompatibleUnits, InvalidCode, CodeTooGreat, MissingBrace, FileEnded, Forbidden, MissingName, NotConsecutive, AlreadyNine, IllegalNumber, UseMismatch, ExtraBrace, ParagraphEnded, PrefixWith, LongOrOuterWith, MissingEndcsname, ExtraEndcsname, TooManyBraces, ForgottenEndgroup, ExtraEndgroup, MissingRightBrace}
 use Rattle.tex_defs.specs.declared.Token.{Token}
 use Rattle.tex_defs.specs.declared.Token.TheVariants.{Char, Named, Marked}
 use Rattle.tex_defs.specs.declared.Name.{Name}
@@ -40,6 +40,8 @@ report_text style (BadMathchar n) = codes "Bad mathchar (" ++ (signed_decimal n 
 report_text style (CantUseAfter m number) = codes "You can't use `" ++ (meaning_head style m ++ (codes "' after " ++ escaped style (primitive_word number)))
 report_text style DimensionTooLarge = codes "Dimension too large"
 report_text style (IllegalUnit u) = codes "Illegal unit of measure (" ++ (unit_taken u ++ codes ")")
+report_text style (IncompatibleMagnification n m) = codes "Incompatible magnification (" ++ (signed_decimal n ++ codes ");")
+report_text style (IllegalMagnification n) = codes "Illegal magnification has been changed to 1000 (" ++ (signed_decimal n ++ codes ")")
 report_text style ArithmeticOverflow = codes "Arithmetic overflow"
 report_text style IncompatibleUnits = codes "Incompatible glue units"
 report_text style (InvalidCode n greatest) = codes "Invalid code (" ++ (signed_decimal n ++ (codes "), should be in the range 0.." ++ decimal greatest))
@@ -64,6 +66,11 @@ report_text style ForgottenEndgroup = codes "Extra }, or forgotten " ++ escaped 
 report_text style ExtraEndgroup = codes "Extra " ++ escaped style (codes "endgroup")
 report_text style MissingRightBrace = codes "Missing } inserted"
 
+-- THE COLUMN: it is 0 behind a line feed, and not 0 behind another byte
+abbrev pub in_line_after : Bool → List ℕ → Bool
+in_line_after b [] = b
+in_line_after b (c ∷ cs) = in_line_after (not (c == 10)) cs
+
 -- A line feed, where the column isn't 0. It is no printed character, as the line feeds that end lines are none.
 abbrev pub fresh_line : Bool → List ℕ
 fresh_line in_line = if in_line then 10 ∷ [] else []
@@ -77,8 +84,23 @@ abbrev pub reported_line : Style → Bool → ℕ → List ℕ → List ℕ
 reported_line style in_line line text =
     fresh_line in_line ++ (printed_line style (codes "! " ++ (text ++ codes ".")) ++ printed_line style (codes "l." ++ decimal line))
 
+-- the second line of a report, where it has one
+abbrev pub second_line : Report → List ℕ
+second_line (IncompatibleMagnification n m) = codes " the previous value will be retained (" ++ (decimal m ++ codes ")")
+second_line report = []
+
+-- The first line of such a report, and the second on a fresh line: where a character of the first begins a new line, that may be fresh already.
+abbrev pub first_of_two : Style → Bool → List ℕ → List ℕ
+first_of_two style in_line text = fresh_line in_line ++ printed_all style (codes "! " ++ text)
+
+abbrev pub reported_lines : Style → Bool → ℕ → (text second : List ℕ) → List ℕ
+reported_lines style in_line line text [] = reported_line style in_line line text
+reported_lines style in_line line text (c ∷ second) =
+    first_of_two style in_line text ++ (fresh_line (in_line_after in_line (first_of_two style in_line text))
+    ++ (printed_line style (c ∷ (second ++ codes ".")) ++ printed_line style (codes "l." ++ decimal line)))
+
 abbrev pub report_bytes : Style → Bool → ℕ → Report → List ℕ
-report_bytes style in_line line report = reported_line style in_line line (report_text style report)
+report_bytes style in_line line report = reported_lines style in_line line (report_text style report) (second_line report)
 
 -- the report of a file that isn't held
 abbrev pub missing_file_text : (file : List ℕ) → List ℕ
@@ -152,8 +174,3 @@ abbrev pub shown_meaning_bytes : Style → (in_line : Bool) → (line : ℕ) →
 shown_meaning_bytes style in_line line t m ts =
     fresh_line in_line ++ (printed_all style (codes "> " ++ (shown_name style t ++ meaning_head style m)) ++ (macro_feed m
     ++ (printed_line style (list_text style ts ++ codes ".") ++ printed_line style (codes "l." ++ decimal line))))
-
--- THE COLUMN: it is 0 behind a line feed, and not 0 behind another byte
-abbrev pub in_line_after : Bool → List ℕ → Bool
-in_line_after b [] = b
-in_line_after b (c ∷ cs) = in_line_after (not (c == 10)) cs

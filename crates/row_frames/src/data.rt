@@ -1,6 +1,6 @@
 // What a command has read.
 ghost use Rattle.std.specs.Prelude.{◌≡◌, ◌<◌, ◌++◌, [], ◌∷◌, length};
-ghost use Rattle.rows.specs.Stages.{datum_at, number_in, name_in, token_in, location_read};
+ghost use Rattle.rows.specs.Stages.{datum_at, name_in, token_in, location_read};
 ghost use Rattle.row_frames.specs.Data.{values};
 
 use equivalents::Loc;
@@ -69,16 +69,6 @@ impl Data {
             Data::Three(_, _, c) => c,
             Data::Four(_, _, c, _) => c,
         }
-    }
-}
-
-/// A number that was read.
-pub fn number(datum: Datum) -> i32
-    ensures { result ≡ number_in datum }
-{
-    match datum {
-        Datum::Number(n) => n,
-        _ => 0,
     }
 }
 

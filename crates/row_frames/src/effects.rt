@@ -4,9 +4,11 @@ ghost use Rattle.rows.specs.Effects as effects;
 ghost use Rattle.rows.specs.Table as table;
 ghost use Rattle.row_frames.specs.Data.{values};
 
-use crate::data::{Data, location, name, number, token};
+use crate::data::{Data, location, name, token};
 use equivalents::Loc;
-use rows::{Action, Call, Datum, Effect, Head, Shorthand, byte_of, row_of};
+use rows::{
+    Action, Call, Datum, Effect, Head, Shorthand, byte_of, glue_in, is_glue, number_in, row_of,
+};
 
 /// A mathematical character's code; another number counts as 0.
 fn math_code_of(n: i32) -> u16
@@ -21,7 +23,18 @@ fn value_made(datum: Datum) -> Effect
 {
     match datum {
         Datum::At(loc) => Effect::MakeValue(loc),
-        _ => Effect::MakeNumber(number(datum)),
+        _ => Effect::MakeNumber(number_in(datum)),
+    }
+}
+
+/// A location gets what was read, as glue or as a number, as what stands there is.
+fn set_to(loc: Loc, datum: Datum) -> Effect
+    ensures { result ≡ effects.set_to loc datum }
+{
+    if is_glue(loc) {
+        Effect::SetGlue(loc, glue_in(datum))
+    } else {
+        Effect::SetNumber(loc, number_in(datum))
     }
 }
 
@@ -42,35 +55,33 @@ fn comes_to(action: Action, read: &Data) -> Effect
         Action::Let => Effect::Let(name(first), token(second)),
         Action::FutureLet => Effect::FutureLet(name(first), token(second), token(read.third())),
         Action::SetCode(kind) => {
-            let code = byte_of(number(first));
-            Effect::SetNumber(Loc::Code { kind, code }, number(second))
+            let code = byte_of(number_in(first));
+            Effect::SetNumber(Loc::Code { kind, code }, number_in(second))
         }
-        Action::SetAt(loc) => Effect::SetNumber(loc, number(first)),
+        Action::SetAt(loc) => set_to(loc, first),
         Action::SetRegister(kind) => {
-            let no = byte_of(number(first));
-            Effect::SetNumber(Loc::Register { kind, no }, number(second))
+            let no = byte_of(number_in(first));
+            set_to(Loc::Register { kind, no }, second)
         }
-        Action::Compute(operation) => {
-            Effect::Compute(operation, location(first), number(read.third()))
-        }
+        Action::Compute(operation) => Effect::Compute(operation, location(first), read.third()),
         Action::GiveCharacter => {
-            let code = byte_of(number(second));
+            let code = byte_of(number_in(second));
             Effect::Shorthand(name(first), Shorthand::Character(code))
         }
         Action::GiveMath => {
-            let code = math_code_of(number(second));
+            let code = math_code_of(number_in(second));
             Effect::Shorthand(name(first), Shorthand::Math(code))
         }
         Action::GiveRegister(kind) => {
-            let no = byte_of(number(second));
+            let no = byte_of(number_in(second));
             Effect::Shorthand(name(first), Shorthand::Register { kind, no })
         }
         Action::AfterGroup => Effect::AfterGroup(token(first)),
         Action::AfterAssignment => Effect::AfterAssignment(token(first)),
         Action::ExpandBehind => Effect::ExpandBehind(token(first), token(second)),
         Action::PutMarked => Effect::PutMarked(token(first)),
-        Action::MakeNumber => Effect::MakeNumber(number(first)),
-        Action::MakeRoman => Effect::MakeRoman(number(first)),
+        Action::MakeNumber => Effect::MakeNumber(number_in(first)),
+        Action::MakeRoman => Effect::MakeRoman(number_in(first)),
         Action::MakeString => Effect::MakeString(token(first)),
         Action::MakeMeaning => Effect::MakeMeaning(token(first)),
         Action::MakeValue => value_made(first),

@@ -114,7 +114,7 @@ impl RowFrame {
             Turn::Gathers => Ask::ActsOn(self.call, effect_of(self.call, &self.read)),
             Turn::Defines => Ask::Defines(as_definition(self.call), name(self.read.first())),
             Turn::Turns(call) => self.go_on_as(call),
-            Turn::Fails(call) => Ask::Acts(call, Effect::Unassigned),
+            Turn::Unassigned(call) => Ask::Acts(call, Effect::Unassigned),
             Turn::Ends => Ask::Ends,
         }
     }

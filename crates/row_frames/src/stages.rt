@@ -8,10 +8,10 @@ ghost use Rattle.rows.specs.Table as table;
 ghost use Rattle.rows.specs.declared.stage.Stage.TheVariants as stage;
 ghost use Rattle.row_frames.specs.Data.{values};
 
-use crate::data::{Data, name};
+use crate::data::{Data, location, name};
 use rows::{
-    Bank, Call, Complaint, Datum, Got, Head, Internal, Kind, Met, Next, Note, Prefix, Stage, Start,
-    Value, byte_of, find_row, internal_of, variable_of,
+    Bank, Call, Complaint, Datum, DimenKind, Got, Head, Internal, Kind, Met, Next, Note, Prefix,
+    Stage, Start, Value, byte_of, find_row, internal_of, number_in, value_stage, variable_of,
 };
 use tex_defs::{Frozen, Meaning, Name, Seen, Token};
 use tex_syntax::{Report, Want};
@@ -184,13 +184,13 @@ fn unusable(call: Call, x: Seen) -> Note
 fn variable(call: Call, x: Seen) -> Met
     ensures { result ≡ stages.on_token stage.Variable call x }
 {
-    let refused = Met::Notes(unusable(call, x), Next::Fails(call));
+    let refused = Met::Notes(unusable(call, x), Next::Unassigned(call));
     standing(refused, variable_of(x.meaning))
 }
 
 /// What stands for a number, a dimension or glue; another token counts as 0.
 fn internal(call: Call, x: Seen) -> Met
-    ensures { result ≡ stages.on_token stage.Internal call x }
+    ensures { result ≡ stages.on_token stage.InternalValue call x }
 {
     let zero = Next::Takes(Datum::Number(0));
     let refused = Met::Notes(unusable(call, x), zero);
@@ -371,7 +371,7 @@ pub fn on_token(stage: Stage, call: Call, x: Seen) -> Met
         Stage::ControlSequence => control_sequence(call, x),
         Stage::NewName => new_name(call, x),
         Stage::Variable => variable(call, x),
-        Stage::Internal => internal(call, x),
+        Stage::InternalValue => internal(call, x),
         Stage::LetEquals => let_equals(call, x),
         Stage::Space => {
             if is_space(x) {
@@ -387,18 +387,48 @@ pub fn on_token(stage: Stage, call: Call, x: Seen) -> Met
     }
 }
 
+/// What a stage makes of what an inner reading has read.
+fn on_datum(stage: Stage, datum: Datum) -> Got
+    ensures { result ≡ stages.on_datum stage datum }
+{
+    match stage {
+        Stage::NumberTo(greatest, complaint) => ranged(complaint, greatest, number_in(datum)),
+        Stage::NumberUpTo(greatest) => bounded(greatest, number_in(datum)),
+        _ => Got::Takes(datum),
+    }
+}
+
+/// What a stage makes of the list of an inner reading.
+fn on_list(stage: Stage) -> Got
+    ensures { result ≡ stages.on_list stage }
+{
+    match stage {
+        Stage::MacroText(_) => Got::Defines,
+        _ => Got::Gathers,
+    }
+}
+
 /// What a stage makes of the value of an inner reading.
 pub fn on_value(stage: Stage, value: Value) -> Got
     ensures { result ≡ stages.on_value stage value }
 {
-    match (stage, value) {
-        (Stage::NumberTo(greatest, complaint), Value::Plain(Datum::Number(n))) => {
-            ranged(complaint, greatest, n)
-        }
-        (Stage::NumberUpTo(greatest), Value::Plain(Datum::Number(n))) => bounded(greatest, n),
-        (_, Value::Plain(datum)) => Got::Takes(datum),
-        (Stage::MacroText(_), Value::List) => Got::Defines,
-        (_, Value::List) => Got::Gathers,
+    match value {
+        Value::Plain(datum) => on_datum(stage, datum),
+        Value::List => on_list(stage),
+    }
+}
+
+/// The reading that a value is: a number, a dimension or glue.
+fn value_kind(stage: Stage) -> Kind
+    ensures { result ≡ stages.value_kind stage }
+{
+    match stage {
+        Stage::Dimension => Kind::Dimension(DimenKind {
+            mu: false,
+            infinite: false,
+        }),
+        Stage::Glue(mu) => Kind::Glue(mu),
+        _ => Kind::Integer,
     }
 }
 
@@ -408,9 +438,11 @@ pub fn start(stage: Stage, call: Call, read: &Data) -> Start
 {
     match stage {
         Stage::Number | Stage::NumberTo(..) | Stage::NumberUpTo(_) => Start::Begins(Kind::Integer),
+        Stage::Dimension | Stage::Glue(_) => Start::Begins(value_kind(stage)),
+        Stage::Amount => Start::Begins(value_kind(value_stage(location(read.first())))),
         Stage::Equals | Stage::NonblankToken => Start::Looks(Want::Nonblank),
         Stage::ControlSequence | Stage::NewName | Stage::LetEquals => Start::Looks(Want::Raw),
-        Stage::Variable | Stage::Internal => Start::Looks(Want::Expanded),
+        Stage::Variable | Stage::InternalValue => Start::Looks(Want::Expanded),
         Stage::Keyword(keyword) => Start::Begins(Kind::Keyword(keyword)),
         Stage::Space | Stage::AnyToken => Start::Looks(Want::Raw),
         Stage::Text(expanded) => Start::Begins(Kind::Text(call.name, expanded)),

@@ -97,7 +97,7 @@ pub enum Turn {
     /// The command goes on as this one, from the beginning.
     Turns(Call),
     /// The command, an assignment, is over, and has assigned nothing.
-    Fails(Call),
+    Unassigned(Call),
     /// The command is over.
     Ends,
 }
@@ -123,7 +123,7 @@ fn behind_note(next: Next) -> Turn
     match next {
         Next::Takes(datum) => Turn::Takes(datum),
         Next::Stops => Turn::Ends,
-        Next::Fails(call) => Turn::Fails(call),
+        Next::Unassigned(call) => Turn::Unassigned(call),
         Next::Turns(call) => Turn::Turns(call),
     }
 }

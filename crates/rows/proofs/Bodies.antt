@@ -25,6 +25,7 @@ use Rattle.rows.specs.declared.stage.Note.TheVariants as note
 use Rattle.rows.specs.declared.command.Call.{Call}
 use Rattle.rows.specs.Readings.{Fed, Tok, Val, Told, Ask, More, Inner, Defines}
 use Rattle.rows.specs.Stages.{start, on_token, on_value, on_datum, numbered_by}
+use Rattle.rows.specs.Arithmetic.{number_in}
 use Rattle.rows.specs.Tokens.{is_at_most, is_up_to}
 use Rattle.std.specs.Prelude.{if◌then◌else◌}
 use Rattle.rows.specs.Table.{stages_of}
@@ -70,13 +71,13 @@ due_plain (note.Relaxes c n) = tt
 comes_first : (y : Fed) (a : Ask) (m : Next) → Follows y a (comes m [])
 comes_first y a (next.Takes d) = tt
 comes_first y a next.Stops = tt
-comes_first y a (next.Fails c) = tt
+comes_first y a (next.Unassigned c) = tt
 comes_first y a (next.Turns c) = tt
 
 comes_more : (y : Fed) (m : Next) (fed : List Fed) → Extends y (comes m fed) (comes m (fed ++ y ∷ []))
 comes_more y (next.Takes d) fed = refl
 comes_more y next.Stops fed = tt
-comes_more y (next.Fails c) fed = tt
+comes_more y (next.Unassigned c) fed = tt
 comes_more y (next.Turns c) fed = refl
 
 noted_more : (y : Fed) (n : Note) (m : Next) (fed : List Fed) → Extends y (noted n m fed) (noted n m (fed ++ y ∷ []))
@@ -118,8 +119,8 @@ got_if true g h i j = i
 got_if false g h i j = j
 
 datum_plain : (s : Stage) (d : Datum) → NotDefines (on_datum s d)
-datum_plain (NumberTo greatest complaint) (datum.Number n) = got_if (is_at_most greatest n) _ _ tt tt
-datum_plain (NumberUpTo greatest) (datum.Number n) = got_if (is_up_to greatest n) _ _ tt tt
+datum_plain (NumberTo greatest complaint) d = got_if (is_at_most greatest (number_in d)) _ _ tt tt
+datum_plain (NumberUpTo greatest) d = got_if (is_up_to greatest (number_in d)) _ _ tt tt
 datum_plain s d = tt
 
 value_first : (s : Stage) (k : Kind) (b : Bool) (v : Value) (ts : List Token) → Fits s k → Follows (Val v ts) (Inner k b) (valued (on_value s v) ts [])

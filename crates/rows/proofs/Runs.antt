@@ -9,7 +9,7 @@ use Rattle.rows.specs.declared.words.Kind.{Kind}
 use Rattle.rows.specs.declared.words.Kind.TheVariants.{Integer}
 use Rattle.rows.specs.declared.internal.Bank.{Bank}
 use Rattle.rows.specs.declared.stage.Stage.{Stage}
-use Rattle.rows.specs.declared.stage.Stage.TheVariants.{Number, NumberTo, NumberUpTo, Keyword, Text, MacroText}
+use Rattle.rows.specs.declared.stage.Stage.TheVariants.{Number, NumberTo, NumberUpTo, Dimension, Glue, Amount, Keyword, Text, MacroText}
 use Rattle.rows.specs.declared.stage.Start.{Start}
 use Rattle.rows.specs.declared.stage.Start.TheVariants.{Looks, Begins}
 use Rattle.rows.specs.declared.stage.Met.{Met}
@@ -24,8 +24,8 @@ use Rattle.rows.specs.declared.command.Call.{Call}
 use Rattle.rows.specs.declared.command.Effect.{Effect}
 use Rattle.rows.specs.declared.command.Effect.TheVariants as effect
 use Rattle.rows.specs.Readings.{Fed, Tok, Val, Told, Ask, More, Inner, Acts, ActsOn, Defines, Ends}
-use Rattle.rows.specs.Table.{stages_of}
-use Rattle.rows.specs.Stages.{start, on_token, on_value, numbered_by, name}
+use Rattle.rows.specs.Table.{stages_of, value_stage}
+use Rattle.rows.specs.Stages.{start, value_kind, on_token, on_value, numbered_by, name, location}
 use Rattle.rows.specs.Effects.{effect_of, as_definition}
 use Rattle.rows.specs.Run.{Outcome, Asks, Takes, Passes, Gathers, Makes, Turns, comes, due, noted, valued, inner, begins, numbers, met_with, looks, again, started, behind, run, no_turn, turned, row}
 use Rattle.rows.specs.Laws.{is_told, rank}
@@ -38,10 +38,18 @@ abbrev pub StartsLow : Start → Type 0
 StartsLow (Looks want) = Unit {0}
 StartsLow (Begins k) = IsLow k
 
+value_low : (s : Stage) → IsLow (value_kind s)
+value_low Dimension = omega arith
+value_low (Glue mu) = omega arith
+value_low s = omega arith
+
 start_low : (s : Stage) (c : Call) (ds : List Datum) → StartsLow (start s c ds)
 start_low Number c ds = omega arith
 start_low (NumberTo greatest complaint) c ds = omega arith
 start_low (NumberUpTo greatest) c ds = omega arith
+start_low Dimension c ds = value_low Dimension
+start_low (Glue mu) c ds = value_low (Glue mu)
+start_low Amount c ds = value_low (value_stage (location 0 ds))
 start_low (Keyword w) c ds = omega arith
 start_low (Text expanded) c ds = omega arith
 start_low (MacroText expanded) c ds = omega arith
@@ -70,7 +78,7 @@ module _
     comes_fits : (m : Next) (b : Bool) (fed : List Fed) → Fits (is_told b fed) (comes m fed)
     comes_fits (next.Takes d) b fed = (b, refl)
     comes_fits next.Stops b fed = end (is_told b fed)
-    comes_fits (next.Fails c) b fed = act (is_told b fed) c effect.Unassigned
+    comes_fits (next.Unassigned c) b fed = act (is_told b fed) c effect.Unassigned
     comes_fits (next.Turns c) b fed = (b, refl)
 
     noted_fits : (n : Note) (m : Next) (fed : List Fed) → Fits (is_told false fed) (noted n m fed)

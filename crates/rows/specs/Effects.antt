@@ -1,5 +1,6 @@
 -- What a command does with what it has read.
 use Rattle.std.specs.Prelude.{ℕ, ℤ, nat_abs, Bool, true, false, ◌||◌, if◌then◌else◌, List}
+use Rattle.equivalents.specs.declared.values.Loc.{Loc}
 use Rattle.equivalents.specs.declared.values.Loc.TheVariants as loc
 use Rattle.rows.specs.declared.words.Datum.{Datum}
 use Rattle.rows.specs.declared.words.Datum.TheVariants as datum
@@ -9,9 +10,10 @@ use Rattle.rows.specs.declared.command.Shorthand.TheVariants as shorthand
 use Rattle.rows.specs.declared.command.Effect.{Effect}
 use Rattle.rows.specs.declared.command.Effect.TheVariants as effect
 use Rattle.rows.specs.declared.command.Call.{Call}
-use Rattle.rows.specs.Internal.{byte_of}
+use Rattle.rows.specs.Internal.{byte_of, is_glue}
+use Rattle.rows.specs.Arithmetic.{number_in, glue_in}
 use Rattle.rows.specs.Tokens.{is_at_most}
-use Rattle.rows.specs.Stages.{datum_at, number_in, number, name, token_read, location}
+use Rattle.rows.specs.Stages.{datum_at, number, name, token_read, location}
 use Rattle.rows.specs.Table.{action_of}
 
 -- a mathematical character's code; another number, which no row gives, counts as 0
@@ -22,6 +24,10 @@ math_code_of n = if is_at_most 32767 n then nat_abs n else 0
 abbrev pub value_made : Datum → Effect
 value_made (datum.At l) = effect.MakeValue l
 value_made d = effect.MakeNumber (number_in d)
+
+-- a location gets what was read, as glue or as a number, as what stands there is
+abbrev pub set_to : Loc → Datum → Effect
+set_to l d = if is_glue l then effect.SetGlue l (glue_in d) else effect.SetNumber l (number_in d)
 
 abbrev pub comes_to : Action → List Datum → Effect
 comes_to action.Nothing ds = effect.Nothing
@@ -34,9 +40,9 @@ comes_to action.DefineGlobally ds = effect.Nothing
 comes_to action.Let ds = effect.Let (name 0 ds) (token_read 1 ds)
 comes_to action.FutureLet ds = effect.FutureLet (name 0 ds) (token_read 1 ds) (token_read 2 ds)
 comes_to (action.SetCode kind) ds = effect.SetNumber (loc.Code kind (byte_of (number 0 ds))) (number 1 ds)
-comes_to (action.SetAt l) ds = effect.SetNumber l (number 0 ds)
-comes_to (action.SetRegister kind) ds = effect.SetNumber (loc.Register kind (byte_of (number 0 ds))) (number 1 ds)
-comes_to (action.Compute operation) ds = effect.Compute operation (location 0 ds) (number 2 ds)
+comes_to (action.SetAt l) ds = set_to l (datum_at 0 ds)
+comes_to (action.SetRegister kind) ds = set_to (loc.Register kind (byte_of (number 0 ds))) (datum_at 1 ds)
+comes_to (action.Compute operation) ds = effect.Compute operation (location 0 ds) (datum_at 2 ds)
 comes_to action.GiveCharacter ds = effect.Shorthand (name 0 ds) (shorthand.Character (byte_of (number 1 ds)))
 comes_to action.GiveMath ds = effect.Shorthand (name 0 ds) (shorthand.Math (math_code_of (number 1 ds)))
 comes_to (action.GiveRegister kind) ds = effect.Shorthand (name 0 ds) (shorthand.Register kind (byte_of (number 1 ds)))

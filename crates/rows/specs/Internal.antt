@@ -83,15 +83,12 @@ internal_of (means.Register kind n) = Some (internal.At (loc.Register kind n))
 internal_of (means.Prim n) = internal_primitive n
 internal_of m = None
 
--- What arithmetic changes: the registers and parameters of integers, until dimensions and glue are read.
+-- What arithmetic changes: the registers and parameters that are integers, dimensions or glue.
 abbrev pub variable_primitive : ℕ → Option Internal
-variable_primitive n =
-    if n == 41 then Some (internal.Numbered (bank.Registers register.Count))
-    else if is_between first_integer last_integer n then Some (internal.At (loc.Integer (n - first_integer)))
-    else None
+variable_primitive n = if is_between 41 44 n then internal_primitive n else internal_parameter n
 
 abbrev pub variable_of : Meaning Unit → Option Internal
-variable_of (means.Register register.Count n) = Some (internal.At (loc.Register register.Count n))
+variable_of (means.Register kind n) = internal_of (means.Register kind n)
 variable_of (means.Prim n) = variable_primitive n
 variable_of m = None
 
@@ -132,6 +129,13 @@ abbrev pub is_mu : Loc → Bool
 is_mu (loc.Register register.Muskip n) = true
 is_mu (loc.Glue i) = nat_le 15 i
 is_mu l = false
+
+-- the glue parameters, and the registers of `\skip` and `\muskip`
+abbrev pub is_glue : Loc → Bool
+is_glue (loc.Glue i) = true
+is_glue (loc.Register register.Skip n) = true
+is_glue (loc.Register register.Muskip n) = true
+is_glue l = false
 
 -- AS TEXTS: an integer in decimal; a dimension in points; glue by its width and by its stretch and shrink, where these aren't 0
 

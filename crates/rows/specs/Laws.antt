@@ -3,7 +3,7 @@ use Rattle.std.specs.Prelude.{ℕ, ◌<◌, ◌≡◌, ◌≢◌, Bool, true, fa
 use Rattle.rows.specs.declared.words.Kind.{Kind}
 use Rattle.rows.specs.declared.words.Kind.TheVariants.{Command, Definition}
 use Rattle.rows.specs.declared.command.Call.{Call}
-use Rattle.rows.specs.Readings.{Fed, Val, Told, Ask, More, Inner, Done, Defines, Tells, Inserts, Puts, Fetches}
+use Rattle.rows.specs.Readings.{Fed, Val, Told, Ask, More, Inner, Done, Defines, Tells, Inserts, Puts, Fetches, Magnifies}
 use Rattle.rows.specs.Run.{row}
 
 -- A COMMAND THAT WAS FED WITH NOTHING asks for a token or begins another reading: it doesn't end, and reports nothing.
@@ -27,10 +27,11 @@ BeginsLower n a = Unit {0}
 abbrev pub ReadingsBeginLower : Type 0
 ReadingsBeginLower = (c : Call) (fed : List Fed) → BeginsLower (rank (Command c)) (row c fed)
 
--- A COMMAND HAS NO VALUE, asks for nothing that stands at a location, and puts no token back by itself
+-- A COMMAND HAS NO VALUE, asks neither for what stands at a location nor for the magnification, and puts no token back by itself
 abbrev pub IsValueless : Ask → Type 0
 IsValueless (Done v back) = ⊥
 IsValueless (Fetches l) = ⊥
+IsValueless Magnifies = ⊥
 IsValueless (Puts t more) = ⊥
 IsValueless a = Unit {0}
 

@@ -13,8 +13,8 @@ use Rattle.rows.specs.declared.command.Call.{Call}
 use Rattle.rows.specs.declared.command.Effect.{Effect}
 
 -- What a reading is fed with: a token; the value of an inner reading, with its list of tokens where it has one; a note that its
--- report was written, or that done for which it asked; what stands at the location that it asked for, without its list; a note that a check came: a file's end or the name of
--- an \outer macro.
+-- report was written, or that what it asked for is done; what stands at the location that it asked for, without its list; a note that a check
+-- came: a file's end or the name of an \outer macro.
 pub data Fed : Type 0 where
   Tok : Seen → Fed
   Val : Value → List Token → Fed
@@ -26,7 +26,8 @@ pub data Fed : Type 0 where
 -- may be given back. A command asks to do what it does, perhaps with the list that it read last, or to make that list a macro's, and
 -- ends; or it ends. A call asks that its body be put, with these arguments; to report and end; or to report that it ran away, and end.
 -- To report, where the last token may be given back before, and then another be inserted: then it is fed with the note, and goes on. To put a
--- token back, while so many more are to follow, or to make a name mean `\relax`, by a command: then too. For what stands at a location.
+-- token back, while so many more are to follow, to make a name mean `\relax`, by a command, or to check the magnification: then too. For what stands
+-- at a location.
 pub data Ask : Type 0 where
   More : Want → Ask
   Inner : Kind → (begins : Bool) → Ask
@@ -42,4 +43,5 @@ pub data Ask : Type 0 where
   Inserts : Token → Report → (give_back : Bool) → Ask
   Puts : Token → (more : ℕ) → Ask
   Relaxes : Call → Name → Ask
+  Magnifies : Ask
   Fetches : Loc → Ask

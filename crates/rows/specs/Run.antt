@@ -43,7 +43,7 @@ senseless = Asks Ends
 abbrev pub comes : Next → List Fed → Outcome
 comes (next.Takes d) fed = Takes d fed
 comes next.Stops fed = Asks Ends
-comes (next.Fails c) fed = Asks (Acts c effect.Unassigned)
+comes (next.Unassigned c) fed = Asks (Acts c effect.Unassigned)
 comes (next.Turns c) fed = Turns c fed
 
 abbrev pub due : Note → Ask

@@ -17,9 +17,10 @@ use Rattle.rows.specs.declared.words.Datum.{Datum}
 use Rattle.rows.specs.declared.words.Datum.TheVariants as datum
 use Rattle.rows.specs.declared.words.Value.{Value}
 use Rattle.rows.specs.declared.words.Value.TheVariants as value
+use Rattle.rows.specs.declared.words.Kind.{Kind}
 use Rattle.rows.specs.declared.words.Kind.TheVariants as kind
 use Rattle.rows.specs.declared.stage.Stage.{Stage}
-use Rattle.rows.specs.declared.stage.Stage.TheVariants.{Number, NumberTo, NumberUpTo, Equals, ControlSequence, NewName, Variable, Internal, Keyword, LetEquals, Space, AnyToken, NonblankToken, Text, MacroText, Prefixes}
+use Rattle.rows.specs.declared.stage.Stage.TheVariants.{Number, NumberTo, NumberUpTo, Dimension, Glue, Amount, Equals, ControlSequence, NewName, Variable, InternalValue, Keyword, LetEquals, Space, AnyToken, NonblankToken, Text, MacroText, Prefixes}
 use Rattle.rows.specs.declared.stage.Complaint.{Complaint}
 use Rattle.rows.specs.declared.stage.Complaint.TheVariants.{BadCharacterCode, BadRegisterCode, BadMathchar, InvalidCode}
 use Rattle.rows.specs.declared.stage.Start.{Start}
@@ -43,7 +44,9 @@ use Rattle.rows.specs.declared.internal.Bank.{Bank}
 use Rattle.rows.specs.declared.internal.Internal.{Internal as Stands}
 use Rattle.rows.specs.declared.internal.Internal.TheVariants as internal
 use Rattle.rows.specs.Internal.{byte_of, location_in, bad_number, internal_of, variable_of}
-use Rattle.rows.specs.Table.{has_row}
+use Rattle.rows.specs.Arithmetic.{number_in}
+use Rattle.rows.specs.Table.{has_row, value_stage}
+use Rattle.rows.specs.declared.words.DimenKind.{DimenKind}
 
 -- WHAT HAS BEEN READ, in the order in which it was read
 
@@ -54,10 +57,6 @@ abbrev pub datum_at : ℕ → List Datum → Datum
 datum_at i [] = nothing
 datum_at zero (d ∷ ds) = d
 datum_at (suc i) (d ∷ ds) = datum_at i ds
-
-abbrev pub number_in : Datum → ℤ
-number_in (datum.Number n) = n
-number_in d = pos 0
 
 abbrev pub name_in : Datum → Name
 name_in (datum.Named n) = n
@@ -217,15 +216,28 @@ prefixed c None x = behind_prefixes c x
 
 -- THE STAGES
 
+-- a dimension that isn't in mu and is finite
+abbrev pub in_points : DimenKind
+in_points = record { mu = false; infinite = false }
+
+-- the reading that a value is
+abbrev pub value_kind : Stage → Kind
+value_kind Dimension = kind.Dimension in_points
+value_kind (Glue mu) = kind.Glue mu
+value_kind s = kind.Integer
+
 -- what each asks for at first, in a command that has read this
 abbrev pub start : Stage → Call → List Datum → Start
 start Number c ds = Begins kind.Integer
 start (NumberTo greatest complaint) c ds = Begins kind.Integer
 start (NumberUpTo greatest) c ds = Begins kind.Integer
+start Dimension c ds = Begins (value_kind Dimension)
+start (Glue mu) c ds = Begins (value_kind (Glue mu))
+start Amount c ds = Begins (value_kind (value_stage (location 0 ds)))
 start Equals c ds = Looks want.Nonblank
 start NewName c ds = Looks want.Raw
 start Variable c ds = Looks want.Expanded
-start Internal c ds = Looks want.Expanded
+start InternalValue c ds = Looks want.Expanded
 start (Keyword w) c ds = Begins (kind.Keyword w)
 start ControlSequence c ds = Looks want.Raw
 start LetEquals c ds = Looks want.Raw
@@ -241,8 +253,8 @@ abbrev pub on_token : Stage → Call → Seen → Met
 on_token Equals c x = if is_equals x then met.Passes else met.Leaves
 on_token ControlSequence c x = name_met c x
 on_token NewName c x = new_name_met c x
-on_token Variable c x = standing (met.Notes (unusable c x) (next.Fails c)) (variable_of x.meaning)
-on_token Internal c x = standing (met.Notes (unusable c x) (next.Takes nothing)) (internal_of x.meaning)
+on_token Variable c x = standing (met.Notes (unusable c x) (next.Unassigned c)) (variable_of x.meaning)
+on_token InternalValue c x = standing (met.Notes (unusable c x) (next.Takes nothing)) (internal_of x.meaning)
 on_token LetEquals c x = if is_space x then met.Skips c else if is_equals x then met.Passes else met.Leaves
 on_token Space c x = if is_space x then met.Passes else met.Leaves
 on_token AnyToken c x = met.Takes (datum.Taken x)
@@ -252,8 +264,8 @@ on_token s c x = met.Leaves
 
 -- and of the value of an inner reading
 abbrev pub on_datum : Stage → Datum → Got
-on_datum (NumberTo greatest complaint) (datum.Number n) = ranged complaint greatest n
-on_datum (NumberUpTo greatest) (datum.Number n) = bounded greatest n
+on_datum (NumberTo greatest complaint) d = ranged complaint greatest (number_in d)
+on_datum (NumberUpTo greatest) d = bounded greatest (number_in d)
 on_datum s d = got.Takes d
 
 abbrev pub on_list : Stage → Got

@@ -1,32 +1,46 @@
 -- The rows are those of the table of constants, by the numbers of the primitives, and those of parameters and registers.
-use Rattle.std.specs.Prelude.{ℕ, ◌-◌, ◌==◌, Bool, true, false, Option, Some, None, List, [], ◌∷◌, if◌then◌else◌}
+use Rattle.std.specs.Prelude.{ℕ, ◌==◌, Bool, true, false, Option, Some, None, List, [], ◌∷◌, if◌then◌else◌}
 use Rattle.tex_defs.specs.declared.RegisterKind.TheVariants as register
+use Rattle.equivalents.specs.declared.values.Loc.{Loc}
 use Rattle.equivalents.specs.declared.values.Loc.TheVariants as loc
 use Rattle.rows.specs.declared.stage.Stage.{Stage}
-use Rattle.rows.specs.declared.stage.Stage.TheVariants.{AnyToken, Equals, Number}
+use Rattle.rows.specs.declared.stage.Stage.TheVariants.{AnyToken, Equals, Number, Dimension, Glue}
 use Rattle.rows.specs.declared.command.Row.{Row}
 use Rattle.rows.specs.declared.command.Row.TheVariants.{One, Two, Three, Four}
 use Rattle.rows.specs.declared.command.Head.{Head}
 use Rattle.rows.specs.declared.command.Head.TheVariants.{Primitive, Register}
 use Rattle.rows.specs.declared.command.Action.{Action}
 use Rattle.rows.specs.declared.command.Action.TheVariants as action
-use Rattle.plain_tokens.specs.Categories.{is_between}
 use Rattle.rows.specs.declared.command.TheConstants.{SYNTAX}
-use Rattle.rows.specs.Internal.{first_integer, last_integer}
+use Rattle.rows.specs.declared.internal.Internal.{Internal}
+use Rattle.rows.specs.declared.internal.Internal.TheVariants as internal
+use Rattle.rows.specs.Internal.{internal_parameter, is_glue, is_dimension, is_mu}
 
 abbrev pub row_among : ℕ → List (ℕ × Row × Action) → Option (Row × Action)
 row_among n [] = None
 row_among n (row ∷ rows) = if row.0 == n then Some (row.1, row.2) else row_among n rows
 
--- an integer parameter gets a value, behind an optional `=`; the other primitives have their rows in the table
-abbrev pub primitive_row : ℕ → Option (Row × Action)
-primitive_row n = if is_between first_integer last_integer n then Some (Two Equals Number, action.SetAt (loc.Integer (n - first_integer))) else row_among n SYNTAX.now
+-- what is read for a location, by what stands there
+abbrev pub value_stage : Loc → Stage
+value_stage l = if is_glue l then Glue (is_mu l) else if is_dimension l then Dimension else Number
 
--- and so does a register of an integer, by its name
+-- a location gets a value, behind an optional `=`
+abbrev pub assignment_to : Loc → Row × Action
+assignment_to l = (Two Equals (value_stage l), action.SetAt l)
+
+-- the parameters that are integers, dimensions or glue get values so; the other primitives have their rows in the table
+abbrev pub parameter_row : ℕ → Option Internal → Option (Row × Action)
+parameter_row n (Some (internal.At l)) = Some (assignment_to l)
+parameter_row n i = row_among n SYNTAX.now
+
+abbrev pub primitive_row : ℕ → Option (Row × Action)
+primitive_row n = parameter_row n (internal_parameter n)
+
+-- and so do registers, by their names; those of lists of tokens have no row yet
 abbrev pub find_row : Head → Option (Row × Action)
 find_row (Primitive n) = primitive_row n
-find_row (Register register.Count n) = Some (Two Equals Number, action.SetAt (loc.Register register.Count n))
-find_row (Register kind n) = None
+find_row (Register register.Toks n) = None
+find_row (Register kind n) = Some (assignment_to (loc.Register kind n))
 
 abbrev pub has_row_in : Option (Row × Action) → Bool
 has_row_in None = false

@@ -1,5 +1,5 @@
 -- Rows worked out: what each command asks for, item by item, as it is fed.
-use Rattle.std.specs.Prelude.{ℕ, ℤ, pos, negsuc, ◌≡◌, ◌==◌, ◌&&◌, Bool, true, false, List, [], ◌∷◌, map, codes}
+use Rattle.std.specs.Prelude.{ℕ, ℤ, pos, negsuc, ◌≡◌, ◌==◌, ◌&&◌, Bool, true, false, List, [], ◌∷◌, Some, None, map, codes}
 use Rattle.tex_defs.specs.declared.Token.{Token}
 use Rattle.tex_defs.specs.declared.Token.TheVariants as token
 use Rattle.tex_defs.specs.declared.Name.{Name}
@@ -13,16 +13,22 @@ use Rattle.tex_syntax.specs.declared.words.Report.TheVariants.{BadCharacterCode,
 use Rattle.plain_tokens.specs.Categories.{space, letter, other}
 use Rattle.prim_table.specs.Primitives.{primitive_name}
 use Rattle.rows.specs.declared.words.Datum.TheVariants.{Number, Found}
+use Rattle.rows.specs.declared.words.Datum.TheVariants as datum
 use Rattle.rows.specs.declared.words.Keyword.TheVariants.{By}
 use Rattle.rows.specs.declared.words.Value.TheVariants as value
-use Rattle.rows.specs.declared.words.Kind.TheVariants.{Integer, Keyword, Text, Definition}
+use Rattle.rows.specs.declared.words.Kind.TheVariants.{Integer, Dimension, Glue, Keyword, Text, Definition}
 use Rattle.rows.specs.declared.arithmetic.Operation.TheVariants.{Advance, Multiply, Divide}
 use Rattle.rows.specs.declared.command.Call.{Call}
 use Rattle.rows.specs.declared.command.Head.TheVariants as head
 use Rattle.rows.specs.declared.command.Shorthand.TheVariants as shorthand
 use Rattle.equivalents.specs.declared.values.CodeKind.TheVariants as code
 use Rattle.equivalents.specs.declared.values.Loc.TheVariants as loc
+use Rattle.equivalents.specs.declared.values.Glue.{Glue as Spring}
+use Rattle.equivalents.specs.declared.values.Val.TheVariants as val
+use Rattle.tex_defs.specs.declared.RegisterKind.{RegisterKind}
 use Rattle.tex_defs.specs.declared.RegisterKind.TheVariants as register
+use Rattle.rows.specs.Arithmetic.{value_computed}
+use Rattle.rows.specs.Stages.{in_points}
 use Rattle.rows.specs.declared.command.Effect.TheVariants as effect
 use Rattle.rows.specs.Tokens.{inaccessible}
 use Rattle.rows.specs.declared.stage.Stage.{Stage}
@@ -95,6 +101,20 @@ keyword found = Val (value.Plain (Found found)) []
 abbrev pub list : List Token → Fed
 list ts = Val value.List ts
 
+-- a dimension in sp
+abbrev pub points : ℕ → Fed
+points n = Val (value.Plain (datum.Dimension (pos n) 0)) []
+
+-- glue, and that of 7sp which stretches by 2sp and shrinks by 1sp
+abbrev pub glue : (width stretch : ℤ) → (order : ℕ) → (shrink : ℤ) → (other : ℕ) → Spring
+glue w s o t p = record { width = w; stretch = s; stretch_order = o; shrink = t; shrink_order = p }
+
+abbrev pub spring : Spring
+spring = glue (pos 7) (pos 2) 0 (pos 1) 0
+
+abbrev pub springs : Fed
+springs = Val (value.Plain (datum.Glue spring)) []
+
 -- a list of one token
 abbrev pub text : List Token
 text = a_letter.token ∷ []
@@ -108,6 +128,10 @@ call n = record { head = head.Primitive n; name = Word n; long = false; outer = 
 -- and under the name `\x` of a register
 abbrev pub register_call : (number : ℕ) → Call
 register_call n = record { head = head.Register register.Count n; name = x_name; long = false; outer = false; global = false }
+
+-- and of one of this kind
+abbrev pub name_call : RegisterKind → (number : ℕ) → Call
+name_call kind n = record (register_call n) { head = head.Register kind n }
 
 -- all that it asks for, before each item and behind the last
 abbrev pub asked : (List Fed → Ask) → List Fed → List Ask
@@ -244,34 +268,34 @@ pub record WorkedRegisters : Type 0 where
 pub record WorkedArithmetic : Type 0 where
   pub advance :
       steps 32 (Tok (primitive 41) ∷ number (pos 7) ∷ keyword true ∷ number (pos 2) ∷ []) ≡
-      More Expanded ∷ Inner Integer false ∷ Inner (Keyword By) false ∷ Inner Integer false ∷ Acts (call 32) (effect.Compute Advance (loc.Register register.Count 7) (pos 2)) ∷ []
+      More Expanded ∷ Inner Integer false ∷ Inner (Keyword By) false ∷ Inner Integer false ∷ Acts (call 32) (effect.Compute Advance (loc.Register register.Count 7) (Number (pos 2))) ∷ []
   pub without :
       steps 32 (Tok (primitive 41) ∷ number (pos 7) ∷ keyword false ∷ number (negsuc 1) ∷ []) ≡
-      More Expanded ∷ Inner Integer false ∷ Inner (Keyword By) false ∷ Inner Integer false ∷ Acts (call 32) (effect.Compute Advance (loc.Register register.Count 7) (negsuc 1)) ∷ []
+      More Expanded ∷ Inner Integer false ∷ Inner (Keyword By) false ∷ Inner Integer false ∷ Acts (call 32) (effect.Compute Advance (loc.Register register.Count 7) (Number (negsuc 1))) ∷ []
   pub too_great :
       steps 32 (Tok (primitive 41) ∷ number (pos 256) ∷ Told ∷ keyword true ∷ number (pos 1) ∷ []) ≡
-      More Expanded ∷ Inner Integer false ∷ Tells (BadRegisterCode (pos 256)) false ∷ Inner (Keyword By) false ∷ Inner Integer false ∷ Acts (call 32) (effect.Compute Advance (loc.Register register.Count 0) (pos 1)) ∷ []
+      More Expanded ∷ Inner Integer false ∷ Tells (BadRegisterCode (pos 256)) false ∷ Inner (Keyword By) false ∷ Inner Integer false ∷ Acts (call 32) (effect.Compute Advance (loc.Register register.Count 0) (Number (pos 1))) ∷ []
   pub parameter :
-      steps 32 (Tok (primitive 130) ∷ keyword true ∷ number (pos 1) ∷ []) ≡ More Expanded ∷ Inner (Keyword By) false ∷ Inner Integer false ∷ Acts (call 32) (effect.Compute Advance (loc.Integer 45) (pos 1)) ∷ []
+      steps 32 (Tok (primitive 130) ∷ keyword true ∷ number (pos 1) ∷ []) ≡ More Expanded ∷ Inner (Keyword By) false ∷ Inner Integer false ∷ Acts (call 32) (effect.Compute Advance (loc.Integer 45) (Number (pos 1))) ∷ []
   pub named :
       steps 32 (Tok (register_name 7) ∷ keyword true ∷ number (pos 1) ∷ []) ≡
-      More Expanded ∷ Inner (Keyword By) false ∷ Inner Integer false ∷ Acts (call 32) (effect.Compute Advance (loc.Register register.Count 7) (pos 1)) ∷ []
+      More Expanded ∷ Inner (Keyword By) false ∷ Inner Integer false ∷ Acts (call 32) (effect.Compute Advance (loc.Register register.Count 7) (Number (pos 1))) ∷ []
   pub letter_refused : steps 32 (Tok a_letter ∷ Told ∷ []) ≡ More Expanded ∷ Tells (CantUseAfter (means.Char letter 97) 32) false ∷ Acts (call 32) effect.Unassigned ∷ []
   pub relax_refused : steps 33 (Tok (primitive 1) ∷ Told ∷ []) ≡ More Expanded ∷ Tells (CantUseAfter (means.Prim 1) 33) false ∷ Acts (call 33) effect.Unassigned ∷ []
   pub code_refused : steps 34 (Tok (primitive 35) ∷ Told ∷ []) ≡ More Expanded ∷ Tells (CantUseAfter (means.Prim 35) 34) false ∷ Acts (call 34) effect.Unassigned ∷ []
   pub character_refused : steps 32 (Tok (character_name 65) ∷ Told ∷ []) ≡ More Expanded ∷ Tells (CantUseAfter (means.CharGiven 65) 32) false ∷ Acts (call 32) effect.Unassigned ∷ []
   pub global :
       steps 25 (Tok (primitive 32) ∷ Tok (register_name 7) ∷ keyword true ∷ number (pos 1) ∷ []) ≡
-      More want.Command ∷ More Expanded ∷ Inner (Keyword By) false ∷ Inner Integer false ∷ Acts (record (call 32) { global = true }) (effect.Compute Advance (loc.Register register.Count 7) (pos 1)) ∷ []
+      More want.Command ∷ More Expanded ∷ Inner (Keyword By) false ∷ Inner Integer false ∷ Acts (record (call 32) { global = true }) (effect.Compute Advance (loc.Register register.Count 7) (Number (pos 1))) ∷ []
   pub global_refused :
       steps 25 (Tok (primitive 32) ∷ Tok a_letter ∷ Told ∷ []) ≡
       More want.Command ∷ More Expanded ∷ Tells (CantUseAfter (means.Char letter 97) 32) false ∷ Acts (record (call 32) { global = true }) effect.Unassigned ∷ []
   pub multiply :
       steps 33 (Tok (register_name 7) ∷ keyword true ∷ number (pos 3) ∷ []) ≡
-      More Expanded ∷ Inner (Keyword By) false ∷ Inner Integer false ∷ Acts (call 33) (effect.Compute Multiply (loc.Register register.Count 7) (pos 3)) ∷ []
+      More Expanded ∷ Inner (Keyword By) false ∷ Inner Integer false ∷ Acts (call 33) (effect.Compute Multiply (loc.Register register.Count 7) (Number (pos 3))) ∷ []
   pub divide :
       steps 34 (Tok (register_name 7) ∷ keyword true ∷ number (pos 3) ∷ []) ≡
-      More Expanded ∷ Inner (Keyword By) false ∷ Inner Integer false ∷ Acts (call 34) (effect.Compute Divide (loc.Register register.Count 7) (pos 3)) ∷ []
+      More Expanded ∷ Inner (Keyword By) false ∷ Inner Integer false ∷ Acts (call 34) (effect.Compute Divide (loc.Register register.Count 7) (Number (pos 3))) ∷ []
 
 -- `\chardef\x=65`, `\mathchardef\x 1`, where the number begins with its first digit, and `\countdef\x=5`; numbers out of their ranges; a space and a letter
 -- in place of the name; `\global\chardef`
@@ -326,6 +350,66 @@ pub record WorkedValues : Type 0 where
   pub letter_refused : steps 62 (Tok a_letter ∷ Told ∷ []) ≡ More Expanded ∷ Tells (CantUseAfter (means.Char letter 97) 62) false ∷ Acts (call 62) (effect.MakeNumber (pos 0)) ∷ []
   pub relax_refused : steps 62 (Tok (primitive 1) ∷ Told ∷ []) ≡ More Expanded ∷ Tells (CantUseAfter (means.Prim 1) 62) false ∷ Acts (call 62) (effect.MakeNumber (pos 0)) ∷ []
 
+-- `\dimen 3=` and `\skip 3=`, `\muskip 3=` in mu; `\parindent` and `\lineskip`, whose values begin with a token, and `\thinmuskip=`; `\x=`, where `\x` is a
+-- name of a register of these kinds; `\dimendef\x=5`; `\advance` of a dimension, of glue and of glue in mu by one, and `\multiply` and `\divide` of them
+-- by a number; `\advance\toks`, which can't be used
+pub record WorkedMeasures : Type 0 where
+  pub dimen :
+      steps 42 (number (pos 3) ∷ Tok equals ∷ points 65536 ∷ []) ≡
+      Inner Integer false ∷ More Nonblank ∷ Inner (Dimension in_points) false ∷ Acts (call 42) (effect.SetNumber (loc.Register register.Dimen 3) (pos 65536)) ∷ []
+  pub skip :
+      steps 43 (number (pos 3) ∷ Tok equals ∷ springs ∷ []) ≡
+      Inner Integer false ∷ More Nonblank ∷ Inner (Glue false) false ∷ Acts (call 43) (effect.SetGlue (loc.Register register.Skip 3) spring) ∷ []
+  pub muskip :
+      steps 44 (number (pos 3) ∷ Tok equals ∷ springs ∷ []) ≡
+      Inner Integer false ∷ More Nonblank ∷ Inner (Glue true) false ∷ Acts (call 44) (effect.SetGlue (loc.Register register.Muskip 3) spring) ∷ []
+  pub parindent :
+      steps 140 (Tok digit ∷ points 65536 ∷ []) ≡ More Nonblank ∷ Inner (Dimension in_points) true ∷ Acts (call 140) (effect.SetNumber (loc.Dimension 0) (pos 65536)) ∷ []
+  pub lineskip : steps 161 (Tok digit ∷ springs ∷ []) ≡ More Nonblank ∷ Inner (Glue false) true ∷ Acts (call 161) (effect.SetGlue (loc.Glue 0) spring) ∷ []
+  pub thinmuskip : steps 176 (Tok equals ∷ springs ∷ []) ≡ More Nonblank ∷ Inner (Glue true) false ∷ Acts (call 176) (effect.SetGlue (loc.Glue 15) spring) ∷ []
+  pub dimen_named :
+      asked (row (name_call register.Dimen 5)) (Tok equals ∷ points 1 ∷ []) ≡
+      More Nonblank ∷ Inner (Dimension in_points) false ∷ Acts (name_call register.Dimen 5) (effect.SetNumber (loc.Register register.Dimen 5) (pos 1)) ∷ []
+  pub skip_named :
+      asked (row (name_call register.Skip 5)) (Tok equals ∷ springs ∷ []) ≡
+      More Nonblank ∷ Inner (Glue false) false ∷ Acts (name_call register.Skip 5) (effect.SetGlue (loc.Register register.Skip 5) spring) ∷ []
+  pub muskip_named :
+      asked (row (name_call register.Muskip 5)) (Tok equals ∷ springs ∷ []) ≡
+      More Nonblank ∷ Inner (Glue true) false ∷ Acts (name_call register.Muskip 5) (effect.SetGlue (loc.Register register.Muskip 5) spring) ∷ []
+  pub dimendef :
+      steps 49 (Tok x ∷ Told ∷ Tok equals ∷ number (pos 5) ∷ []) ≡
+      More Raw ∷ Relaxes (call 49) x_name ∷ More Nonblank ∷ Inner Integer false ∷ Acts (call 49) (effect.Shorthand x_name (shorthand.Register register.Dimen 5)) ∷ []
+  pub advance_dimension :
+      steps 32 (Tok (primitive 140) ∷ keyword true ∷ points 1 ∷ []) ≡
+      More Expanded ∷ Inner (Keyword By) false ∷ Inner (Dimension in_points) false ∷ Acts (call 32) (effect.Compute Advance (loc.Dimension 0) (datum.Dimension (pos 1) 0)) ∷ []
+  pub advance_glue :
+      steps 32 (Tok (primitive 43) ∷ number (pos 7) ∷ keyword false ∷ springs ∷ []) ≡
+      More Expanded ∷ Inner Integer false ∷ Inner (Keyword By) false ∷ Inner (Glue false) false ∷ Acts (call 32) (effect.Compute Advance (loc.Register register.Skip 7) (datum.Glue spring)) ∷ []
+  pub advance_mu :
+      steps 32 (Tok (primitive 176) ∷ keyword true ∷ springs ∷ []) ≡
+      More Expanded ∷ Inner (Keyword By) false ∷ Inner (Glue true) false ∷ Acts (call 32) (effect.Compute Advance (loc.Glue 15) (datum.Glue spring)) ∷ []
+  pub multiply :
+      steps 33 (Tok (primitive 161) ∷ keyword true ∷ number (pos 3) ∷ []) ≡
+      More Expanded ∷ Inner (Keyword By) false ∷ Inner Integer false ∷ Acts (call 33) (effect.Compute Multiply (loc.Glue 0) (Number (pos 3))) ∷ []
+  pub divide :
+      steps 34 (Tok (primitive 140) ∷ keyword true ∷ number (pos 3) ∷ []) ≡
+      More Expanded ∷ Inner (Keyword By) false ∷ Inner Integer false ∷ Acts (call 34) (effect.Compute Divide (loc.Dimension 0) (Number (pos 3))) ∷ []
+  pub toks_refused : steps 32 (Tok (primitive 45) ∷ Told ∷ []) ≡ More Expanded ∷ Tells (CantUseAfter (means.Prim 45) 32) false ∷ Acts (call 32) effect.Unassigned ∷ []
+
+-- what arithmetic comes to: a dimension's sum may be beyond 2^30 sp, a product may not; of two stretches of different orders the higher one is the sum;
+-- products and quotients of each part, which are cut towards zero
+pub record WorkedComputing : Type 0 where
+  pub sum_beyond :
+      value_computed Advance (loc.Dimension 0) (val.Number (pos 1073741823)) (datum.Dimension (pos 1) 0) ≡ Some (val.Number (pos 1073741824))
+  pub product_beyond : value_computed Multiply (loc.Dimension 0) (val.Number (pos 536870912)) (Number (pos 2)) ≡ None
+  pub product_within : value_computed Multiply (loc.Integer 0) (val.Number (pos 536870912)) (Number (pos 2)) ≡ Some (val.Number (pos 1073741824))
+  pub orders :
+      value_computed Advance (loc.Glue 0) (val.Skip spring) (datum.Glue (glue (pos 1) (pos 5) 1 (pos 3) 0)) ≡ Some (val.Skip (glue (pos 8) (pos 5) 1 (pos 4) 0))
+  pub product_of_parts :
+      value_computed Multiply (loc.Glue 0) (val.Skip spring) (Number (negsuc 1)) ≡ Some (val.Skip (glue (negsuc 13) (negsuc 3) 0 (negsuc 1) 0))
+  pub quotient_of_parts : value_computed Divide (loc.Glue 0) (val.Skip spring) (Number (negsuc 1)) ≡ Some (val.Skip (glue (negsuc 2) (negsuc 0) 0 (pos 0) 0))
+  pub by_zero : value_computed Divide (loc.Glue 0) (val.Skip spring) (Number (pos 0)) ≡ None
+
 -- `\expandafter`, `\noexpand`, `\number`, `\romannumeral`, `\string` and `\meaning`, and which of them read under normal status
 pub record WorkedExpansions : Type 0 where
   pub expandafter : steps 54 (Tok x ∷ Tok y ∷ []) ≡ More Raw ∷ More Raw ∷ Acts (call 54) (effect.ExpandBehind x y) ∷ []
@@ -359,14 +443,14 @@ are_whole (first ∷ rows) = is_whole first.2 (stages_in first.1) && are_whole r
 
 -- the numbers above, and the names of their primitives
 abbrev pub numbers : List ℕ
-numbers = 1 ∷ 8 ∷ 9 ∷ 10 ∷ 11 ∷ 15 ∷ 16 ∷ 23 ∷ 24 ∷ 25 ∷ 26 ∷ 27 ∷ 28 ∷ 29 ∷ 30 ∷ 31 ∷ 32 ∷ 33 ∷ 34 ∷ 35 ∷ 36 ∷ 37 ∷ 38 ∷ 39 ∷ 40 ∷ 41 ∷ 42 ∷ 43 ∷ 46 ∷ 47 ∷ 48 ∷ 54 ∷ 55 ∷ 57 ∷ 58 ∷ 59 ∷ 60 ∷ 62 ∷ 128 ∷ 130 ∷ 133 ∷ 134 ∷ 139 ∷ 140 ∷ 161 ∷ []
+numbers = 1 ∷ 8 ∷ 9 ∷ 10 ∷ 11 ∷ 15 ∷ 16 ∷ 23 ∷ 24 ∷ 25 ∷ 26 ∷ 27 ∷ 28 ∷ 29 ∷ 30 ∷ 31 ∷ 32 ∷ 33 ∷ 34 ∷ 35 ∷ 36 ∷ 37 ∷ 38 ∷ 39 ∷ 40 ∷ 41 ∷ 42 ∷ 43 ∷ 44 ∷ 45 ∷ 46 ∷ 47 ∷ 48 ∷ 49 ∷ 54 ∷ 55 ∷ 57 ∷ 58 ∷ 59 ∷ 60 ∷ 62 ∷ 128 ∷ 130 ∷ 133 ∷ 134 ∷ 139 ∷ 140 ∷ 161 ∷ 176 ∷ []
 
 abbrev pub commands : List (List ℕ)
 commands =
     codes "relax" ∷ codes "ignorespaces" ∷ codes "message" ∷ codes "errmessage" ∷ codes "show" ∷ codes "aftergroup" ∷ codes "afterassignment" ∷ codes "long" ∷ codes "outer" ∷ codes "global" ∷ codes "def" ∷ codes "gdef" ∷ codes "edef" ∷ codes "xdef" ∷
-    codes "let" ∷ codes "futurelet" ∷ codes "advance" ∷ codes "multiply" ∷ codes "divide" ∷ codes "catcode" ∷ codes "lccode" ∷ codes "uccode" ∷ codes "sfcode" ∷ codes "mathcode" ∷ codes "delcode" ∷ codes "count" ∷ codes "dimen" ∷ codes "skip" ∷
-    codes "chardef" ∷ codes "mathchardef" ∷ codes "countdef" ∷ codes "expandafter" ∷ codes "noexpand" ∷ codes "number" ∷ codes "romannumeral" ∷ codes "string" ∷ codes "meaning" ∷ codes "the" ∷
-    codes "globaldefs" ∷ codes "escapechar" ∷ codes "endlinechar" ∷ codes "newlinechar" ∷ codes "errorcontextlines" ∷ codes "parindent" ∷ codes "lineskip" ∷ []
+    codes "let" ∷ codes "futurelet" ∷ codes "advance" ∷ codes "multiply" ∷ codes "divide" ∷ codes "catcode" ∷ codes "lccode" ∷ codes "uccode" ∷ codes "sfcode" ∷ codes "mathcode" ∷ codes "delcode" ∷ codes "count" ∷ codes "dimen" ∷ codes "skip" ∷ codes "muskip" ∷ codes "toks" ∷
+    codes "chardef" ∷ codes "mathchardef" ∷ codes "countdef" ∷ codes "dimendef" ∷ codes "expandafter" ∷ codes "noexpand" ∷ codes "number" ∷ codes "romannumeral" ∷ codes "string" ∷ codes "meaning" ∷ codes "the" ∷
+    codes "globaldefs" ∷ codes "escapechar" ∷ codes "endlinechar" ∷ codes "newlinechar" ∷ codes "errorcontextlines" ∷ codes "parindent" ∷ codes "lineskip" ∷ codes "thinmuskip" ∷ []
 
 pub record WorkedRows : Type 0 where
   pub names : map primitive_name numbers ≡ commands
@@ -382,4 +466,6 @@ pub record WorkedRows : Type 0 where
   pub arithmetic : WorkedArithmetic
   pub shorthands : WorkedShorthands
   pub values : WorkedValues
+  pub measures : WorkedMeasures
+  pub computing : WorkedComputing
   pub expansions : WorkedExpansions

@@ -3,13 +3,15 @@ ghost use Rattle.std.specs.Prelude.{◌≡◌};
 ghost use Rattle.rows.specs.Table as table;
 
 use crate::arithmetic::Operation;
-use crate::internal::{FIRST_INTEGER, LAST_INTEGER};
+use crate::internal::{Internal, internal_parameter, is_dimension, is_glue, is_mu};
 use crate::stage::Complaint::{BadCharacterCode, BadMathchar, BadRegisterCode, InvalidCode};
 use crate::stage::Stage;
 use crate::stage::Stage::{
-    AnyToken, ControlSequence, Equals, Internal, Keyword, LetEquals, MacroText, NewName,
-    NonblankToken, Number, NumberTo, NumberUpTo, Prefixes, Space, Text, Variable,
+    Amount, AnyToken, ControlSequence, Dimension, Equals, Glue, InternalValue, Keyword, LetEquals,
+    MacroText, NewName, NonblankToken, Number, NumberTo, NumberUpTo, Prefixes, Space, Text,
+    Variable,
 };
+use crate::words::Datum;
 use Action::{
     AfterAssignment, AfterGroup, Compute, Define, DefineGlobally, ErrorMessage, ExpandBehind,
     FutureLet, GiveCharacter, GiveMath, GiveRegister, Let, MakeMeaning, MakeNumber, MakeRoman,
@@ -80,7 +82,7 @@ pub enum Action {
     SetCode(CodeKind),
     /// This location gets a value.
     SetAt(Loc),
-    /// A register of this kind gets a number.
+    /// A register of this kind gets a value.
     SetRegister(RegisterKind),
     /// What stands at a location is changed by arithmetic.
     Compute(Operation),
@@ -129,8 +131,10 @@ pub enum Effect {
     FutureLet(Name, Seen, Seen),
     /// The location gets the number as its value.
     SetNumber(Loc, i32),
-    /// What stands at the location is changed by arithmetic with the number; where the result is out of bounds, this is reported.
-    Compute(Operation, Loc, i32),
+    /// The location gets this glue as its value.
+    SetGlue(Loc, equivalents::Glue),
+    /// What stands at the location is changed by arithmetic with what was read; where the result is out of bounds, this is reported.
+    Compute(Operation, Loc, Datum),
     /// The name stands for this.
     Shorthand(Name, Shorthand),
     /// An assignment that assigns nothing.
@@ -192,10 +196,10 @@ const REGISTER: Stage = NumberTo(255, BadRegisterCode);
 /// A small or a capital letter of a character, or 0.
 const OTHER_CASE: Stage = NumberTo(255, InvalidCode);
 
-/// A variable, perhaps `by`, and a number.
-const ARITHMETIC: Row = Three(Variable, Keyword(crate::words::Keyword::By), Number);
+/// An optional `by`.
+const BY: Stage = Keyword(crate::words::Keyword::By);
 
-/// What the primitives read, by their numbers, and what they do then; the integer parameters, which all read the same, are left out.
+/// What the primitives read, by their numbers, and what they do then; the parameters, which get values as registers do, are left out.
 pub const SYNTAX: &[(u16, Row, Action)] = &[
     (8, One(NonblankToken), Obey),
     (9, One(Text(true)), Message),
@@ -212,9 +216,13 @@ pub const SYNTAX: &[(u16, Row, Action)] = &[
     (29, Two(ControlSequence, MacroText(true)), DefineGlobally),
     (30, Four(ControlSequence, LetEquals, Space, AnyToken), Let),
     (31, Three(ControlSequence, AnyToken, AnyToken), FutureLet),
-    (32, ARITHMETIC, Compute(Operation::Advance)),
-    (33, ARITHMETIC, Compute(Operation::Multiply)),
-    (34, ARITHMETIC, Compute(Operation::Divide)),
+    (32, Three(Variable, BY, Amount), Compute(Operation::Advance)),
+    (
+        33,
+        Three(Variable, BY, Number),
+        Compute(Operation::Multiply),
+    ),
+    (34, Three(Variable, BY, Number), Compute(Operation::Divide)),
     (
         35,
         Three(CHARACTER_CODE, Equals, CATEGORY),
@@ -250,6 +258,21 @@ pub const SYNTAX: &[(u16, Row, Action)] = &[
         Three(REGISTER, Equals, Number),
         SetRegister(RegisterKind::Count),
     ),
+    (
+        42,
+        Three(REGISTER, Equals, Dimension),
+        SetRegister(RegisterKind::Dimen),
+    ),
+    (
+        43,
+        Three(REGISTER, Equals, Glue(false)),
+        SetRegister(RegisterKind::Skip),
+    ),
+    (
+        44,
+        Three(REGISTER, Equals, Glue(true)),
+        SetRegister(RegisterKind::Muskip),
+    ),
     (46, Three(NewName, Equals, CHARACTER_CODE), GiveCharacter),
     (
         47,
@@ -261,13 +284,28 @@ pub const SYNTAX: &[(u16, Row, Action)] = &[
         Three(NewName, Equals, REGISTER),
         GiveRegister(RegisterKind::Count),
     ),
+    (
+        49,
+        Three(NewName, Equals, REGISTER),
+        GiveRegister(RegisterKind::Dimen),
+    ),
+    (
+        50,
+        Three(NewName, Equals, REGISTER),
+        GiveRegister(RegisterKind::Skip),
+    ),
+    (
+        51,
+        Three(NewName, Equals, REGISTER),
+        GiveRegister(RegisterKind::Muskip),
+    ),
     (54, Two(AnyToken, AnyToken), ExpandBehind),
     (55, One(AnyToken), PutMarked),
     (57, One(Number), MakeNumber),
     (58, One(Number), MakeRoman),
     (59, One(AnyToken), MakeString),
     (60, One(AnyToken), MakeMeaning),
-    (62, One(Internal), MakeValue),
+    (62, One(InternalValue), MakeValue),
 ];
 
 /// The row of a primitive and what it does, among these.
@@ -283,15 +321,34 @@ fn find_among(number: u16, rows: &[(u16, Row, Action)]) -> Option<(Row, Action)>
     None
 }
 
+/// What is read for a location, by what stands there.
+pub fn value_stage(loc: Loc) -> Stage
+    ensures { result ≡ table.value_stage loc }
+{
+    if is_glue(loc) {
+        Glue(is_mu(loc))
+    } else if is_dimension(loc) {
+        Dimension
+    } else {
+        Number
+    }
+}
+
+/// A location gets a value, behind an optional `=`.
+fn assignment_to(loc: Loc) -> (Row, Action)
+    ensures { result ≡ table.assignment_to loc }
+{
+    (Two(Equals, value_stage(loc)), SetAt(loc))
+}
+
 /// The row of a primitive and what it does, if it is read by a row.
 fn find_primitive(number: u16) -> Option<(Row, Action)>
     ensures { result ≡ table.primitive_row number }
 {
-    if (FIRST_INTEGER..=LAST_INTEGER).contains(&number) {
-        let place = (number - FIRST_INTEGER) as u8;
-        return Some((Two(Equals, Number), SetAt(Loc::Integer(place))));
+    match internal_parameter(number) {
+        Some(Internal::At(loc)) => Some(assignment_to(loc)),
+        _ => find_among(number, SYNTAX),
     }
-    find_among(number, SYNTAX)
 }
 
 /// The row of a command and what it does, if it is read by a row.
@@ -300,11 +357,8 @@ pub fn find_row(head: Head) -> Option<(Row, Action)>
 {
     match head {
         Primitive(number) => find_primitive(number),
-        Register(RegisterKind::Count, no) => {
-            let kind = RegisterKind::Count;
-            Some((Two(Equals, Number), SetAt(Loc::Register { kind, no })))
-        }
-        Register(..) => None,
+        Register(RegisterKind::Toks, _) => None,
+        Register(kind, no) => Some(assignment_to(Loc::Register { kind, no })),
     }
 }
 

@@ -7,9 +7,9 @@ use tex_defs::{Meaning, RegisterKind};
 use tex_syntax::Report;
 
 /// The first and the last of the parameters that are integers.
-pub(crate) const FIRST_INTEGER: u16 = 85;
+const FIRST_INTEGER: u16 = 85;
 
-pub(crate) const LAST_INTEGER: u16 = 139;
+const LAST_INTEGER: u16 = 139;
 
 /// Locations that are told by a number from 0 to 255 behind a name. *The TeXbook*, chapters 7 and 15.
 #[derive(Clone, Copy)]
@@ -61,7 +61,7 @@ pub fn byte_of(n: i32) -> u8
 }
 
 /// The parameters that are integers, dimensions or glue.
-fn internal_parameter(number: u16) -> Option<Internal>
+pub(crate) fn internal_parameter(number: u16) -> Option<Internal>
     ensures is { result ≡ internal.internal_parameter number }
     ensures found { internal.IsFound result }
 {
@@ -127,6 +127,20 @@ pub fn is_mu(loc: Loc) -> bool
     }
 }
 
+/// Whether glue stands there.
+pub fn is_glue(loc: Loc) -> bool
+    ensures { result ≡ internal.is_glue loc }
+{
+    match loc {
+        Loc::Register {
+            kind: RegisterKind::Skip | RegisterKind::Muskip,
+            no: _,
+        } => true,
+        Loc::Glue(_) => true,
+        _ => false,
+    }
+}
+
 /// Whether a dimension stands there, in sp.
 pub fn is_dimension(loc: Loc) -> bool
     ensures { result ≡ internal.is_dimension loc }
@@ -141,23 +155,26 @@ pub fn is_dimension(loc: Loc) -> bool
     }
 }
 
-/// A register or a parameter that arithmetic changes: those of integers, until dimensions and glue are read.
+/// The registers and the parameters among the primitives that arithmetic changes.
+fn variable_primitive(number: u16) -> Option<Internal>
+    ensures is { result ≡ internal.variable_primitive number }
+    ensures found { internal.IsFound result }
+{
+    if 41 <= number && number <= 44 {
+        internal_primitive(number)
+    } else {
+        internal_parameter(number)
+    }
+}
+
+/// A register or a parameter that arithmetic changes: an integer, a dimension or glue.
 pub fn variable_of(meaning: Meaning<()>) -> Option<Internal>
     ensures is { result ≡ internal.variable_of meaning }
     ensures found { internal.IsFound result }
 {
     match meaning {
-        Meaning::Register {
-            kind: RegisterKind::Count,
-            no,
-        } => {
-            let kind = RegisterKind::Count;
-            Some(Internal::At(Loc::Register { kind, no }))
-        }
-        Meaning::Prim(41) => Some(Internal::Numbered(Bank::Registers(RegisterKind::Count))),
-        Meaning::Prim(number) if (FIRST_INTEGER..=LAST_INTEGER).contains(&number) => {
-            Some(Internal::At(Loc::Integer((number - FIRST_INTEGER) as u8)))
-        }
+        Meaning::Register { .. } => internal_of(meaning),
+        Meaning::Prim(number) => variable_primitive(number),
         _ => None,
     }
 }

@@ -11,12 +11,19 @@ mod laws;
 mod stage;
 mod words;
 
-pub use arithmetic::{Operation, computed};
-pub use command::{Action, Call, Effect, Head, Prefix, Row, SYNTAX, Shorthand, find_row, row_of};
-pub use internal::{Bank, Internal, byte_of, internal_of, is_dimension, is_mu, variable_of};
+pub use arithmetic::{
+    Operation, computed, glue_in, glue_product, glue_quotient, glue_sum, integer_of, measured,
+    number_in, value_computed,
+};
+pub use command::{
+    Action, Call, Effect, Head, Prefix, Row, SYNTAX, Shorthand, find_row, row_of, value_stage,
+};
+pub use internal::{
+    Bank, Internal, byte_of, internal_of, is_dimension, is_glue, is_mu, variable_of,
+};
 pub use laws::{
     macros_have_bodies, notes_are_single, readings_begin_lower, readings_start, rows_have_no_value,
     worked_rows,
 };
 pub use stage::{Complaint, Got, Met, Next, Note, Stage, Start};
-pub use words::{Datum, Keyword, Kind, Value};
+pub use words::{Datum, DimenKind, Keyword, Kind, Value};

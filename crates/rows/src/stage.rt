@@ -23,6 +23,12 @@ pub enum Stage {
     NumberTo(u32, Complaint),
     /// A number that is at most this one; a greater one is reported, and 0 taken.
     NumberUpTo(u32),
+    /// A dimension.
+    Dimension,
+    /// Glue, and whether it is in mu.
+    Glue(bool),
+    /// What is added to a variable: a number, a dimension or glue, as the variable is.
+    Amount,
     /// An optional `=`.
     Equals,
     /// The name that is assigned.
@@ -32,7 +38,7 @@ pub enum Stage {
     /// A register or a parameter that arithmetic changes.
     Variable,
     /// What stands for a number, a dimension or glue.
-    Internal,
+    InternalValue,
     /// An optional keyword.
     Keyword(Keyword),
     /// The optional `=` of `\let`, behind spaces.
@@ -68,7 +74,7 @@ pub enum Next {
     /// The command is over.
     Stops,
     /// The command, an assignment, is over, and has assigned nothing.
-    Fails(Call),
+    Unassigned(Call),
     /// It goes on as this command, from the beginning.
     Turns(Call),
 }

@@ -1,6 +1,6 @@
 // What readings read and come to.
 use crate::command::Call;
-use equivalents::Loc;
+use equivalents::{Glue, Loc};
 use tex_defs::{Name, Seen};
 
 /// A keyword, by its letters. *The TeXbook*, chapter 24; *TeX: The Program*, part 26 (`scan_keyword`).
@@ -37,6 +37,20 @@ pub enum Datum {
     At(Loc),
     /// Whether a keyword was there.
     Found(bool),
+    /// The integer before a fraction, and whether a point stood directly behind its decimal digits.
+    Factor(i32, bool),
+    /// A dimension in sp; an infinite one in 1/65536 of a unit of this order of infinity, from 1 to 3.
+    Dimension(i32, u8),
+    Glue(Glue),
+}
+
+/// What kind of dimension is read.
+#[derive(Clone, Copy)]
+pub struct DimenKind {
+    /// Of mu glue, in mu.
+    pub mu: bool,
+    /// A stretch or a shrink, which may be infinite.
+    pub infinite: bool,
 }
 
 /// The value of a reading; its list of tokens, where it has one, goes beside it.
@@ -52,6 +66,11 @@ pub enum Kind {
     /// A command or an expansion: its row.
     Command(Call),
     Integer,
+    /// The integer before a fraction.
+    Factor,
+    Dimension(DimenKind),
+    /// Glue, and whether it is in mu.
+    Glue(bool),
     /// An optional keyword.
     Keyword(Keyword),
     /// A balanced text of the command of this name, as it was written, and whether it is expanded.

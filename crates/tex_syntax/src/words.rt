@@ -71,6 +71,10 @@ pub enum Report {
     DimensionTooLarge,
     /// "Illegal unit of measure (pt inserted)" and its like.
     IllegalUnit(UnitTaken),
+    /// "Incompatible magnification (n); the previous value will be retained (m)": the value of `\mag`, and the earlier one.
+    IncompatibleMagnification(i32, u16),
+    /// "Illegal magnification has been changed to 1000 (n)": the value of `\mag`.
+    IllegalMagnification(i32),
     /// "Arithmetic overflow": a sum, a product or a quotient that is out of bounds.
     ArithmeticOverflow,
     /// "Incompatible glue units": glue in mu, where a number or other glue is read.

@@ -5,7 +5,7 @@ use Rattle.std.specs.Fmt.{decimal}
 use Rattle.std.proofs.lemmas.List.{append-nil}
 use Rattle.std.proofs.lemmas.Grind.{flat_map-append}
 use Rattle.tex_syntax.specs.declared.words.Report.{Report}
-use Rattle.tex_syntax.specs.declared.words.Report.TheVariants.{UndefinedName, InvalidCharacter, ImproperConstant, MissingNumber, NumberTooBig, BadCharacterCode, BadRegisterCode, BadMathchar, CantUseAfter, DimensionTooLarge, IllegalUnit, ArithmeticOverflow, IncompatibleUnits, InvalidCode, CodeTooGreat, MissingBrace, FileEnded, Forbidden, MissingName, NotConsecutive, AlreadyNine, IllegalNumber, UseMismatch, ExtraBrace, ParagraphEnded, PrefixWith, LongOrOuterWith, MissingEndcsname, ExtraEndcsname, TooManyBraces, ForgottenEndgroup, ExtraEndgroup, MissingRightBrace}
+use Rattle.tex_syntax.specs.declared.words.Report.TheVariants.{UndefinedName, InvalidCharacter, ImproperConstant, MissingNumber, NumberTooBig, BadCharacterCode, BadRegisterCode, BadMathchar, CantUseAfter, DimensionTooLarge, IllegalUnit, IncompatibleMagnification, IllegalMagnification, ArithmeticOverflow, IncompatibleUnits, InvalidCode, CodeTooGreat, MissingBrace, FileEnded, Forbidden, MissingName, NotConsecutive, AlreadyNine, IllegalNumber, UseMismatch, ExtraBrace, ParagraphEnded, PrefixWith, LongOrOuterWith, MissingEndcsname, ExtraEndcsname, TooManyBraces, ForgottenEndgroup, ExtraEndgroup, MissingRightBrace}
 use Rattle.tex_syntax.specs.declared.words.Scanned.{Scanned}
 use Rattle.tex_syntax.specs.declared.words.Scanned.TheVariants as scanned
 use Rattle.tex_syntax.specs.declared.words.UnitTaken.TheVariants as unit
@@ -15,9 +15,9 @@ use Rattle.tex_defs.specs.declared.Token.TheVariants.{Char, Named, Marked, Place
 use Rattle.tex_defs.specs.declared.Meaning.{Meaning}
 use Rattle.plain_tokens.specs.Printed.{Style, escaped, meaning_head, list_text, shown_all, printed_by, printed_all}
 use Rattle.plain_state.specs.Reports as plain
-use Rattle.plain_state.specs.Reports.{fresh_line, report_text, report_bytes, error_message_bytes, shown_name, macro_feed, shown_meaning_bytes}
+use Rattle.plain_state.specs.Reports.{fresh_line, in_line_after, second_line, report_text, report_bytes, error_message_bytes, shown_name, macro_feed, shown_meaning_bytes}
 use Rattle.token_show.specs.Bytes.{all_printed}
-use Rattle.transcript.specs.Reported.{opening, subject, closing, closing_name, token_name, equals_behind}
+use Rattle.transcript.specs.Reported.{opening, subject, closing, closing_printed, closing_name, token_name, equals_behind}
 
 -- PIECES, each printed as f prints its characters
 
@@ -58,6 +58,16 @@ module _ (f : ℕ → List ℕ) where
       said ≡ fresh ++ ((flat_map f (mark ++ ((opening ++ (subject ++ (closing ++ name))) ++ dot)) ++ 10 ∷ []) ++ (flat_map f (line ++ number) ++ 10 ∷ []))
   report_named fresh mark opening subject closing name dot line number start before shown close last behind first second said m b s k n h i j w =
       rw (w, i, j, b, m, s, k, n, h) (simp (flat_map-append, append_assoc))
+
+  -- and with a second line, behind what stands before it where g says
+  pub report_of_two : (g : List ℕ → List ℕ) (fresh mark opening line_two dot line number start before shown close last behind first second said : List ℕ) →
+      start ≡ fresh ++ flat_map f mark → before ≡ start ++ flat_map f opening → shown ≡ [] → close ≡ g before ++ flat_map f line_two → last ≡ [] →
+      behind ≡ flat_map f dot ++ (10 ∷ (flat_map f line ++ (flat_map f number ++ 10 ∷ []))) →
+      first ≡ before ++ (shown ++ close) → second ≡ last ++ behind → said ≡ first ++ second →
+      said ≡ (fresh ++ flat_map f (mark ++ opening)) ++ (g (fresh ++ flat_map f (mark ++ opening)) ++ ((flat_map f (line_two ++ dot) ++ 10 ∷ []) ++ (flat_map f (line ++ number) ++ 10 ∷ [])))
+  report_of_two g fresh mark opening line_two dot line number start before shown close last behind first second said m b s k n h i j w =
+      let e : before ≡ fresh ++ flat_map f (mark ++ opening) = rw (b, m) (simp (flat_map-append, append_assoc)) in
+      rw (w, i, j, s, k, n, h, e) (simp (flat_map-append, append_assoc))
 
   -- a report whose text is one list
   pub message_around : (fresh mark text dot line number : List ℕ) →
@@ -116,6 +126,8 @@ report_is style DimensionTooLarge = refl
 report_is style (IllegalUnit unit.Pt) = refl
 report_is style (IllegalUnit unit.Mu) = refl
 report_is style (IllegalUnit unit.Filll) = refl
+report_is style (IncompatibleMagnification n m) = append-nil (opening style (IncompatibleMagnification n m))
+report_is style (IllegalMagnification n) = append-nil (opening style (IllegalMagnification n))
 report_is style ArithmeticOverflow = refl
 report_is style IncompatibleUnits = refl
 report_is style (InvalidCode n greatest) = append-nil (opening style (InvalidCode n greatest))
@@ -140,11 +152,15 @@ report_is style ExtraEndgroup = append-nil (opening style ExtraEndgroup)
 report_is style MissingRightBrace = refl
 
 pub report_parts : (style : Style) (b : Bool) (line : ℕ) (r : Report) (start before shown close last behind first second said : List ℕ) →
-    start ≡ fresh_line b ++ printed_all style (codes "! ") → before ≡ start ++ printed_all style (opening style r) → shown ≡ printed_all style (subject style r) → close ≡ printed_all style (closing r) →
-    last ≡ printed_all style (closing_name style r) →
+    start ≡ fresh_line b ++ printed_all style (codes "! ") → before ≡ start ++ printed_all style (opening style r) → shown ≡ printed_all style (subject style r) →
+    close ≡ closing_printed style.newline (in_line_after b before) r → last ≡ printed_all style (closing_name style r) →
     behind ≡ printed_all style (codes ".") ++ (10 ∷ (printed_all style (codes "l.") ++ (printed_all style (decimal line) ++ 10 ∷ []))) →
     first ≡ before ++ (shown ++ close) → second ≡ last ++ behind → said ≡ first ++ second →
     said ≡ report_bytes style b line r
+report_parts style b line (IncompatibleMagnification n earlier) start before shown close last behind first second said m i s k z h x y w =
+    let r = IncompatibleMagnification n earlier in
+    report_of_two (printed_by style.newline) (λ t. fresh_line (in_line_after b t)) (fresh_line b) (codes "! ") (report_text style r) (second_line r) (codes ".") (codes "l.") (decimal line)
+    start before shown close last behind first second said m i s k z h x y w
 report_parts style b line r start before shown close last behind first second said m i s k n h x y z =
     report_named (printed_by style.newline) (fresh_line b) (codes "! ") (opening style r) (subject style r) (closing r) (closing_name style r) (codes ".") (codes "l.") (decimal line)
     start before shown close last behind first second said m i s k n h x y z
@@ -154,6 +170,12 @@ report_parts style b line r start before shown close last behind first second sa
 pub opening_by : (style : Style) (r r' : Report) (newline : ℤ) (old new : List ℕ) → r ≡ r' → newline ≡ style.newline → new ≡ old ++ all_printed newline (opening style r') → new ≡ old ++ all_printed style.newline (opening style r)
 opening_by style r r' newline old new is e h =
     h ∙ ap (λ (n : ℤ). old ++ all_printed n (opening style r')) e ∙ ap (λ (x : Report). old ++ all_printed style.newline (opening style x)) (sym is)
+
+-- the second line of a report, with a newline character that has another name
+pub second_line_by : (newline newline' : ℤ) (b : Bool) (r : Report) (n : ℤ) (earlier : ℕ) (text : List ℕ) → r ≡ IncompatibleMagnification n earlier → newline' ≡ newline →
+    text ≡ fresh_line b ++ all_printed newline' (second_line (IncompatibleMagnification n earlier)) → text ≡ closing_printed newline b r
+second_line_by newline newline' b r n earlier text is e h =
+    h ∙ ap (λ (m : ℤ). closing_printed m b (IncompatibleMagnification n earlier)) e ∙ ap (λ (x : Report). closing_printed newline b x) (sym is)
 
 -- the report of a message
 pub message_parts : (style : Style) (b : Bool) (line : ℕ) (ts : List Token) (before shown behind : List ℕ) →

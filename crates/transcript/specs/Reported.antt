@@ -1,12 +1,13 @@
 -- What the engine's reports stand for, and the parts in which their texts and those of `\show` are written.
-use Rattle.std.specs.Prelude.{ℕ, List, [], ◌++◌, codes}
+use Rattle.std.specs.Prelude.{ℕ, ℤ, Bool, List, [], ◌++◌, codes}
 use Rattle.tex_syntax.specs.declared.words.Report.{Report}
-use Rattle.tex_syntax.specs.declared.words.Report.TheVariants.{BadCharacterCode, BadRegisterCode, BadMathchar, CantUseAfter, InvalidCode, CodeTooGreat, FileEnded, Forbidden, IllegalNumber, UseMismatch, ExtraBrace, ParagraphEnded, PrefixWith, LongOrOuterWith, MissingEndcsname, ExtraEndcsname, ForgottenEndgroup, ExtraEndgroup}
+use Rattle.tex_syntax.specs.declared.words.Report.TheVariants.{BadCharacterCode, BadRegisterCode, BadMathchar, IncompatibleMagnification, IllegalMagnification, CantUseAfter, InvalidCode, CodeTooGreat, FileEnded, Forbidden, IllegalNumber, UseMismatch, ExtraBrace, ParagraphEnded, PrefixWith, LongOrOuterWith, MissingEndcsname, ExtraEndcsname, ForgottenEndgroup, ExtraEndgroup}
 use Rattle.tex_syntax.specs.declared.words.Scanned.{Scanned}
 use Rattle.tex_defs.specs.declared.Token.{Token}
 use Rattle.tex_defs.specs.declared.Token.TheVariants.{Named, Marked}
 use Rattle.plain_tokens.specs.Printed.{Style, escaped, primitive_word, name_text, meaning_head}
-use Rattle.plain_state.specs.Reports.{report_text, scanned_word}
+use Rattle.plain_state.specs.Reports.{report_text, scanned_word, fresh_line, second_line}
+use Rattle.token_show.specs.Bytes.{all_printed}
 
 -- what stands before the name where a file ended, or the name of an \outer macro came
 abbrev pub ended_opening : Scanned → List ℕ
@@ -37,6 +38,8 @@ abbrev pub IsFixed : Report → Type 0
 IsFixed (BadCharacterCode n) = ⊥
 IsFixed (BadRegisterCode n) = ⊥
 IsFixed (BadMathchar n) = ⊥
+IsFixed (IncompatibleMagnification n earlier) = ⊥
+IsFixed (IllegalMagnification n) = ⊥
 IsFixed (InvalidCode n greatest) = ⊥
 IsFixed (CodeTooGreat n greatest) = ⊥
 IsFixed (LongOrOuterWith m) = ⊥
@@ -68,6 +71,11 @@ closing (UseMismatch name) = codes " doesn't match its definition"
 closing (ExtraBrace name) = codes " has an extra }"
 closing (ParagraphEnded name) = codes " was complete"
 closing r = []
+
+-- The same, printed. Of a report with a second line it is all of that line but the dot, behind a line feed where the column isn't 0.
+abbrev pub closing_printed : (newline : ℤ) → (in_line : Bool) → Report → List ℕ
+closing_printed newline in_line (IncompatibleMagnification n earlier) = fresh_line in_line ++ all_printed newline (second_line (IncompatibleMagnification n earlier))
+closing_printed newline in_line r = all_printed newline (closing r)
 
 -- the name of a primitive that closes the text, if there is one
 abbrev pub closing_name : Style → Report → List ℕ

@@ -1,7 +1,7 @@
 // Reports.
-ghost use Rattle.std.specs.Prelude.{◌≡◌, ◌≤◌, ◌+◌, ◌∷◌, ◌++◌, [], codes, length, OnOk, IfErr, IfSome, IsTrue};
+ghost use Rattle.std.specs.Prelude.{◌≡◌, ◌≤◌, ◌+◌, ◌∷◌, ◌++◌, [], ℕ, ℤ, codes, length, OnOk, IfErr, IfSome, IsTrue};
 ghost use Rattle.std.specs.Fmt.{decimal};
-ghost use Rattle.plain_state.specs.Reports.{fresh_line, unit_taken, report_bytes, error_message_bytes, missing_file_bytes};
+ghost use Rattle.plain_state.specs.Reports.{fresh_line, unit_taken, second_line, report_bytes, error_message_bytes, missing_file_bytes};
 ghost use Rattle.token_lists.specs.Table.{IsHeld};
 ghost use Rattle.token_lists.specs.Ids.{build_id};
 ghost use Rattle.plain_tokens.specs.Printed.{Style, escaped, printed_all};
@@ -9,13 +9,13 @@ ghost use Rattle.token_show.specs.Bytes.{all_printed};
 ghost use Rattle.token_show.specs.Views.{style_of, build_tokens, IsView};
 ghost use Rattle.transcript.specs.Given.{tokens_given};
 ghost use Rattle.transcript.specs.Plain.{is_plain};
-ghost use Rattle.transcript.specs.Reported.{opening, prefix_opening, ended_opening, forbidden_opening, subject, closing, closing_name, IsFixed};
+ghost use Rattle.transcript.specs.Reported.{opening, prefix_opening, ended_opening, forbidden_opening, subject, closing, closing_printed, closing_name, IsFixed};
 ghost use Rattle.transcript.specs.Taken.{Took, TookFront};
 
 use crate::fixed::{fresh_line, put_escape, put_fixed, put_number, put_signed};
 use crate::message::show_given;
 use crate::said::{Said, SaidParts};
-use crate::writing::{put_around, put_said};
+use crate::writing::{ends_in_line, put_around, put_said};
 use char_text::Text;
 use tex_defs::Meaning;
 use tex_syntax::{Report, Scanned, UnitTaken};
@@ -59,6 +59,30 @@ fn put_bad_mathchar(text: &mut Text, newline: i32, n: i32)
     ensures { (style : Style) → text.new ≡ text.old ++ all_printed newline (opening style (Report.BadMathchar n)) }
 {
     put_fixed(text, newline, b"Bad mathchar (");
+    put_signed(text, newline, n);
+    put_fixed(text, newline, b")");
+}
+
+// Puts the first line of the report of a magnification that isn't the earlier one.
+fn put_incompatible_magnification(text: &mut Text, newline: i32, n: i32)
+    requires { length text.old ≤ 3 }
+    ensures { (style : Style) → (earlier : ℕ) → text.new ≡ text.old ++ all_printed newline (opening style (Report.IncompatibleMagnification n earlier)) }
+{
+    put_fixed(text, newline, b"Incompatible magnification (");
+    put_signed(text, newline, n);
+    put_fixed(text, newline, b");");
+}
+
+// Puts the report of a magnification that is out of its range.
+fn put_illegal_magnification(text: &mut Text, newline: i32, n: i32)
+    requires { length text.old ≤ 3 }
+    ensures { (style : Style) → text.new ≡ text.old ++ all_printed newline (opening style (Report.IllegalMagnification n)) }
+{
+    put_fixed(
+        text,
+        newline,
+        b"Illegal magnification has been changed to 1000 (",
+    );
     put_signed(text, newline, n);
     put_fixed(text, newline, b")");
 }
@@ -184,6 +208,8 @@ fn fixed_opening(report: Report) -> &'static [u8]
         Report::BadCharacterCode(_)
         | Report::BadRegisterCode(_)
         | Report::BadMathchar(_)
+        | Report::IncompatibleMagnification(_, _)
+        | Report::IllegalMagnification(_)
         | Report::InvalidCode(_, _)
         | Report::CodeTooGreat(_, _)
         | Report::LongOrOuterWith(_)
@@ -204,6 +230,10 @@ fn put_opening(text: &mut Text, view: View<'_>, report: Report)
         Report::BadCharacterCode(n) => put_bad_code(text, view.names.newline, n),
         Report::BadRegisterCode(n) => put_bad_register(text, view.names.newline, n),
         Report::BadMathchar(n) => put_bad_mathchar(text, view.names.newline, n),
+        Report::IncompatibleMagnification(n, _) => {
+            put_incompatible_magnification(text, view.names.newline, n);
+        }
+        Report::IllegalMagnification(n) => put_illegal_magnification(text, view.names.newline, n),
         Report::InvalidCode(n, greatest) => put_invalid_code(text, view.names.newline, n, greatest),
         Report::CodeTooGreat(n, greatest) => put_great_code(text, view.names.newline, n, greatest),
         Report::LongOrOuterWith(_) => put_prefix(text, view),
@@ -252,13 +282,34 @@ fn closing(report: Report) -> &'static [u8]
     }
 }
 
-// The same, printed.
-fn closing_text(newline: i32, report: Report) -> Text
-    ensures { result ≡ all_printed newline (closing report) }
+// The second line of the report of a magnification that isn't the earlier one, printed, up to its dot.
+fn retained_text(newline: i32, in_line: bool, earlier: u16) -> Text
+    ensures { (n : ℤ) → result ≡ fresh_line in_line ++ all_printed newline (second_line (Report.IncompatibleMagnification n earlier)) }
 {
-    let mut text = Text::new();
-    put_fixed(&mut text, newline, closing(report));
+    let mut text = fresh_line(in_line);
+    put_fixed(
+        &mut text,
+        newline,
+        b" the previous value will be retained (",
+    );
+    put_number(&mut text, newline, u64::from(earlier));
+    put_fixed(&mut text, newline, b")");
     text
+}
+
+// What stands in a report behind the name or meaning in its text, printed: of a report with a second line all of that line
+// but the dot, behind a line feed where the column isn't 0.
+fn closing_text(newline: i32, in_line: bool, report: Report) -> Text
+    ensures { result ≡ closing_printed newline in_line report }
+{
+    match report {
+        Report::IncompatibleMagnification(_, earlier) => retained_text(newline, in_line, earlier),
+        other => {
+            let mut text = Text::new();
+            put_fixed(&mut text, newline, closing(other));
+            text
+        }
+    }
 }
 
 // The name of a primitive that closes a report's text, if there is one.
@@ -288,7 +339,8 @@ pub(crate) fn line_number(newline: i32, close: &[u8], line: u64) -> Text
     text
 }
 
-/// Writes a report on a fresh line, and then the number of the line that is being read, 0 where there is none.
+/// Writes a report on a fresh line, its second line, where it has one, on another, and then the number of the line that is being
+/// read, 0 where there is none.
 ///
 /// *TeX: The Program*, part 6 (`error`).
 ///
@@ -307,9 +359,11 @@ pub fn write_report<S: Sink>(
 {
     let mut before = report_mark(view.names.newline, *in_line);
     put_opening(&mut before, view, report);
-    let close = closing_text(view.names.newline, report);
+    let opened = before.bytes();
+    let in_opened = ends_in_line(*in_line, opened);
+    let close = closing_text(view.names.newline, in_opened, report);
     let behind = line_number(view.names.newline, b"", line);
-    let text = Said::new(before.bytes(), show_subject(view, report), close.bytes());
+    let text = Said::new(opened, show_subject(view, report), close.bytes());
     let last = Said::new(b"", show_closing_name(view, report), behind.bytes());
     put_said(out, in_line, SaidParts::two(text, last))
 }

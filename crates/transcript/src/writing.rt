@@ -11,7 +11,7 @@ use world_io::{Fault, Sink, write_all};
 // Whether the column isn't 0 behind this text: the last byte isn't a line feed, or it wasn't 0 before where there
 // is none.
 #[tactic(auto, using(crate::proofs::Columns::in_line_last))]
-fn ends_in_line(before: bool, text: &[u8]) -> bool
+pub(crate) fn ends_in_line(before: bool, text: &[u8]) -> bool
     ensures { result ≡ in_line_after before text.now }
 {
     match text {

@@ -61,5 +61,32 @@ returns c = record {
     letter_refused = refl;
     relax_refused = refl;
   };
+  measures = record {
+    dimen = refl;
+    skip = refl;
+    muskip = refl;
+    parindent = refl;
+    lineskip = refl;
+    thinmuskip = refl;
+    dimen_named = refl;
+    skip_named = refl;
+    muskip_named = refl;
+    dimendef = refl;
+    advance_dimension = refl;
+    advance_glue = refl;
+    advance_mu = refl;
+    multiply = refl;
+    divide = refl;
+    toks_refused = refl;
+  };
+  computing = record {
+    sum_beyond = refl;
+    product_beyond = refl;
+    product_within = refl;
+    orders = refl;
+    product_of_parts = refl;
+    quotient_of_parts = refl;
+    by_zero = refl;
+  };
   expansions = record { expandafter = refl; noexpand = refl; number_made = refl; romannumeral = refl; string = refl; meaning = refl; statuses = refl };
 }
