@@ -1,6 +1,19 @@
 -- The rules without a step make the weight of the open readings smaller: a law of the readings.
 use Rattle.plain_readings.specs.Weights.{WeightsFall}
-use Rattle.plain_readings.proofs.Weights.{begun, begun_with, valued, acted, heavy, begun_by_act, waits, expanded_behind, noted, fetched}
+use Rattle.plain_readings.proofs.Weights.{begun, begun_with, valued, acted, ends, frames, heavy, begun_by_act, waits, expanded_behind, noted, fetched}
 
 pub falls : WeightsFall
-falls = record { begun = begun; begun_with = begun_with; valued = valued; acted = acted; heavy = heavy; begun_by_act = begun_by_act; waits = waits; expanded_behind = expanded_behind; noted = noted; fetched = fetched }
+falls = record {
+  begun = begun;
+  begun_with = begun_with;
+  valued = valued;
+  acted = acted;
+  ends = ends;
+  frames = frames;
+  heavy = heavy;
+  begun_by_act = begun_by_act;
+  waits = waits;
+  expanded_behind = expanded_behind;
+  noted = noted;
+  fetched = fetched;
+}

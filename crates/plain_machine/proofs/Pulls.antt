@@ -1,6 +1,7 @@
 -- The next token, character or line is pulled by a rule's second move, once the finished lists in front have gone, or not at all.
-use Rattle.std.proofs.Common.{◌≡◌, ℕ, ℤ, ◌+◌, ◌≤◌, ◌<◌, List, [], ◌∷◌, ◌++◌, length, drop, map, slice_index_or, refl, arith, Bool, true, false}
-use Rattle.std.specs.Prelude.{Option, Some, None, if◌then◌else◌, ◌||◌, nat_eq, nat_lt}
+use Rattle.std.proofs.Common.{◌≡◌, ℕ, ℤ, zero, suc, ◌+◌, ◌≤◌, ◌<◌, List, [], ◌∷◌, ◌++◌, length, drop, map, slice_index_or, refl, arith, Bool, true, false}
+use Rattle.std.specs.Prelude.{Option, Some, None, if◌then◌else◌, ◌||◌, nat_eq, nat_lt, pos}
+use Rattle.std.specs.Ordering.{int_eq}
 use Rattle.tex_syntax.specs.declared.words.Want.{Want}
 use Rattle.tex_syntax.specs.declared.words.Want.TheVariants.{Raw, Expanded, Copied, Nonblank, Command}
 use Rattle.tex_syntax.specs.declared.words.Outcome.TheVariants.{AtFatal}
@@ -30,7 +31,9 @@ use Rattle.save_stack.specs.declared.GroupKind.{GroupKind}
 use Rattle.save_stack.specs.declared.GroupKind.TheVariants.{Simple, SemiSimple}
 use Rattle.equivalents.specs.declared.values.Loc.{Loc}
 use Rattle.equivalents.specs.declared.values.Val.TheVariants as val
-use Rattle.equivalents.specs.Locations.{value_seen}
+use Rattle.equivalents.specs.First.{magnification}
+use Rattle.equivalents.specs.Locations.{SeenValue, value_seen}
+use Rattle.equivalents.specs.Parameters.{integer_in}
 use Rattle.equivalents.specs.Tables.{get}
 use Rattle.plain_state.specs.Reports.{string_text, hundred_line, emergency, no_file_line, token_line_bytes}
 use Rattle.rows.specs.declared.command.Head.TheVariants.{Primitive, Register}
@@ -39,15 +42,15 @@ use Rattle.rows.specs.declared.command.Effect.{Effect}
 use Rattle.rows.specs.declared.command.Effect.TheVariants as effect
 use Rattle.rows.specs.declared.words.Value.{Value}
 use Rattle.rows.specs.Table.{has_row}
-use Rattle.rows.specs.Arithmetic.{computed}
-use Rattle.rows.specs.Internal.{integer_of, value_text}
-use Rattle.rows.specs.Readings.{Fed, Tok, Told, Ask, More, Inner, Done, Acts, ActsOn, Defines, Ends as Closes, Calls, Fails, RunsAway, Tells, Inserts, Puts, Relaxes, Fetches}
+use Rattle.rows.specs.Arithmetic.{value_computed}
+use Rattle.rows.specs.Internal.{value_text}
+use Rattle.rows.specs.Readings.{Fed, Tok, Told, Ask, More, Inner, Done, Acts, ActsOn, Defines, Ends as Closes, Calls, Fails, RunsAway, Tells, Inserts, Puts, Relaxes, Fetches, Magnifies}
 use Rattle.plain_readings.specs.Calls.{gathered}
 use Rattle.plain_readings.specs.Spelling.{endcsname_primitive}
 use Rattle.plain_readings.specs.Readings.{Kind, Reads, Spelling, FileName, Arguments, Reading, lists}
 use Rattle.plain_readings.specs.Scanning.{Scanning, scanning}
 use Rattle.plain_machine.specs.States.{State, Files, Move, Handed, Taken, FirstTaken, Settled, Skipped, FileClosed, FileEnds, FileOpened, Spelt, NameInProgress, Grows, Feeds, Completed, ListGrown, Set, Assigned, Defined, GroupOpened, Begun, Ended, Closed, Written, Stopped}
-use Rattle.plain_machine.specs.Plan.{Page, page_of, style_of, met, met_outer, entered, checked, check_noted, ran_away, away_text, page_behind, reported, reported_as, behind_report, reports_room, told, put_inserted, put_one, put_made, put_text, put_characters, noting, noting_kind, token_line, finish, command, register, primitive, call_of, begun, csname_primitive, jobname_primitive, input_primitive, endinput_primitive, input_met, frozen_relax, is_expandable_primitive, job_in, expansion, begingroup_primitive, endgroup_primitive, put_each, group_ended, brace_met, endgroup_met, character, unless_expanded, called, called_meaning, called_list, put_body, body_put, stomach, wanted, expanded, expanded_as, feeding_kind, grown_and_fed, first_list, grown_to, opened, in_place, argument_fed, call_fed, inner_begun, given_back, value_tokens, done, arguments_put, called_with, failed, failed_away, is_global, behind_assignment, assigned, kept_for_group, computed_to, short_meaning, acts, acts_on, acts_in, and_closed, meaning_characters, macro_defined, name_made, unless_found, input_begun, relax_if_undefined, spelt, newly_spelt, answered}
+use Rattle.plain_machine.specs.Plan.{Page, page_of, style_of, met, met_outer, entered, checked, check_noted, ran_away, away_text, page_behind, reported, reported_as, behind_report, reports_room, told, put_inserted, put_one, put_made, put_text, put_characters, noting, noting_kind, token_line, finish, command, register, primitive, call_of, begun, csname_primitive, jobname_primitive, input_primitive, endinput_primitive, input_met, frozen_relax, is_expandable_primitive, job_in, expansion, begingroup_primitive, endgroup_primitive, put_each, group_ended, brace_met, endgroup_met, character, unless_expanded, called, called_meaning, called_list, put_body, body_put, stomach, wanted, expanded, expanded_as, feeding_kind, grown_and_fed, first_list, grown_to, opened, in_place, argument_fed, call_fed, inner_begun, given_back, value_tokens, done, arguments_put, called_with, failed, failed_away, is_global, behind_assignment, assigned, kept_for_group, computed_to, short_meaning, acts, acts_on, acts_in, and_closed, meaning_characters, macro_defined, name_made, unless_found, input_begun, relax_if_undefined, spelt, newly_spelt, answered, number_or_glue, is_magnification, magnification_set, legal_or_not, compared}
 use Rattle.plain_machine.specs.Runs.{step_of, steps}
 
 -- The moves that pull: they read what is pending, or open a file.
@@ -378,8 +381,8 @@ kept_for_group_none (Some kind) t = refl
 closed_assigned : (page : Page) (m : Move) → pull_of m ≡ 0 → pulls (and_closed (assigned page m)) ≡ 0
 closed_assigned page m h = and_closed_none (assigned page m) (assigned_none page m h)
 
-computed_none : (page : Page) (c : Call) (l : Loc) (o : Option ℤ) → pulls (computed_to page c l o) ≡ 0
-computed_none page c l (Some value) = closed_assigned page (Set (is_global page c) l (val.Number value)) refl
+computed_none : (page : Page) (c : Call) (l : Loc) (o : Option SeenValue) → pulls (computed_to page c l o) ≡ 0
+computed_none page c l (Some value) = closed_assigned page (Set (is_global page c) l (number_or_glue value)) refl
 computed_none page c l None =
     let behind : List Move = behind_assignment page.after in
     reported_none page reports.ArithmeticOverflow (and_closed behind) (and_closed_none behind (behind_assignment_none page.after))
@@ -394,7 +397,8 @@ acts_none page c (effect.FutureLet n x y) =
     let m : Move = Assigned (is_global page c) n (meaning_to_let page.now.meanings y) in
     and_closed_none (put_one y.token ++ (put_one x.token ++ assigned page m)) (future_none page x.token y.token m refl)
 acts_none page c (effect.SetNumber l value) = closed_assigned page (Set (is_global page c) l (val.Number value)) refl
-acts_none page c (effect.Compute operation l number) = computed_none page c l (computed operation (integer_of (value_seen (get page.now l))) number)
+acts_none page c (effect.SetGlue l g) = closed_assigned page (Set (is_global page c) l (val.Skip g)) refl
+acts_none page c (effect.Compute operation l d) = computed_none page c l (value_computed operation l (value_seen (get page.now l)) d)
 acts_none page c (effect.Shorthand n meant) = closed_assigned page (Assigned (is_global page c) n (short_meaning meant)) refl
 acts_none page c effect.Unassigned = and_closed_none (behind_assignment page.after) (behind_assignment_none page.after)
 acts_none page c (effect.AfterGroup x) = and_closed_none (kept_for_group page.group x.token) (kept_for_group_none page.group x.token)
@@ -438,6 +442,18 @@ acts_in_none : (s : State) (page : Page) (c : Call) (e : Effect) (ts : List Toke
 acts_in_none s page c (effect.StartInput back) ts h = absurd h
 acts_in_none s page c e ts h = acts_on_none page c e ts
 
+-- the check of the magnification
+legal_none : (page : Page) (n : ℤ) (legal : Bool) (rest : List Move) → pulls rest ≡ 0 → pulls (legal_or_not page n legal rest) ≡ 0
+legal_none page n true rest h = omega (arith, h)
+legal_none page n false rest h = reported_none page (reports.IllegalMagnification n) (magnification_set 1000 rest) (omega (arith, h))
+
+compared_none : (page : Page) (n : ℤ) (mag : ℕ) (rest : List Move) → pulls rest ≡ 0 → pulls (compared page n mag rest) ≡ 0
+compared_none page n zero rest h = legal_none page n (is_magnification n) rest h
+compared_none page n (suc m) rest h =
+    let set : List Move = magnification_set (suc m) rest in
+    let report : Report = reports.IncompatibleMagnification n (suc m) in
+    none_if (int_eq n (pos (suc m))) rest (reported page report set) h (reported_none page report set (omega (arith, h)))
+
 pub answered_none : (s : State) (work : List Reading) (r : Reading) (a : Ask) → WantsNone a → pulls (answered s work r a) ≡ 0
 answered_none s work r (More want) h = absurd h
 answered_none s work r (Inner k begins) h = inner_none (Reads k) begins
@@ -453,6 +469,7 @@ answered_none s work r (Tells report back) h = told_none (page_of s) report None
 answered_none s work r (Inserts t report back) h = told_none (page_of s) report (Some t) back r
 answered_none s work r (Puts t more) h = joined_none (put_one t) (noting r) refl (noting_none r)
 answered_none s work r (Relaxes c n) h = omega (arith, noting_none r)
+answered_none s work r Magnifies h = compared_none (page_of s) (integer_in s.groups.now magnification) s.mag_set (noting r) (noting_none r)
 answered_none s work r (Fetches l) h = refl
 
 -- A FILE THAT IS BEGUN BY ITS NAME opens it, and reads nothing.

@@ -1,9 +1,10 @@
 -- Each rule ends the run, begins with a step once the finished lists in front have gone, or makes the weight of the state smaller.
-use Rattle.std.proofs.Common.{◌≡◌, ℕ, ℤ, ◌+◌, ◌*◌, ◌≤◌, ◌<◌, Bool, true, false, List, [], ◌∷◌, ◌++◌, length, refl, sym, ap, ◌∙◌, subst, arith}
-use Rattle.std.specs.Prelude.{Option, Some, None, if◌then◌else◌, nat_lt, ◌==◌, map, drop, slice_index_or}
+use Rattle.std.proofs.Common.{◌≡◌, ℕ, ℤ, zero, suc, ◌+◌, ◌*◌, ◌≤◌, ◌<◌, Bool, true, false, List, [], ◌∷◌, ◌++◌, length, refl, sym, ap, ◌∙◌, subst, arith}
+use Rattle.std.specs.Prelude.{Option, Some, None, if◌then◌else◌, nat_lt, nat_abs, pos, ◌==◌, map, drop, slice_index_or}
+use Rattle.std.specs.Ordering.{int_eq}
 use Rattle.tex_syntax.specs.declared.words.Report.{Report}
 use Rattle.tex_syntax.specs.declared.words.Scanned.{Scanned}
-use Rattle.tex_syntax.specs.declared.words.Report.TheVariants.{ArithmeticOverflow, InvalidCharacter, FileEnded, UndefinedName, ExtraEndcsname, TooManyBraces, ForgottenEndgroup, ExtraEndgroup, MissingRightBrace}
+use Rattle.tex_syntax.specs.declared.words.Report.TheVariants.{ArithmeticOverflow, InvalidCharacter, FileEnded, UndefinedName, ExtraEndcsname, TooManyBraces, ForgottenEndgroup, ExtraEndgroup, MissingRightBrace, IncompatibleMagnification, IllegalMagnification}
 use Rattle.tex_syntax.specs.declared.words.Outcome.{Outcome}
 use Rattle.tex_syntax.specs.declared.words.Outcome.TheVariants.{Finished, AtFatal}
 use Rattle.tex_syntax.specs.declared.words.Scanned.TheVariants as scanned
@@ -30,8 +31,11 @@ use Rattle.plain_tokens.specs.Arguments.{has_parameters}
 use Rattle.save_stack.specs.declared.GroupKind.{GroupKind}
 use Rattle.save_stack.specs.declared.GroupKind.TheVariants.{Simple, SemiSimple}
 use Rattle.equivalents.specs.declared.values.Loc.{Loc}
+use Rattle.equivalents.specs.declared.values.Loc.TheVariants as loc
 use Rattle.equivalents.specs.declared.values.Val.TheVariants as val
-use Rattle.equivalents.specs.Locations.{value_seen}
+use Rattle.equivalents.specs.First.{magnification}
+use Rattle.equivalents.specs.Locations.{SeenValue, value_seen}
+use Rattle.equivalents.specs.Parameters.{integer_in}
 use Rattle.equivalents.specs.Tables.{get}
 use Rattle.command_words.specs.Words.{file_name}
 use Rattle.plain_state.specs.Reports.{missing_file_bytes, emergency, no_file_line, report_bytes, error_message_bytes, fresh_line, string_text, message_bytes, hundred_line, token_line_bytes}
@@ -43,23 +47,23 @@ use Rattle.rows.specs.declared.command.Call.{Call}
 use Rattle.rows.specs.declared.command.Effect.{Effect}
 use Rattle.rows.specs.declared.command.Effect.TheVariants as effect
 use Rattle.rows.specs.Table.{has_row}
-use Rattle.rows.specs.Arithmetic.{computed}
-use Rattle.rows.specs.Internal.{integer_of, value_text}
-use Rattle.rows.specs.Readings.{Fed, Val, Told, Cut, Ask, More, Inner, Done, Acts, ActsOn, Defines, Ends as Closes, Calls, Fails, RunsAway, Tells, Inserts, Puts, Relaxes, Fetches}
+use Rattle.rows.specs.Arithmetic.{value_computed}
+use Rattle.rows.specs.Internal.{value_text}
+use Rattle.rows.specs.Readings.{Fed, Val, Told, Cut, Ask, More, Inner, Done, Acts, ActsOn, Defines, Ends as Closes, Calls, Fails, RunsAway, Tells, Inserts, Puts, Relaxes, Fetches, Magnifies}
 use Rattle.plain_readings.specs.Readings.{Kind, Reads, Spelling, FileName, Arguments, Behind, Reading, ask, lists, fed_with}
 use Rattle.plain_readings.specs.Spelling.{endcsname_primitive}
 use Rattle.plain_readings.specs.Scanning.{Scanning, scanning}
 use Rattle.plain_readings.specs.Laws.{IsRead}
-use Rattle.plain_readings.specs.Weights.{frame_weight, value_weight, act_weight, end_weight, ask_weight, weight, IsNoted, WeightsFall}
-use Rattle.plain_machine.specs.States.{State, Files, Move, Settled, Skipped, FileClosed, FileEnds, FileOpened, Spelt, NameInProgress, Entered, Kept as KeptBytes, Grows, Feeds, Completed, Opened, ListBegun, ListGrown, Put, ListDropped, Called, Set, Assigned, Defined, GroupOpened, GroupClosed, KeptForGroup, KeptForAssignment, Written, Begun, Ended, Closed, Reported, Flawed, Stopped, Handed, made}
-use Rattle.plain_machine.specs.Plan.{Page, page_of, style_of, plan, ruled, planned, answered, handed, checked, at_line, check_noted, inserted_at, away_text, ran_away, page_behind, reported, behind_report, reports_room, finish, groups_left, stomach, command, register, primitive, begingroup_primitive, endgroup_primitive, right_brace, put_each, group_ended, brace_met, endgroup_met, character, expansion, expanded, expanded_as, csname_primitive, jobname_primitive, input_primitive, endinput_primitive, input_met, frozen_relax, unless_found, input_begun, is_expandable_primitive, job_in, begun, call_of, called_meaning, put_body, body_put, token_line, wanted, enters_names, feeding, given_back, grown_to, first_list, noting, noting_kind, put_one, put_text, put_made, put_characters, put_inserted, arguments_put, called_with, failed, failed_away, inner_begun, done, value_tokens, told, and_closed, expanded_behind, marked, meaning_characters, shown, is_global, behind_assignment, assigned, kept_for_group, computed_to, short_meaning, acts, macro_defined, newly_spelt, spelt, relax_if_undefined, name_made, entered, acts_on, acts_in}
+use Rattle.plain_readings.specs.Weights.{frame_weight, value_frame, act_frame, value_weight, act_weight, end_weight, ask_weight, weight, IsNoted, IsLast, WeightsFall}
+use Rattle.plain_machine.specs.States.{State, Files, Move, Settled, Skipped, FileClosed, FileEnds, FileOpened, Spelt, NameInProgress, Entered, Kept as KeptBytes, Grows, Feeds, Completed, Opened, ListBegun, ListGrown, Put, ListDropped, Called, Set, Assigned, Defined, GroupOpened, GroupClosed, KeptForGroup, KeptForAssignment, MagnificationSet, Written, Begun, Ended, Closed, Reported, Flawed, Stopped, Handed, made}
+use Rattle.plain_machine.specs.Plan.{Page, page_of, style_of, plan, ruled, planned, answered, handed, checked, at_line, check_noted, inserted_at, away_text, ran_away, page_behind, reported, behind_report, reports_room, finish, groups_left, stomach, command, register, primitive, begingroup_primitive, endgroup_primitive, right_brace, put_each, group_ended, brace_met, endgroup_met, character, expansion, expanded, expanded_as, csname_primitive, jobname_primitive, input_primitive, endinput_primitive, input_met, frozen_relax, unless_found, input_begun, is_expandable_primitive, job_in, begun, call_of, called_meaning, put_body, body_put, token_line, wanted, enters_names, feeding, given_back, grown_to, first_list, noting, noting_kind, put_one, put_text, put_made, put_characters, put_inserted, arguments_put, called_with, failed, failed_away, inner_begun, done, value_tokens, told, and_closed, expanded_behind, marked, meaning_characters, shown, is_global, behind_assignment, assigned, kept_for_group, number_or_glue, computed_to, short_meaning, acts, macro_defined, newly_spelt, spelt, relax_if_undefined, name_made, entered, acts_on, acts_in, is_magnification, magnification_set, legal_or_not, compared}
 use Rattle.plain_machine.specs.Runs.{step_of, all_made}
 use Rattle.plain_machine.proofs.Settling.{pulled_settled}
 
 -- an open reading
 abbrev pub frames : List Reading → ℕ
 frames [] = 0
-frames (r ∷ rs) = frame_weight + frames rs
+frames (r ∷ rs) = frame_weight r.kind + frames rs
 
 -- what the innermost asks for
 abbrev pub asked : List Reading → ℕ
@@ -83,7 +87,7 @@ pending_weight p = length p.line + file_weight p.file + outer_weight p.outer
 
 -- where the file ends a call may be fed with the note of a check
 abbrev pub check_weight : ℕ
-check_weight = frame_weight + act_weight
+check_weight = act_frame + act_weight
 
 abbrev pub weight_of : Option Outcome → List Reading → Pending → ℕ
 weight_of (Some o) work p = 0
@@ -162,6 +166,7 @@ is_plain (GroupOpened kind) = true
 is_plain GroupClosed = true
 is_plain (KeptForGroup t) = true
 is_plain (KeptForAssignment after) = true
+is_plain (MagnificationSet n) = true
 is_plain (Written p bs) = true
 is_plain Reported = true
 is_plain Flawed = true
@@ -211,6 +216,7 @@ kept (GroupOpened kind) s h = record { work = refl; stopped = refl; pending = re
 kept GroupClosed s h = record { work = refl; stopped = refl; pending = refl }
 kept (KeptForGroup t) s h = record { work = refl; stopped = refl; pending = refl }
 kept (KeptForAssignment after) s h = record { work = refl; stopped = refl; pending = refl }
+kept (MagnificationSet n) s h = record { work = refl; stopped = refl; pending = refl }
 kept (Written p bs) s h = record { work = refl; stopped = refl; pending = refl }
 kept Reported s h = record { work = refl; stopped = refl; pending = refl }
 kept Flawed s h = record { work = refl; stopped = refl; pending = refl }
@@ -337,9 +343,9 @@ drops_all n s (m ∷ ms) h f =
 
 -- WHAT READINGS WEIGH, by the laws of the readings
 
--- the innermost weighs less than a frame and an act
+-- the innermost weighs less than a frame of what acts and an act
 module _ (falls : WeightsFall) where
-  asked_least : (rs : List Reading) → asked rs < frame_weight + act_weight
+  asked_least : (rs : List Reading) → asked rs < act_frame + act_weight
   asked_least [] = omega arith
   asked_least (r ∷ rs) = falls.acted r.kind r.fed
 
@@ -349,7 +355,7 @@ module _ (falls : WeightsFall) where
   weight_checked (r ∷ rs) = omega (arith, falls.acted r.kind (r.fed ++ Cut ∷ []))
 
   -- the value of the reading above
-  weight_ended : (v : Value) (ts : List Token) (rs : List Reading) → work_weight (fed_with (Val v ts) rs) < frame_weight + value_weight + frames rs
+  weight_ended : (v : Value) (ts : List Token) (rs : List Reading) → work_weight (fed_with (Val v ts) rs) < value_frame + value_weight + frames rs
   weight_ended v ts [] = omega arith
   weight_ended v ts (r ∷ rs) = omega (arith, falls.valued r.kind r.fed v ts)
 
@@ -406,7 +412,7 @@ rule_handed falls s enters o onward e = rule_pulled falls s enters o onward e (p
 -- MOVES BEHIND WHICH A READING MAY BEGIN
 -- from a state v that weighs less than n, also with one reading more
 module _ (n : ℕ) (v : State) (e : v.stopped ≡ None) (less : state_weight v < n)
-    (more : (j : Kind) → IsRead j → 1 + (weight j [] + (frame_weight + frames v.work)) + check_weight * pending_weight v.pending < n) where
+    (more : (j : Kind) → IsRead j → 1 + (weight j [] + (frame_weight j + frames v.work)) + check_weight * pending_weight v.pending < n) where
   stays : (u : State) → Kept v u → state_weight u < n
   stays u k = subst (λ (m : ℕ). m < n) (rw (k.stopped, k.work, e) (omega (arith, k.pending))) less
 
@@ -529,9 +535,9 @@ module _ (falls : WeightsFall) (s : State) (k : Kind) (fed : List Fed) (rs : Lis
   reading = record { kind = k; fed = fed }
 
   -- WHERE IT ACTS OR ENDS
-  module _ (heavy : act_weight ≤ weight k fed) where
+  module _ (heavy : act_weight ≤ weight k fed) (framed : frame_weight k ≡ act_frame) where
     falls_closed : (u : State) → Kept s u → Drops (state_weight s) (Closed ∷ []) u
-    falls_closed u h = rw (h.stopped, h.work, e, w) (omega (arith, h.pending, asked_least falls rs, heavy))
+    falls_closed u h = rw (h.stopped, h.work, e, w) (omega (arith, h.pending, asked_least falls rs, heavy, framed))
 
     rule_closed : (ms : List Move) → AllPlain ms → Rule s (and_closed ms)
     rule_closed ms h = Falls (drops_plain (state_weight s) s ms (Closed ∷ []) h (λ u kept. falls_closed u kept))
@@ -540,8 +546,8 @@ module _ (falls : WeightsFall) (s : State) (k : Kind) (fed : List Fed) (rs : Lis
     rule_assigned page m h = rule_closed (assigned page m) (plain_assigned page m h)
 
     -- arithmetic
-    rule_computed : (page : Page) (c : Call) (l : Loc) (o : Option ℤ) → Rule s (computed_to page c l o)
-    rule_computed page c l (Some value) = rule_assigned page (Set (is_global page c) l (val.Number value)) refl
+    rule_computed : (page : Page) (c : Call) (l : Loc) (o : Option SeenValue) → Rule s (computed_to page c l o)
+    rule_computed page c l (Some value) = rule_assigned page (Set (is_global page c) l (number_or_glue value)) refl
     rule_computed page c l None =
         let behind : List Move = behind_assignment page.after in
         Falls (drops_report (state_weight s) s page ArithmeticOverflow (and_closed behind) (some_weight s e)
@@ -553,12 +559,12 @@ module _ (falls : WeightsFall) (s : State) (k : Kind) (fed : List Fed) (rs : Lis
     rule_defined page c name (t ∷ ts) =
         let behind : List Move = behind_assignment page.after in
         let u : State = made (Defined (is_global page c) name c.long c.outer (t ∷ ts)) (record s { due = behind }) in
-        Falls (drops_all (state_weight s) u behind (plain_behind page.after) (λ v k. rw (k.stopped, k.work, e, w) (omega (arith, k.pending, asked_least falls rs, heavy))))
+        Falls (drops_all (state_weight s) u behind (plain_behind page.after) (λ v k. rw (k.stopped, k.work, e, w) (omega (arith, k.pending, asked_least falls rs, heavy, framed))))
 
     -- the body of a call is put
     rule_put : (p : PutList) (is : List Item) → Rule s (arguments_put p is)
     rule_put p [] = rule_closed [] tt
-    rule_put p (i ∷ is) = Falls (rw (e, w) (omega (arith, asked_least falls rs, heavy)))
+    rule_put p (i ∷ is) = Falls (rw (e, w) (omega (arith, asked_least falls rs, heavy, framed)))
 
     rule_called : (j : Kind) (args : List (List Token)) → Rule s (called_with j args)
     rule_called (Arguments name long number ts) args = rule_put (call_put number ts args) (call_put number ts args).items
@@ -577,8 +583,8 @@ module _ (falls : WeightsFall) (s : State) (k : Kind) (fed : List Fed) (rs : Lis
     rule_obeyed : (page : Page) (t : Token) (m : Meaning Unit) → Rule s (Closed ∷ command page t m)
     rule_obeyed page t m =
         let v : State = made Closed (record s { due = command page t m }) in
-        Falls (drops_command (state_weight s) v e (rw (e, w) (omega (arith, asked_least falls rs, heavy)))
-        (λ j h. rw (e, w) (omega (arith, heavy, falls.begun_by_act j h))) v page t m (kept_none v))
+        Falls (drops_command (state_weight s) v e (rw (e, w) (omega (arith, asked_least falls rs, heavy, framed)))
+        (λ j h. rw (e, w) (omega (arith, heavy, framed, falls.begun_by_act j h, (falls.frames j).1))) v page t m (kept_none v))
 
     rule_acts_on : (page : Page) (c : Call) (f : Effect) (ts : List Token) → Rule s (acts_on page c f ts)
     rule_acts_on page c effect.Message ts = rule_closed (Written Transcript (message_bytes (style_of page) page.in_line ts) ∷ []) (refl, tt)
@@ -598,7 +604,7 @@ module _ (falls : WeightsFall) (s : State) (k : Kind) (fed : List Fed) (rs : Lis
     named_falls page name o u h =
         let rest : List Move = NameInProgress false ∷ Settled ∷ FileOpened name ∷ unless_found page name o in
         let v : State = made Closed (record u { due = rest }) in
-        let less : state_weight v < state_weight s = rw (h.stopped, h.work, e, w) (omega (arith, h.pending, asked_least falls rs, heavy)) in
+        let less : state_weight v < state_weight s = rw (h.stopped, h.work, e, w) (omega (arith, h.pending, asked_least falls rs, heavy, framed)) in
         drops_plain (state_weight s) v (NameInProgress false ∷ Settled ∷ FileOpened name ∷ []) (unless_found page name o) (refl, (refl, (refl, tt)))
         (λ x k. found_falls page name o x (k.stopped ∙ h.stopped ∙ e) (subst (λ (n : ℕ). n < state_weight s) (kept_weight v x (h.stopped ∙ e) k) less))
 
@@ -613,43 +619,45 @@ module _ (falls : WeightsFall) (s : State) (k : Kind) (fed : List Fed) (rs : Lis
     rule_acts_in files page c f ts = rule_acts_on page c f ts
 
   -- `\expandafter`: its token waits, and what stands behind it is expanded above that
-  rule_behind : (page : Page) (c : Call) (x y : Seen) → ask k fed ≡ Acts c (effect.ExpandBehind x y) → Rule s (expanded_behind page c x y)
-  rule_behind page c x y is =
+  rule_behind : (page : Page) (c : Call) (x y : Seen) → ask k fed ≡ Acts c (effect.ExpandBehind x y) → frame_weight k ≡ act_frame → Rule s (expanded_behind page c x y)
+  rule_behind page c x y is framed =
       let ms : List Move = expanded page y (put_one y.token) in
       let t : State = made Closed (record s { due = Begun (Behind c x) ∷ ms }) in
       let v : State = made (Begun (Behind c x)) (record t { due = ms }) in
-      let less : state_weight v < state_weight s = rw (e, w) (omega (arith, falls.waits k fed c c x y x is)) in
-      let more : (j : Kind) → IsRead j → 1 + (weight j [] + (frame_weight + frames v.work)) + check_weight * pending_weight v.pending < state_weight s =
-      λ j h. rw (e, w) (omega (arith, falls.expanded_behind k fed c x y j is h)) in
+      let less : state_weight v < state_weight s = rw (e, w) (omega (arith, framed, falls.waits k fed c c x y x is)) in
+      let more : (j : Kind) → IsRead j → 1 + (weight j [] + (frame_weight j + frames v.work)) + check_weight * pending_weight v.pending < state_weight s =
+      λ j h. rw (e, w) (omega (arith, framed, falls.expanded_behind k fed c x y j is h)) in
       Falls (drops_expanded (state_weight s) v e less more v page y.token y.meaning (put_one y.token) (kept_none v)
       (drops_stays (state_weight s) v e less more v (put_one y.token) (kept_none v) (plain_one y.token)))
 
   module _ (c : Call) (page : Page) where
     rule_acts : (f : Effect) → ask k fed ≡ Acts c f → Rule s (acts page c f)
-    rule_acts f is = by f is (subst (λ (n : ℕ). act_weight ≤ n) (sym (ap (ask_weight (end_weight k)) is)) (falls.heavy f)) where
-      by : (f : Effect) → ask k fed ≡ Acts c f → act_weight ≤ weight k fed → Rule s (acts page c f)
-      by (effect.Obey x) is h = rule_obeyed h page x.token x.meaning
-      by (effect.Show x) is h = rule_closed h (shown page x) (refl, (refl, tt))
-      by (effect.Let n x) is h = rule_assigned h page (Assigned (is_global page c) n (meaning_to_let page.now.meanings x)) refl
-      by (effect.FutureLet n x y) is h =
-          let m : Move = Assigned (is_global page c) n (meaning_to_let page.now.meanings y) in
-          rule_closed h (put_one y.token ++ (put_one x.token ++ assigned page m)) (plain_future page x.token y.token m refl)
-      by (effect.SetNumber l value) is h = rule_assigned h page (Set (is_global page c) l (val.Number value)) refl
-      by (effect.Compute operation l number) is h = rule_computed h page c l (computed operation (integer_of (value_seen (get page.now l))) number)
-      by (effect.Shorthand n meant) is h = rule_assigned h page (Assigned (is_global page c) n (short_meaning meant)) refl
-      by effect.Unassigned is h = rule_closed h (behind_assignment page.after) (plain_behind page.after)
-      by (effect.AfterGroup x) is h = rule_closed h (kept_for_group page.group x.token) (plain_kept page.group x.token)
-      by (effect.AfterAssignment x) is h = rule_closed h (KeptForAssignment (Some x.token) ∷ []) (refl, tt)
-      by (effect.ExpandBehind x y) is h = rule_behind page c x y is
-      by (effect.PutBack x) is h = rule_closed h (put_one x.token) (plain_one x.token)
-      by (effect.PutMarked x) is h = rule_closed h (put_one (marked x.token)) (plain_one (marked x.token))
-      by (effect.MakeNumber n) is h = rule_closed h (put_characters (whole_number n)) (plain_text (made_text (whole_number n)))
-      by (effect.MakeRoman n) is h = rule_closed h (put_characters (roman n)) (plain_text (made_text (roman n)))
-      by (effect.MakeString x) is h = rule_closed h (put_characters (string_text (style_of page) x.token)) (plain_text (made_text (string_text (style_of page) x.token)))
-      by (effect.MakeMeaning x) is h = rule_closed h (put_characters (meaning_characters page x)) (plain_text (made_text (meaning_characters page x)))
-      by (effect.MakeValue l) is h =
-          rule_closed h (put_characters (value_text l (value_seen (get page.now l)))) (plain_text (made_text (value_text l (value_seen (get page.now l)))))
-      by f is h = rule_closed h [] tt
+    rule_acts f is =
+        by f is (subst (λ (n : ℕ). act_weight ≤ n) (sym (ap (ask_weight (end_weight k)) is)) (falls.heavy f)) (falls.ends k fed (subst IsLast (sym is) tt)) where
+          by : (f : Effect) → ask k fed ≡ Acts c f → act_weight ≤ weight k fed → frame_weight k ≡ act_frame → Rule s (acts page c f)
+          by (effect.Obey x) is h a = rule_obeyed h a page x.token x.meaning
+          by (effect.Show x) is h a = rule_closed h a (shown page x) (refl, (refl, tt))
+          by (effect.Let n x) is h a = rule_assigned h a page (Assigned (is_global page c) n (meaning_to_let page.now.meanings x)) refl
+          by (effect.FutureLet n x y) is h a =
+              let m : Move = Assigned (is_global page c) n (meaning_to_let page.now.meanings y) in
+              rule_closed h a (put_one y.token ++ (put_one x.token ++ assigned page m)) (plain_future page x.token y.token m refl)
+          by (effect.SetNumber l value) is h a = rule_assigned h a page (Set (is_global page c) l (val.Number value)) refl
+          by (effect.SetGlue l g) is h a = rule_assigned h a page (Set (is_global page c) l (val.Skip g)) refl
+          by (effect.Compute operation l d) is h a = rule_computed h a page c l (value_computed operation l (value_seen (get page.now l)) d)
+          by (effect.Shorthand n meant) is h a = rule_assigned h a page (Assigned (is_global page c) n (short_meaning meant)) refl
+          by effect.Unassigned is h a = rule_closed h a (behind_assignment page.after) (plain_behind page.after)
+          by (effect.AfterGroup x) is h a = rule_closed h a (kept_for_group page.group x.token) (plain_kept page.group x.token)
+          by (effect.AfterAssignment x) is h a = rule_closed h a (KeptForAssignment (Some x.token) ∷ []) (refl, tt)
+          by (effect.ExpandBehind x y) is h a = rule_behind page c x y is a
+          by (effect.PutBack x) is h a = rule_closed h a (put_one x.token) (plain_one x.token)
+          by (effect.PutMarked x) is h a = rule_closed h a (put_one (marked x.token)) (plain_one (marked x.token))
+          by (effect.MakeNumber n) is h a = rule_closed h a (put_characters (whole_number n)) (plain_text (made_text (whole_number n)))
+          by (effect.MakeRoman n) is h a = rule_closed h a (put_characters (roman n)) (plain_text (made_text (roman n)))
+          by (effect.MakeString x) is h a = rule_closed h a (put_characters (string_text (style_of page) x.token)) (plain_text (made_text (string_text (style_of page) x.token)))
+          by (effect.MakeMeaning x) is h a = rule_closed h a (put_characters (meaning_characters page x)) (plain_text (made_text (meaning_characters page x)))
+          by (effect.MakeValue l) is h a =
+              rule_closed h a (put_characters (value_text l (value_seen (get page.now l)))) (plain_text (made_text (value_text l (value_seen (get page.now l)))))
+          by f is h a = rule_closed h a [] tt
 
   -- another reading begins
   rule_inner : (j : Begins) (b : Bool) → ask k fed ≡ Inner j b → Rule s (inner_begun (Reads j) b)
@@ -658,7 +666,7 @@ module _ (falls : WeightsFall) (s : State) (k : Kind) (fed : List Fed) (rs : Lis
 
   -- it ends with a value
   falls_ended : (v : Value) (ts : List Token) → weight k fed ≡ value_weight → (u : State) → Kept s u → Drops (state_weight s) (Ended v ts ∷ []) u
-  falls_ended v ts is u h = rw (h.stopped, h.work, e, w) (omega (arith, h.pending, weight_ended falls v ts rs, is))
+  falls_ended v ts is u h = rw (h.stopped, h.work, e, w) (omega (arith, h.pending, weight_ended falls v ts rs, is, (falls.frames k).0))
 
   rule_done : (page : Page) (v : Value) (back : Bool) → weight k fed ≡ value_weight → Rule s (done page reading v back)
   rule_done page v back is =
@@ -681,6 +689,27 @@ module _ (falls : WeightsFall) (s : State) (k : Kind) (fed : List Fed) (rs : Lis
         (λ u a. drops_plain (state_weight s) u (put_inserted inserted) (reported page report (noting reading)) (plain_inserted inserted)
         (λ v b. drops_report (state_weight s) v page report (noting reading) (some_weight s e) (λ t c. falls_noting k fed t (kept_on s u t a (kept_on u v t b c))))))
 
+    -- the check of the magnification
+    falls_set : (mag : ℕ) (u : State) → Kept s u → Drops (state_weight s) (magnification_set mag (noting reading)) u
+    falls_set mag u h =
+        drops_plain (state_weight s) u (Set true (loc.Integer magnification) (val.Number (pos mag)) ∷ MagnificationSet mag ∷ []) (noting reading) (refl, (refl, tt))
+        (λ v b. falls_noting k fed v (kept_on s u v h b))
+
+    rule_legal : (page : Page) (n : ℤ) (legal : Bool) → Rule s (legal_or_not page n legal (noting reading))
+    rule_legal page n true = Falls (drops_plain (state_weight s) s (MagnificationSet (nat_abs n) ∷ []) (noting reading) (refl, tt) (λ u a. falls_noting k fed u a))
+    rule_legal page n false =
+        Falls (drops_report (state_weight s) s page (IllegalMagnification n) (magnification_set 1000 (noting reading)) (some_weight s e) (λ u a. falls_set 1000 u a))
+
+    rule_same : (page : Page) (n : ℤ) (m : ℕ) (same : Bool) →
+        Rule s (if same then noting reading else reported page (IncompatibleMagnification n m) (magnification_set m (noting reading)))
+    rule_same page n m true = Falls (falls_noting k fed s (kept_none s))
+    rule_same page n m false =
+        Falls (drops_report (state_weight s) s page (IncompatibleMagnification n m) (magnification_set m (noting reading)) (some_weight s e) (λ u a. falls_set m u a))
+
+    rule_compared : (page : Page) (n : ℤ) (mag : ℕ) → Rule s (compared page n mag (noting reading))
+    rule_compared page n zero = rule_legal page n (is_magnification n)
+    rule_compared page n (suc m) = rule_same page n (suc m) (int_eq n (pos (suc m)))
+
     rule_noting : (ms : List Move) → AllPlain ms → Rule s (ms ++ noting reading)
     rule_noting ms h = Falls (drops_plain (state_weight s) s ms (noting reading) h (λ u a. falls_noting k fed u a))
 
@@ -692,16 +721,17 @@ module _ (falls : WeightsFall) (s : State) (k : Kind) (fed : List Fed) (rs : Lis
   rule_asked (Inner j b) is = rule_inner j b is
   rule_asked (Done v back) is = rule_done (page_of s) v back (ap (ask_weight (end_weight k)) is)
   rule_asked (Acts c f) is = rule_acts c (page_of s) f is
-  rule_asked (ActsOn c f ts) is = rule_acts_in (heavy_as _ is (omega arith)) s.files (page_of s) c f ts
-  rule_asked (Defines c n ts) is = rule_defined (heavy_as _ is (omega arith)) (page_of s) c n ts
-  rule_asked Closes is = rule_closed (heavy_as _ is (omega arith)) [] tt
-  rule_asked (Calls args) is = rule_called (heavy_as _ is (omega arith)) k args
-  rule_asked (Fails report) is = Falls (falls_failed (heavy_as _ is (omega arith)) (page_of s) report s (kept_none s))
-  rule_asked (RunsAway report) is = rule_away (heavy_as _ is (omega arith)) (page_of s) report (scanning (reading ∷ rs) s.gathered)
+  rule_asked (ActsOn c f ts) is = rule_acts_in (heavy_as _ is (omega arith)) (falls.ends k fed (subst IsLast (sym is) tt)) s.files (page_of s) c f ts
+  rule_asked (Defines c n ts) is = rule_defined (heavy_as _ is (omega arith)) (falls.ends k fed (subst IsLast (sym is) tt)) (page_of s) c n ts
+  rule_asked Closes is = rule_closed (heavy_as _ is (omega arith)) (falls.ends k fed (subst IsLast (sym is) tt)) [] tt
+  rule_asked (Calls args) is = rule_called (heavy_as _ is (omega arith)) (falls.ends k fed (subst IsLast (sym is) tt)) k args
+  rule_asked (Fails report) is = Falls (falls_failed (heavy_as _ is (omega arith)) (falls.ends k fed (subst IsLast (sym is) tt)) (page_of s) report s (kept_none s))
+  rule_asked (RunsAway report) is = rule_away (heavy_as _ is (omega arith)) (falls.ends k fed (subst IsLast (sym is) tt)) (page_of s) report (scanning (reading ∷ rs) s.gathered)
   rule_asked (Tells report back) is = rule_told (subst IsNoted (sym is) tt) (page_of s) report None back
   rule_asked (Inserts t report back) is = rule_told (subst IsNoted (sym is) tt) (page_of s) report (Some t) back
   rule_asked (Puts t more) is = rule_noting (subst IsNoted (sym is) tt) (put_one t) (plain_one t)
   rule_asked (Relaxes c n) is = rule_noting (subst IsNoted (sym is) tt) (Assigned (is_global (page_of s) c) n (means.Prim relax_primitive) ∷ []) (refl, tt)
+  rule_asked Magnifies is = rule_compared (subst IsNoted (sym is) tt) (page_of s) (integer_in s.groups.now magnification) s.mag_set
   rule_asked (Fetches l) is = Falls (rw (e, w) (omega (arith, falls.fetched k fed l (value_seen (get s.groups.now l)) is)))
 
 rule_work : WeightsFall → (s : State) (work : List Reading) → s.stopped ≡ None → s.work ≡ work → Rule s (planned s work)

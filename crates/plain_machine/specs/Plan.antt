@@ -1,9 +1,10 @@
 -- The plain machine: the moves of the rule that comes next, and the next move.
-use Rattle.std.specs.Prelude.{ℕ, zero, suc, ℤ, pos, negsuc, Bool, true, false, ◌==◌, ◌||◌, List, [], ◌∷◌, ◌++◌, length, map, drop, slice_index_or, nat_lt, if◌then◌else◌, Option, Some, None}
+use Rattle.std.specs.Prelude.{ℕ, zero, suc, ℤ, pos, negsuc, nat_abs, Bool, true, false, ◌==◌, ◌||◌, List, [], ◌∷◌, ◌++◌, length, map, drop, slice_index_or, nat_lt, if◌then◌else◌, Option, Some, None}
+use Rattle.std.specs.Ordering.{int_eq}
 use Rattle.tex_syntax.specs.declared.words.Want.{Want}
 use Rattle.tex_syntax.specs.declared.words.Want.TheVariants.{Raw, Expanded, Copied, Nonblank, Command}
 use Rattle.tex_syntax.specs.declared.words.Report.{Report}
-use Rattle.tex_syntax.specs.declared.words.Report.TheVariants.{ArithmeticOverflow, UndefinedName, InvalidCharacter, FileEnded, Forbidden, ExtraEndcsname, TooManyBraces, ForgottenEndgroup, ExtraEndgroup, MissingRightBrace}
+use Rattle.tex_syntax.specs.declared.words.Report.TheVariants.{ArithmeticOverflow, UndefinedName, InvalidCharacter, FileEnded, Forbidden, ExtraEndcsname, TooManyBraces, ForgottenEndgroup, ExtraEndgroup, MissingRightBrace, IncompatibleMagnification, IllegalMagnification}
 use Rattle.tex_syntax.specs.declared.words.Scanned.{Scanned}
 use Rattle.tex_syntax.specs.declared.words.Scanned.TheVariants as scanned
 use Rattle.tex_syntax.specs.declared.words.Outcome.{Outcome}
@@ -18,6 +19,7 @@ use Rattle.tex_defs.specs.declared.Meaning.TheVariants as means
 use Rattle.tex_defs.specs.declared.Seen.{Seen}
 use Rattle.tex_defs.specs.declared.RegisterKind.{RegisterKind}
 use Rattle.equivalents.specs.declared.values.Loc.{Loc}
+use Rattle.equivalents.specs.declared.values.Loc.TheVariants as loc
 use Rattle.tex_defs.specs.declared.Fatal.TheVariants.{NoEnd, NoFile, HundredErrors}
 use Rattle.tex_defs.specs.Places.{Transcript}
 use Rattle.prim_table.specs.Primitives.{primitive_names}
@@ -26,11 +28,11 @@ use Rattle.plain_tokens.specs.Names.{name_of, means_relax, relax_primitive, par_
 use Rattle.plain_tokens.specs.Tokens.{is_space, is_outer, is_undefined, space_token, made_text, character_codes}
 use Rattle.plain_tokens.specs.Meanings.{name_meaning, met as met_token, meaning_to_let, seen_as}
 use Rattle.equivalents.specs.declared.values.Val.TheVariants as val
-use Rattle.equivalents.specs.First.{global_definitions}
+use Rattle.equivalents.specs.First.{global_definitions, magnification}
 use Rattle.save_stack.specs.declared.GroupKind.{GroupKind}
 use Rattle.save_stack.specs.declared.GroupKind.TheVariants.{Simple, SemiSimple}
 use Rattle.equivalents.specs.Groups.{Groups, depth, kind_of, tokens_after}
-use Rattle.equivalents.specs.Locations.{value_seen}
+use Rattle.equivalents.specs.Locations.{V, SeenValue, zero_value, value_seen}
 use Rattle.equivalents.specs.Tables.{Tables, get}
 use Rattle.plain_tokens.specs.Puts.{Item, Put as PutList, call_put}
 use Rattle.plain_tokens.specs.Lookup.{token_of, new_name, name_among, new_among}
@@ -53,18 +55,18 @@ use Rattle.rows.specs.declared.command.Call.{Call}
 use Rattle.rows.specs.declared.command.Effect.{Effect}
 use Rattle.rows.specs.declared.command.Effect.TheVariants as effect
 use Rattle.rows.specs.Table.{has_row}
-use Rattle.rows.specs.Arithmetic.{computed}
-use Rattle.rows.specs.Internal.{integer_of, value_text}
-use Rattle.rows.specs.Readings.{Fed, Tok, Told, Cut, Fetched, Ask, More, Inner, Done, Acts, ActsOn, Defines, Ends as Closes, Calls, Fails, RunsAway, Tells, Inserts, Puts, Relaxes, Fetches}
+use Rattle.rows.specs.Arithmetic.{value_computed}
+use Rattle.rows.specs.Internal.{value_text}
+use Rattle.rows.specs.Readings.{Fed, Tok, Told, Cut, Fetched, Ask, More, Inner, Done, Acts, ActsOn, Defines, Ends as Closes, Calls, Fails, RunsAway, Tells, Inserts, Puts, Relaxes, Fetches, Magnifies}
 use Rattle.plain_readings.specs.Calls.{gathered, par_token}
 use Rattle.plain_readings.specs.Spelling.{endcsname_primitive}
 use Rattle.plain_readings.specs.Readings.{Kind, Reads, Spelling, FileName, Arguments, Behind, Reading, ask, lists}
 use Rattle.plain_readings.specs.Scanning.{Scanning, scanning}
 use Rattle.equivalents.specs.Parameters.{integer_in, style_in}
-use Rattle.plain_machine.specs.States.{Move, Handed, Taken, FirstTaken, Settled, Skipped, FileClosed, FileEnds, FileOpened, Spelt, NameInProgress, Files, Entered, Kept, Grows, Feeds, Completed, Opened, ListBegun, ListGrown, Put, ListDropped, Called, CalledWith, Set, Assigned, Defined, GroupOpened, GroupClosed, KeptForGroup, KeptForAssignment, Written, Begun, BegunWith, Ended, Closed, Reported, Flawed, Stopped, State, no_token, made}
+use Rattle.plain_machine.specs.States.{Move, Handed, Taken, FirstTaken, Settled, Skipped, FileClosed, FileEnds, FileOpened, Spelt, NameInProgress, Files, Entered, Kept, Grows, Feeds, Completed, Opened, ListBegun, ListGrown, Put, ListDropped, Called, CalledWith, Set, Assigned, Defined, GroupOpened, GroupClosed, KeptForGroup, KeptForAssignment, MagnificationSet, Written, Begun, BegunWith, Ended, Closed, Reported, Flawed, Stopped, State, no_token, made}
 
 -- What the moves of a rule depend on: what stands at all locations, how many groups are open, the kind of the innermost and the tokens that come after it
--- (the last first), the token that comes behind the next assignment, the names entered, the job's name, the macros' lists, the token
+-- (the last first), the token that comes behind the next assignment, the magnification that is set for good, the names entered, the job's name, the macros' lists, the token
 -- that a reading was fed with last, whether a file's name is being read, whether the transcript's column isn't 0, the number of the line that is read, the reports so far, and
 -- whether token lines are left out.
 pub record Page : Type 0 where
@@ -73,6 +75,7 @@ pub record Page : Type 0 where
   pub group : Option GroupKind
   pub tokens : List Token
   pub after : Option Token
+  pub mag_set : ℕ
   pub names : List (List ℕ)
   pub strings : List (List ℕ)
   pub macros : List (List Token)
@@ -90,6 +93,7 @@ page_of s = record {
   group = kind_of s.groups;
   tokens = tokens_after s.groups;
   after = s.after;
+  mag_set = s.mag_set;
   names = s.names;
   strings = s.strings;
   macros = s.macros;
@@ -546,9 +550,15 @@ abbrev pub kept_for_group : Option GroupKind → Token → List Move
 kept_for_group None t = []
 kept_for_group (Some kind) t = KeptForGroup t ∷ []
 
+-- a number or glue, as a location has it
+abbrev pub number_or_glue : SeenValue → V
+number_or_glue (val.Number n) = val.Number n
+number_or_glue (val.Skip g) = val.Skip g
+number_or_glue v = zero_value
+
 -- what arithmetic comes to; a result that is out of bounds is reported, and nothing assigned
-abbrev pub computed_to : Page → Call → Loc → Option ℤ → List Move
-computed_to page c l (Some n) = and_closed (assigned page (Set (is_global page c) l (val.Number n)))
+abbrev pub computed_to : Page → Call → Loc → Option SeenValue → List Move
+computed_to page c l (Some v) = and_closed (assigned page (Set (is_global page c) l (number_or_glue v)))
 computed_to page c l None = reported page ArithmeticOverflow (and_closed (behind_assignment page.after))
 
 -- what a name means that a shorthand definition defines
@@ -563,7 +573,8 @@ acts page c (effect.Show x) = and_closed (shown page x)
 acts page c (effect.Let n x) = and_closed (assigned page (Assigned (is_global page c) n (meaning_to_let page.now.meanings x)))
 acts page c (effect.FutureLet n x y) = and_closed (put_one y.token ++ (put_one x.token ++ assigned page (Assigned (is_global page c) n (meaning_to_let page.now.meanings y))))
 acts page c (effect.SetNumber l value) = and_closed (assigned page (Set (is_global page c) l (val.Number value)))
-acts page c (effect.Compute operation l n) = computed_to page c l (computed operation (integer_of (value_seen (get page.now l))) n)
+acts page c (effect.SetGlue l g) = and_closed (assigned page (Set (is_global page c) l (val.Skip g)))
+acts page c (effect.Compute operation l d) = computed_to page c l (value_computed operation l (value_seen (get page.now l)) d)
 acts page c (effect.Shorthand n s) = and_closed (assigned page (Assigned (is_global page c) n (short_meaning s)))
 acts page c effect.Unassigned = and_closed (behind_assignment page.after)
 acts page c (effect.AfterGroup x) = and_closed (kept_for_group page.group x.token)
@@ -633,6 +644,29 @@ abbrev pub acts_in : Files → Page → Call → Effect → List Token → List 
 acts_in files page c (effect.StartInput back) ts = input_begun files page back (file_name (character_codes ts))
 acts_in files page c e ts = acts_on page c e ts
 
+-- THE MAGNIFICATION is checked: where it isn't what was set for good, that stands again, in all groups; and one that isn't from 1 to 32768 is 1000
+-- there. Then it is set for good.
+
+abbrev pub is_magnification : ℤ → Bool
+is_magnification (pos zero) = false
+is_magnification (pos (suc n)) = nat_lt n 32768
+is_magnification (negsuc n) = false
+
+abbrev pub magnification_set : (mag : ℕ) → List Move → List Move
+magnification_set mag rest = Set true (loc.Integer magnification) (val.Number (pos mag)) ∷ MagnificationSet mag ∷ rest
+
+abbrev pub legal_or_not : Page → ℤ → (legal : Bool) → List Move → List Move
+legal_or_not page n true rest = MagnificationSet (nat_abs n) ∷ rest
+legal_or_not page n false rest = reported page (IllegalMagnification n) (magnification_set 1000 rest)
+
+abbrev pub compared : Page → ℤ → (mag_set : ℕ) → List Move → List Move
+compared page n zero rest = legal_or_not page n (is_magnification n) rest
+compared page n (suc m) rest =
+    if int_eq n (pos (suc m)) then rest else reported page (IncompatibleMagnification n (suc m)) (magnification_set (suc m) rest)
+
+abbrev pub magnification_checked : Page → List Move → List Move
+magnification_checked page rest = compared page (integer_in page.now magnification) page.mag_set rest
+
 -- WHAT COMES OF AN ANSWER
 abbrev pub answered : State → List Reading → Reading → Ask → List Move
 answered s work r (More want) = handed (page_of s) (enters_names want) (scanning work s.gathered) (λ x. wanted (page_of s) want (feeding r x) x) (pulled s.groups.now.categories s.pending)
@@ -649,6 +683,7 @@ answered s work r (Tells report back) = told (page_of s) report None back r
 answered s work r (Inserts t report back) = told (page_of s) report (Some t) back r
 answered s work r (Puts t more) = put_one t ++ noting r
 answered s work r (Relaxes c n) = Assigned (is_global (page_of s) c) n (means.Prim relax_primitive) ∷ noting r
+answered s work r Magnifies = magnification_checked (page_of s) (noting r)
 answered s work r (Fetches l) = Feeds (Fetched (value_seen (get s.groups.now l))) ∷ []
 
 abbrev pub planned : State → List Reading → List Move
@@ -720,6 +755,7 @@ first_state groups quiet file job files = record {
   strings = [];
   macros = [];
   after = None;
+  mag_set = 0;
   last = no_token;
   work = [];
   gathered = [];

@@ -68,6 +68,8 @@ pub data Move : Type 0 where
   KeptForGroup : Token → Move
   -- the token that comes behind the next assignment, or none
   KeptForAssignment : Option Token → Move
+  -- the magnification is set for good: TeX's `mag_set`
+  MagnificationSet : ℕ → Move
   Written : Place → List ℕ → Move
   -- a reading begun, and with it the lists that it builds; one begun with the token that the one beneath looked at
   Begun : Kind → Move
@@ -107,6 +109,8 @@ pub record State : Type 0 where
   pub macros : List (List Token)
   -- the token that `\afterassignment` keeps
   pub after : Option Token
+  -- the magnification that a check has set for good, or 0 before the first: TeX's `mag_set`
+  pub mag_set : ℕ
   -- the token that a reading was fed with last
   pub last : Seen
   -- the open readings, innermost first, and the lists that they hold, the innermost reading's last list first
@@ -201,6 +205,7 @@ made (GroupOpened kind) s = record s { groups = group_opened s.groups kind }
 made GroupClosed s = record s { groups = group_closed s.groups }
 made (KeptForGroup t) s = record s { groups = with_token s.groups t }
 made (KeptForAssignment after) s = record s { after = after }
+made (MagnificationSet n) s = record s { mag_set = n }
 made (Written p bs) s = record s { in_line = column_after p s.in_line bs }
 made (Begun k) s = record s { work = opened k s.work; gathered = lists k [] ++ s.gathered }
 made (BegunWith k) s = record s { work = opened_with k (Tok s.last) s.work; gathered = lists k (Tok s.last ∷ []) ++ s.gathered }

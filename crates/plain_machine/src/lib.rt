@@ -578,6 +578,57 @@ pub fn worked_internal_integers()
     ensures saved_once { Fits (record default_sizes { save_size = 2 }) (first_line_usual ++ codes "{\\count1=5 \\count1=6 }\\end") }
 {}
 
+/// The machine run on small files with dimensions and glue: units, factors, stretch and shrink, some of them within small sizes.
+pub fn worked_dimensions()
+    ensures points { RunsSo (first_line_usual ++ codes "\\parindent=1pt \\end\n") (codes "") 41 Finished }
+    ensures scaled_points { RunsSo (first_line_usual ++ codes "\\parindent=1sp \\end\n") (codes "") 49 Finished }
+    ensures fraction { RunsSo (first_line_usual ++ codes "\\parindent=1.5pt \\end\n") (codes "") 43 Finished }
+    ensures half_of_a_dimension { RunsSo (first_line_usual ++ codes "\\parindent=.5\\hsize\\end\n") (codes "") 36 Finished }
+    ensures twice_a_dimension { RunsSo (first_line_usual ++ codes "\\parindent=2\\hsize\\end\n") (codes "") 36 Finished }
+    ensures factor_of_a_register { RunsSo (first_line_usual ++ codes "\\dimen1=\\count1pt \\end\n") (codes "") 44 Finished }
+    ensures infinite_stretch { RunsSo (first_line_usual ++ codes "\\parskip=1pt plus 1fil \\end\n") (codes "") 55 Finished }
+    ensures infinite_stretch_with_a_fraction { RunsSo (first_line_usual ++ codes "\\parskip=1pt plus1.5fil \\end\n") (codes "") 56 Finished }
+    ensures glue_of_a_parameter { RunsSo (first_line_usual ++ codes "\\parskip=\\baselineskip\\end\n") (codes "") 34 Finished }
+    ensures units { Writes (first_line_usual ++ codes "\\dimen1=1in\\dimen2=1cm\\message{\\the\\dimen1,\\the\\dimen2}\\end\n") (codes "72.26999pt,28.45274pt\n") Finished }
+    ensures no_font { Writes (first_line_usual ++ codes "\\dimen1=1em\\dimen2=1ex\\message{\\the\\dimen1,\\the\\dimen2}\\end\n") (codes "0.0pt,0.0pt\n") Finished }
+    ensures too_large { Writes (first_line_usual ++ codes "\\dimen1=-16384pt \\message{\\the\\dimen1}\\end\n") (codes "! Dimension too large.\nl.2\n-16383.99998pt\n") Finished }
+    ensures no_unit { Writes (first_line_usual ++ codes "\\dimen1=1\\message{\\the\\dimen1}\\end\n") (codes "! Illegal unit of measure (pt inserted).\nl.2\n1.0pt\n") Finished }
+    ensures no_number { Writes (first_line_usual ++ codes "\\dimen1=x\\message{\\the\\dimen1}\\end\n") (codes "! Missing number, treated as zero.\nl.2\n! Illegal unit of measure (pt inserted).\nl.2\n{the letter x}\n0.0pt\n") Finished }
+    ensures glue_turned { Writes (first_line_usual ++ codes "\\skip1=3pt plus-1fil\\skip2=-\\skip1\\message{\\the\\skip2}\\end\n") (codes "-3.0pt plus 1.0fil\n") Finished }
+    ensures width_of_glue { Writes (first_line_usual ++ codes "\\skip1=3pt plus1fil\\dimen1=\\skip1\\count1=\\skip1\\message{\\the\\dimen1,\\the\\count1}\\end\n") (codes "3.0pt,196608\n") Finished }
+    ensures incompatible { Writes (first_line_usual ++ codes "\\skip1=2pt\\muskip1=\\skip1\\message{\\the\\muskip1}\\end\n") (codes "! Incompatible glue units.\nl.2\n2.0mu\n") Finished }
+    ensures bad_register { Writes (first_line_usual ++ codes "\\dimen256=1pt \\message{\\the\\dimen0}\\end\n") (codes "! Bad register code (256).\nl.2\n1.0pt\n") Finished }
+    ensures behind_a_dimension { Writes (first_line_usual ++ codes "\\afterassignment x\\dimen1=1pt y\\end\n") (codes "{the letter x}\n{the letter y}\n") Finished }
+    ensures taken_back { Writes (first_line_usual ++ codes "\\hsize=1pt {\\hsize=2pt \\parskip=3pt\\message{\\the\\hsize}}\\message{\\the\\hsize,\\the\\parskip}\\end\n") (codes "2.0pt 1.0pt,0.0pt\n") Finished }
+    ensures globally { Writes (first_line_usual ++ codes "{\\global\\hsize=2pt \\global\\parskip=3pt}\\message{\\the\\hsize,\\the\\parskip}\\end\n") (codes "2.0pt,3.0pt\n") Finished }
+    ensures depth { Fills (record default_sizes { expansion_depth = 3 }) (first_line_usual ++ codes "\\parskip=1pt \\end") (record { table = ExpansionDepth; used = 3; size = 3 }) }
+    ensures depth_fits { Fits (record default_sizes { expansion_depth = 4 }) (first_line_usual ++ codes "\\parskip=1pt \\end") }
+    ensures saved_value { Fills (record default_sizes { save_size = 1 }) (first_line_usual ++ codes "{\\dimen1=1pt ") (record { table = SaveSize; used = 1; size = 1 }) }
+    ensures saved_once { Fits (record default_sizes { save_size = 2 }) (first_line_usual ++ codes "{\\dimen1=1pt \\dimen1=2pt }\\end") }
+{}
+
+/// The machine run on small files that check the magnification, by units behind `true`.
+pub fn worked_magnification()
+    ensures without_a_step { RunsSo (first_line_usual ++ codes "\\parindent=1truept \\end\n") (codes "") 44 Finished }
+    ensures set { Writes (first_line_usual ++ codes "\\mag=2000 \\dimen1=1truept \\message{\\the\\dimen1,\\the\\mag}\\end\n") (codes "0.5pt,2000\n") Finished }
+    ensures same_again { Writes (first_line_usual ++ codes "\\mag=2000 \\dimen1=1truept \\dimen1=2truept \\message{\\the\\dimen1,\\the\\mag}\\end\n") (codes "1.0pt,2000\n") Finished }
+    ensures another { Writes (first_line_usual ++ codes "\\mag=2000 \\dimen1=1truept \\mag=500 \\dimen1=2truept \\message{\\the\\dimen1,\\the\\mag}\\end\n") (codes "! Incompatible magnification (500);\n the previous value will be retained (2000).\nl.2\n1.0pt,2000\n") Finished }
+    ensures another_than_the_first_value { Writes (first_line_usual ++ codes "\\dimen1=1truept \\mag=2000 \\dimen1=1truept \\message{\\the\\dimen1,\\the\\mag}\\end\n") (codes "! Incompatible magnification (2000);\n the previous value will be retained (1000).\nl.2\n1.0pt,1000\n") Finished }
+    ensures another_below_zero { Writes (first_line_usual ++ codes "\\dimen1=1truept \\mag=-5 \\dimen1=1truept \\message{\\the\\mag}\\end\n") (codes "! Incompatible magnification (-5);\n the previous value will be retained (1000).\nl.2\n1000\n") Finished }
+    ensures set_back_globally { Writes (first_line_usual ++ codes "\\mag=2000 \\dimen1=1truept \\mag=3000 {\\dimen1=1truept }\\message{\\the\\mag}\\end\n") (codes "! Incompatible magnification (3000);\n the previous value will be retained (2000).\nl.2\n2000\n") Finished }
+    ensures zero { Writes (first_line_usual ++ codes "\\mag=0 \\dimen1=1truept \\message{\\the\\dimen1,\\the\\mag}\\end\n") (codes "! Illegal magnification has been changed to 1000 (0).\nl.2\n1.0pt,1000\n") Finished }
+    ensures too_great { Writes (first_line_usual ++ codes "\\mag=32769 \\dimen1=1truept \\message{\\the\\dimen1,\\the\\mag}\\end\n") (codes "! Illegal magnification has been changed to 1000 (32769).\nl.2\n1.0pt,1000\n") Finished }
+    ensures below_zero { Writes (first_line_usual ++ codes "\\mag=-1 \\dimen1=1truept \\message{\\the\\dimen1,\\the\\mag}\\end\n") (codes "! Illegal magnification has been changed to 1000 (-1).\nl.2\n1.0pt,1000\n") Finished }
+    ensures greatest { Writes (first_line_usual ++ codes "\\mag=32768 \\dimen1=1truept \\message{\\the\\dimen1,\\the\\mag}\\end\n") (codes "0.03052pt,32768\n") Finished }
+    ensures least { Writes (first_line_usual ++ codes "\\mag=1 \\dimen1=1truesp \\message{\\number\\dimen1,\\the\\mag}\\end\n") (codes "1000,1\n") Finished }
+    ensures changed_globally { Writes (first_line_usual ++ codes "\\globaldefs=-1 \\mag=0 {\\dimen1=1truept }\\message{\\the\\mag}\\end\n") (codes "! Illegal magnification has been changed to 1000 (0).\nl.2\n1000\n") Finished }
+    ensures another_behind_an_illegal_one { Writes (first_line_usual ++ codes "\\mag=0 \\dimen1=1truept \\mag=2000 \\dimen1=1truept \\message{\\the\\mag}\\end\n") (codes "! Illegal magnification has been changed to 1000 (0).\nl.2\n! Incompatible magnification (2000);\n the previous value will be retained (1000).\nl.2\n1000\n") Finished }
+    ensures set_in_a_group { Writes (first_line_usual ++ codes "{\\mag=2000 \\dimen1=1truept }\\dimen1=1truept \\message{\\the\\dimen1,\\the\\mag}\\end\n") (codes "! Incompatible magnification (1000);\n the previous value will be retained (2000).\nl.2\n0.5pt,2000\n") Finished }
+    ensures not_checked { Writes (first_line_usual ++ codes "\\mag=0 \\dimen1=1pt \\message{\\the\\dimen1,\\the\\mag}\\end\n") (codes "1.0pt,0\n") Finished }
+    ensures in_glue { Writes (first_line_usual ++ codes "\\mag=2000 \\skip1=1pt plus1truept \\message{\\the\\skip1,\\the\\mag}\\end\n") (codes "1.0pt plus 0.5pt,2000\n") Finished }
+    ensures no_value_saved { Fits (record default_sizes { save_size = 1 }) (first_line_usual ++ codes "\\mag=0 {\\global\\dimen1=1truept }\\end") }
+{}
+
 /// The machine run on small files with arithmetic on registers and parameters, and its optional keyword.
 pub fn worked_arithmetic()
     ensures advance { RunsSo (first_line_usual ++ codes "\\count1=5 \\advance\\count1 by2 \\message{\\the\\count1}\\end\n") (codes "7\n") 53 Finished }
@@ -607,6 +658,20 @@ pub fn worked_arithmetic()
     ensures no_variable { RunsSo (first_line_usual ++ codes "\\count1=5 \\advance\\relax\\count1=6 \\message{\\the\\count1}\\end\n") (codes "! You can't use `\\relax' after \\advance.\nl.2\n6\n") 53 Finished }
     ensures behind_no_variable { Writes (first_line_usual ++ codes "\\afterassignment x\\multiply\\relax y\\end\n") (codes "! You can't use `\\relax' after \\multiply.\nl.2\n{the letter x}\n{the letter y}\n") Finished }
     ensures escape_character { Writes (first_line_usual ++ codes "\\escapechar=64 \\divide\\relax\\end\n") (codes "! You can't use `@relax' after @divide.\nl.2\n") Finished }
+    ensures dimension { RunsSo (first_line_usual ++ codes "\\dimen1=1pt \\advance\\dimen1 by.5pt \\message{\\the\\dimen1}\\end\n") (codes "1.5pt\n") 69 Finished }
+    ensures dimension_without_by { Writes (first_line_usual ++ codes "\\hsize=1pt \\advance\\hsize 2pt \\message{\\the\\hsize}\\end\n") (codes "3.0pt\n") Finished }
+    ensures dimension_divided { Writes (first_line_usual ++ codes "\\dimen1=-7sp \\divide\\dimen1 by2 \\message{\\number\\dimen1}\\end\n") (codes "-3\n") Finished }
+    ensures product_of_a_dimension_too_large { Writes (first_line_usual ++ codes "\\dimen1=16383pt \\multiply\\dimen1 by2 \\message{\\the\\dimen1}\\end\n") (codes "! Arithmetic overflow.\nl.2\n16383.0pt\n") Finished }
+    ensures sum_of_dimensions { Writes (first_line_usual ++ codes "\\dimen1=16383pt \\advance\\dimen1 by\\dimen1 \\message{\\the\\dimen1}\\end\n") (codes "32766.0pt\n") Finished }
+    ensures sum_of_dimensions_too_great { Writes (first_line_usual ++ codes "\\dimen1=16383.9pt \\advance\\dimen1 \\dimen1 \\advance\\dimen1 \\dimen1 \\message{\\the\\dimen1}\\end\n") (codes "! Dimension too large.\nl.2\n! Arithmetic overflow.\nl.2\n32767.79999pt\n") Finished }
+    ensures glue { Writes (first_line_usual ++ codes "\\skip1=1pt plus1fil\\advance\\skip1 by2pt plus3fill\\message{\\the\\skip1}\\end\n") (codes "3.0pt plus 3.0fill\n") Finished }
+    ensures glue_of_equal_orders { Writes (first_line_usual ++ codes "\\skip1=1pt minus2fil\\advance\\skip1 1pt minus1fil\\message{\\the\\skip1}\\end\n") (codes "2.0pt minus 3.0fil\n") Finished }
+    ensures glue_with_a_part_of_zero { Writes (first_line_usual ++ codes "\\skip1=1pt plus1fil \\advance\\skip1 by1pt plus0fill \\message{\\the\\skip1}\\end\n") (codes "2.0pt plus 1.0fil\n") Finished }
+    ensures glue_multiplied { Writes (first_line_usual ++ codes "\\parskip=1pt plus2fil \\multiply\\parskip by-2 \\message{\\the\\parskip}\\end\n") (codes "-2.0pt plus -4.0fil\n") Finished }
+    ensures product_of_glue_too_large { Writes (first_line_usual ++ codes "\\skip1=1pt plus16383fil \\multiply\\skip1 by2 \\message{\\the\\skip1}\\end\n") (codes "! Arithmetic overflow.\nl.2\n1.0pt plus 16383.0fil\n") Finished }
+    ensures glue_divided { Writes (first_line_usual ++ codes "\\skip1=1pt plus-.00011pt\\divide\\skip1 2 \\message{\\the\\skip1}\\end\n") (codes "0.5pt plus -0.00005pt\n") Finished }
+    ensures glue_divided_by_zero { Writes (first_line_usual ++ codes "\\skip1=1pt \\divide\\skip1 by0 \\message{\\the\\skip1}\\end\n") (codes "! Arithmetic overflow.\nl.2\n1.0pt\n") Finished }
+    ensures glue_in_mu { Writes (first_line_usual ++ codes "\\muskip1=18mu \\advance\\muskip1 by2mu plus1fil\\message{\\the\\muskip1}\\end\n") (codes "20.0mu plus 1.0fil\n") Finished }
     ensures depth { Fills (record default_sizes { expansion_depth = 2 }) (first_line_usual ++ codes "\\advance\\count\\count1 by2 \\end") (record { table = ExpansionDepth; used = 2; size = 2 }) }
     ensures depth_fits { Fits (record default_sizes { expansion_depth = 3 }) (first_line_usual ++ codes "\\advance\\count\\count1 by2 \\end") }
     ensures levels_of_a_keyword { Fills (record default_sizes { input_stack_size = 2 }) (first_line_usual ++ codes "\\advance\\count1 b2 \\end") (record { table = InputStackSize; used = 2; size = 2 }) }
@@ -624,6 +689,9 @@ pub fn worked_shorthands()
     ensures behind_a_register { Writes (first_line_usual ++ codes "\\countdef\\x=5 \\afterassignment a\\x=7b\\end\n") (codes "{the letter a}\n{the letter b}\n") Finished }
     ensures register_let { Writes (first_line_usual ++ codes "\\countdef\\x=3 \\let\\y=\\x \\y=4 \\message{\\the\\count3,\\meaning\\y}\\end\n") (codes "4,\\count3\n") Finished }
     ensures register_shown { Writes (first_line_usual ++ codes "\\countdef\\x=5 \\show\\x\\end\n") (codes "> \\x=\\count5.\nl.2\n") Finished }
+    ensures dimension { Writes (first_line_usual ++ codes "\\dimendef\\x=5 \\x=7pt \\message{\\the\\dimen5,\\meaning\\x}\\end\n") (codes "7.0pt,\\dimen5\n") Finished }
+    ensures glue { Writes (first_line_usual ++ codes "\\skipdef\\x=5 \\x=7pt plus1fil\\message{\\the\\skip5,\\meaning\\x}\\end\n") (codes "7.0pt plus 1.0fil,\\skip5\n") Finished }
+    ensures glue_in_mu { Writes (first_line_usual ++ codes "\\muskipdef\\x=5 \\x=7mu\\message{\\the\\muskip5,\\meaning\\x}\\end\n") (codes "7.0mu,\\muskip5\n") Finished }
     ensures character { RunsSo (first_line_usual ++ codes "\\chardef\\a=65 \\message{\\the\\a}\\end\n") (codes "65\n") 44 Finished }
     ensures character_meant { Writes (first_line_usual ++ codes "\\chardef\\a=65 \\message{\\meaning\\a}\\end\n") (codes "\\char\"41\n") Finished }
     ensures character_typeset { RunsSo (first_line_usual ++ codes "\\chardef\\a=65 \\a\\end\n") (codes "{\\char\"41}\n") 38 Finished }
@@ -650,6 +718,11 @@ pub fn worked_shorthands()
 pub fn worked_values()
     ensures codes_and_parameters { Writes (first_line_usual ++ codes "\\message{\\the\\catcode65,\\the\\endlinechar,\\the\\lccode`A,\\the\\delcode`a}\\end\n") (codes "11,13,97,-1\n") Finished }
     ensures negative { Writes (first_line_usual ++ codes "\\count1=-5 \\message{\\the\\count1}\\end\n") (codes "-5\n") Finished }
+    ensures dimension { Writes (first_line_usual ++ codes "\\hsize=-1.5pt \\message{\\the\\hsize}\\end\n") (codes "-1.5pt\n") Finished }
+    ensures dimension_in_scaled_points { Writes (first_line_usual ++ codes "\\hsize=3sp \\message{\\the\\hsize,\\number\\hsize}\\end\n") (codes "0.00005pt,3\n") Finished }
+    ensures glue { Writes (first_line_usual ++ codes "\\skip1=1pt plus-2pt minus3filll\\message{\\the\\skip1}\\end\n") (codes "1.0pt plus -2.0pt minus 3.0filll\n") Finished }
+    ensures glue_in_mu { Writes (first_line_usual ++ codes "\\thinmuskip=3mu minus1mu\\message{\\the\\thinmuskip}\\end\n") (codes "3.0mu minus 1.0mu\n") Finished }
+    ensures first_dimension_and_glue { Writes (first_line_usual ++ codes "\\message{\\the\\hsize,\\the\\parskip,\\the\\thinmuskip,\\the\\dimen1}\\end\n") (codes "0.0pt,0.0pt,0.0mu,0.0pt\n") Finished }
     ensures in_an_expanded_body { RunsSo (first_line_usual ++ codes "\\count1=5 \\edef\\b{\\the\\count1}\\count1=6 \\message{\\b}\\end\n") (codes "5\n") 57 Finished }
     ensures behind_expandafter { Writes (first_line_usual ++ codes "\\count1=5 \\expandafter\\def\\expandafter\\b\\expandafter{\\the\\count1}\\count1=6 \\message{\\b}\\end\n") (codes "5\n") Finished }
     ensures as_a_number { Writes (first_line_usual ++ codes "\\count1=12 \\count\\the\\count1=3 \\message{\\the\\count12 }\\end\n") (codes "3\n") Finished }

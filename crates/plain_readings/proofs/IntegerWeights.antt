@@ -14,7 +14,7 @@ use Rattle.rows.specs.declared.internal.Internal.{Internal}
 use Rattle.rows.specs.declared.internal.Internal.TheVariants as internal
 use Rattle.rows.specs.Tokens.{is_at_most}
 use Rattle.rows.specs.Internal.{byte_of, location_in, internal_of, integer_of, with_sign, is_mu}
-use Rattle.rows.specs.Readings.{Fed, Tok, Val, Told, Fetched, Ask, Tells, Inserts, Puts, Relaxes, Fetches}
+use Rattle.rows.specs.Readings.{Fed, Tok, Val, Told, Fetched, Ask, Tells, Inserts, Puts, Relaxes, Fetches, Magnifies}
 use Rattle.plain_readings.specs.Integers.{is_digit, digit_of, is_minus, is_plus, greatest_integer, digits_dropped, too_big, digits, missing, first_digit, behind_number, behind_code, constant, code_of, improper_code, signed, mu_found, fetched, bad_numbered, with_number, numbered, internal_integer, by_meaning, unsigned, integer}
 use Rattle.plain_readings.specs.Weights.{value_weight, ask_weight}
 
@@ -24,6 +24,7 @@ Wants (Tells report back) Told = Unit {0}
 Wants (Inserts t report back) Told = Unit {0}
 Wants (Puts t more) Told = Unit {0}
 Wants (Relaxes c n) Told = Unit {0}
+Wants Magnifies Told = Unit {0}
 Wants (Fetches l) (Fetched v) = Unit {0}
 Wants a y = ⊥
 
@@ -146,3 +147,19 @@ module _ (y : Fed) where
   integer_falls negative (Tok x ∷ fed) =
       falls_if y (is_minus x) _ _ _ _ (integer_falls (not negative) fed) (falls_if y (is_plus x) _ _ _ _ (integer_falls negative fed) (unsigned_falls negative x fed))
   integer_falls negative (z ∷ fed) = λ h. absurd h
+
+-- AN INTEGER THAT BEGAN WITH A TOKEN may report that no number is there, or ask for what stands at a location
+
+meaning_light : (negative : Bool) (o : Option Internal) (x : Seen) → ask_weight value_weight (by_meaning negative o x []) < 60
+meaning_light negative (Some (internal.Given n)) x = omega arith
+meaning_light negative (Some (internal.At l)) x = omega arith
+meaning_light negative (Some (internal.Numbered b)) x = omega arith
+meaning_light negative None x = light_if (is_digit 10 x) _ _ _ (omega arith) (omega arith)
+
+pub integer_light : (x : Seen) → ask_weight value_weight (integer false (Tok x ∷ [])) < 60
+integer_light x =
+    light_if (is_minus x) _ _ _ (omega arith)
+    (light_if (is_plus x) _ _ _ (omega arith)
+    (light_if (is_other 96 x.token) _ _ _ (omega arith)
+    (light_if (is_other 39 x.token) _ _ _ (omega arith)
+    (light_if (is_other 34 x.token) _ _ _ (omega arith) (meaning_light false (internal_of x.meaning) x)))))

@@ -87,18 +87,18 @@ from_falls (c ∷ cs) ts want (y ∷ fed) = λ h. absurd h
 pub keyword_falls : (w : Keyword) (fed : List Fed) → IsNoted (keyword w fed) → ask_weight value_weight (keyword w (fed ++ Told ∷ [])) < ask_weight value_weight (keyword w fed)
 keyword_falls w fed = from_falls (letters w) [] Nonblank fed
 
-light_if : (c : Bool) (p q : Ask) → ask_weight value_weight p ≤ 19 → ask_weight value_weight q ≤ 19 → ask_weight value_weight (if c then p else q) ≤ 19
+light_if : (c : Bool) (p q : Ask) → ask_weight value_weight p ≤ 59 → ask_weight value_weight q ≤ 59 → ask_weight value_weight (if c then p else q) ≤ 59
 light_if true p q h i = h
 light_if false p q h i = i
 
-more_light : (cs : List ℕ) (ts : List Token) → ask_weight value_weight (keyword_from cs ts Expanded []) ≤ 19
+more_light : (cs : List ℕ) (ts : List Token) → ask_weight value_weight (keyword_from cs ts Expanded []) ≤ 59
 more_light [] ts = omega arith
 more_light (c ∷ cs) ts = omega arith
 
-from_light : (cs : List ℕ) (x : Seen) → ask_weight value_weight (keyword_from cs [] Nonblank (Tok x ∷ [])) ≤ 19
+from_light : (cs : List ℕ) (x : Seen) → ask_weight value_weight (keyword_from cs [] Nonblank (Tok x ∷ [])) ≤ 59
 from_light [] x = omega arith
 from_light (c ∷ cs) x = light_if (is_letter c x.token) _ _ (more_light cs (x.token ∷ [])) (omega arith)
 
 -- one that began with a token puts back that one alone
-pub keyword_light : (w : Keyword) (x : Seen) → ask_weight value_weight (keyword w (Tok x ∷ [])) ≤ 19
+pub keyword_light : (w : Keyword) (x : Seen) → ask_weight value_weight (keyword w (Tok x ∷ [])) ≤ 59
 keyword_light w x = from_light (letters w) x

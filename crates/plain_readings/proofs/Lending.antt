@@ -1,11 +1,12 @@
--- Only commands begin inner readings, and with a token only directly behind it.
+-- A reading begins another with a token only directly behind it.
 use Rattle.std.proofs.Common.{Bool, true, false, List, [], ◌∷◌}
 use Rattle.tex_defs.specs.declared.Name.{Name}
 use Rattle.plain_tokens.specs.Arguments as call
 use Rattle.plain_state.specs.Definitions as build
 use Rattle.tex_syntax.specs.declared.words.Want.TheVariants.{Nonblank}
-use Rattle.rows.specs.declared.words.Kind.TheVariants.{Command, Integer, Keyword, Text, Definition}
+use Rattle.rows.specs.declared.words.Kind.TheVariants.{Command, Integer, Factor, Dimension, Glue, Keyword, Text, Definition}
 use Rattle.rows.specs.Readings.{Fed}
+use Rattle.plain_readings.specs.Integers.{integer}
 use Rattle.plain_readings.specs.Lists.{build_ask, text, definition}
 use Rattle.plain_readings.specs.Calls.{call_ask, gathered}
 use Rattle.plain_readings.specs.Readings.{Kind, Reads, Spelling, FileName, Behind, Arguments, ask}
@@ -13,6 +14,8 @@ use Rattle.plain_readings.specs.Laws.{is_met, Lends}
 use Rattle.plain_readings.proofs.Lent.{row_lends}
 use Rattle.plain_readings.proofs.Steps.{integer_holds, spelling_holds, naming_holds}
 use Rattle.plain_readings.proofs.Keywords.{keyword_holds}
+use Rattle.plain_readings.proofs.Factors.{factor_lends}
+use Rattle.plain_readings.proofs.Measuring.{dimension_lends, glue_lends}
 
 build_lends : (b : Bool) (a : build.Answer) → Lends b (build_ask a)
 build_lends b (build.More want list) = tt
@@ -24,9 +27,15 @@ call_lends b name (call.Ended true args work) = tt
 call_lends b name (call.Ended false args work) = tt
 call_lends b name a = tt
 
+integer_lends : (b : Bool) (fed : List Fed) → Lends b (integer false fed)
+integer_lends b fed = integer_holds (λ c a. Lends b a) (λ c want. tt) (λ report back. tt) (λ c n back. tt) (λ c. tt) (λ c l. tt) false false fed
+
 pub lends : (k : Kind) (fed : List Fed) → Lends (is_met false fed) (ask k fed)
 lends (Reads (Command c)) fed = row_lends c fed
-lends (Reads Integer) fed = integer_holds (λ b a. Lends (is_met false fed) a) (λ b want. tt) (λ report back. tt) (λ b n back. tt) (λ b. tt) (λ b l. tt) false false fed
+lends (Reads Integer) fed = integer_lends (is_met false fed) fed
+lends (Reads Factor) fed = factor_lends (is_met false fed) fed (integer_lends (is_met false fed) fed)
+lends (Reads (Dimension k)) fed = dimension_lends k fed
+lends (Reads (Glue mu)) fed = glue_lends mu fed
 lends (Reads (Keyword w)) fed = keyword_holds (λ b a. Lends (is_met false fed) a) (λ b want. tt) (λ b found. tt) (λ b t n few. tt) w false fed
 lends (Reads (Text name expanded)) fed = build_lends (is_met false fed) (text name expanded fed)
 lends (Reads (Definition name expanded)) fed = build_lends (is_met false fed) (definition name expanded fed)

@@ -41,7 +41,7 @@ due_fits b (note.Relaxes c n) = tt
 comes_fits : (m : Next) (b : Bool) (fed : List Fed) → Fits (is_met b fed) (comes m fed)
 comes_fits (next.Takes d) b fed = (b, refl)
 comes_fits next.Stops b fed = tt
-comes_fits (next.Fails c) b fed = tt
+comes_fits (next.Unassigned c) b fed = tt
 comes_fits (next.Turns c) b fed = (b, refl)
 
 noted_fits : (n : Note) (m : Next) (b : Bool) (fed : List Fed) → Fits (is_met b fed) (noted n m fed)

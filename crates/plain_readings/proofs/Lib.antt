@@ -4,10 +4,15 @@ pub mod Extra
 pub mod Steps
 pub mod Keywords
 pub mod Lent
+pub mod IntegerWeights
+pub mod Factors
+pub mod Follows
+pub mod DimenSteps
+pub mod GlueSteps
+pub mod Measuring
 pub mod Starting
-pub mod Lower
 pub mod Lending
 pub mod Values
+pub mod Lower
 pub mod Notes
-pub mod IntegerWeights
 pub mod Weights

@@ -1,12 +1,13 @@
 -- Each reading begins one of a lower rank, but an integer may begin an integer; so no reading begins a command.
-use Rattle.std.proofs.Common.{◌≡◌, ◌<◌, ℕ, Bool, true, false, List, [], ◌∷◌, refl, sym, subst, arith}
+use Rattle.std.proofs.Common.{◌≡◌, ◌<◌, ◌≤◌, ℕ, Bool, true, false, List, [], ◌∷◌, refl, sym, subst, arith}
 use Rattle.tex_defs.specs.declared.Name.{Name}
 use Rattle.tex_defs.specs.declared.Token.{Token}
 use Rattle.plain_tokens.specs.Arguments as call
 use Rattle.plain_state.specs.Definitions as build
 use Rattle.tex_syntax.specs.declared.words.Want.TheVariants.{Nonblank}
 use Rattle.rows.specs.declared.words.Kind.{Kind as Begun}
-use Rattle.rows.specs.declared.words.Kind.TheVariants.{Command, Integer, Keyword, Text, Definition}
+use Rattle.rows.specs.declared.words.Kind.TheVariants.{Command, Integer, Factor, Dimension, Glue, Keyword, Text, Definition}
+use Rattle.rows.specs.declared.words.DimenKind.{DimenKind}
 use Rattle.rows.specs.declared.stage.Note.{Note}
 use Rattle.rows.specs.declared.stage.Note.TheVariants as note
 use Rattle.rows.specs.declared.command.Call.{Call}
@@ -16,17 +17,21 @@ use Rattle.rows.proofs.Runs.{IsLow, row_holds}
 use Rattle.plain_readings.specs.Lists.{build_ask, text, definition}
 use Rattle.plain_readings.specs.Calls.{call_ask, gathered}
 use Rattle.plain_readings.specs.Readings.{Kind, Reads, Spelling, FileName, Behind, Arguments, ask}
-use Rattle.plain_readings.specs.Laws.{rank, BeginsBy}
+use Rattle.plain_readings.specs.Laws.{rank, BeginsBy, GivesValue}
 use Rattle.plain_readings.proofs.Steps.{integer_holds, spelling_holds, naming_holds}
 use Rattle.plain_readings.proofs.Keywords.{keyword_holds}
+use Rattle.plain_readings.proofs.Values.{values}
 
 due_low : (c : Call) (n : Note) → BeginsBy (Reads (Command c)) (due n)
 due_low c (note.Tells report back) = tt
 due_low c (note.Inserts t report back) = tt
 due_low c (note.Relaxes d n) = tt
 
-low_rank : (j : Begun) → IsLow j → rank (Reads j) < 1
+low_rank : (j : Begun) → IsLow j → rank (Reads j) < 4
 low_rank (Command c) low = absurd (omega (arith, low))
+low_rank (Dimension k) low = omega arith
+low_rank (Glue mu) low = omega arith
+low_rank Factor low = omega arith
 low_rank j low = omega arith
 
 text_lower : (name : Name) (expanded : Bool) (a : build.Answer) → BeginsBy (Reads (Text name expanded)) (build_ask a)
@@ -44,10 +49,26 @@ call_lower name long number ts (call.Ended true args work) = tt
 call_lower name long number ts (call.Ended false args work) = tt
 call_lower name long number ts a = tt
 
+-- a factor begins integers, by its values, and so it is with dimensions and glue
+factor_lower : (a : Ask) → GivesValue Factor [] a → BeginsBy (Reads Factor) a
+factor_lower (Inner j begins) h = subst (λ (i : Begun). rank (Reads i) < 1) (sym h.0) (omega arith)
+factor_lower a h = tt
+
+dimension_lower : (k : DimenKind) (a : Ask) → GivesValue (Dimension k) [] a → BeginsBy (Reads (Dimension k)) a
+dimension_lower k (Inner j begins) h = h
+dimension_lower k a h = tt
+
+glue_lower : (mu : Bool) (a : Ask) → GivesValue (Glue mu) [] a → BeginsBy (Reads (Glue mu)) a
+glue_lower mu (Inner j begins) h = h
+glue_lower mu a h = tt
+
 pub lower : (k : Kind) (fed : List Fed) → BeginsBy k (ask k fed)
 lower (Reads (Command d)) fed =
     row_holds (λ b a. BeginsBy (Reads (Command d)) a) (λ b want. tt) (λ b j begins low. low_rank j low) (λ b c e. tt) (λ b c e ts. tt) (λ b c n ts. tt) (λ b. tt) (λ n. due_low d n) d fed
 lower (Reads Integer) fed = integer_holds (λ b a. BeginsBy (Reads Integer) a) (λ b want. tt) (λ report back. tt) (λ b n back. tt) (λ b. refl) (λ b l. tt) false false fed
+lower (Reads Factor) fed = factor_lower (ask (Reads Factor) fed) (values (Reads Factor) fed)
+lower (Reads (Dimension k)) fed = dimension_lower k (ask (Reads (Dimension k)) fed) (values (Reads (Dimension k)) fed)
+lower (Reads (Glue mu)) fed = glue_lower mu (ask (Reads (Glue mu)) fed) (values (Reads (Glue mu)) fed)
 lower (Reads (Keyword w)) fed = keyword_holds (λ b a. BeginsBy (Reads (Keyword w)) a) (λ b want. tt) (λ b found. tt) (λ b t n few. tt) w false fed
 lower (Reads (Text name expanded)) fed = text_lower name expanded (text name expanded fed)
 lower (Reads (Definition name expanded)) fed = definition_lower name expanded (definition name expanded fed)
@@ -57,15 +78,21 @@ lower (Behind c x) fed = tt
 lower (Arguments name long number ts) [] = tt
 lower (Arguments name long number ts) (y ∷ fed) = call_lower name long number ts (gathered long ts (y ∷ fed))
 
--- WHAT IS BEGUN is of rank 0, so it is no command
+-- WHAT IS BEGUN is of a rank below 4, so it is no command
 
-low : (k : Kind) (j : Begun) (begins : Bool) → BeginsBy k (Inner j begins) → rank (Reads j) < 1
-low (Reads (Command c)) j begins h = h
-low (Reads Integer) j begins h = subst (λ (i : Begun). rank (Reads i) < 1) (sym h) (omega arith)
-low (Reads k) j begins h = absurd (omega (arith, h))
+reads_rank : (k : Begun) → rank (Reads k) ≤ 4
+reads_rank (Command c) = omega arith
+reads_rank (Dimension k) = omega arith
+reads_rank (Glue mu) = omega arith
+reads_rank Factor = omega arith
+reads_rank k = omega arith
+
+low : (k : Kind) (j : Begun) (begins : Bool) → BeginsBy k (Inner j begins) → rank (Reads j) < 4
+low (Reads Integer) j begins h = subst (λ (i : Begun). rank (Reads i) < 4) (sym h) (omega arith)
+low (Reads k) j begins h = omega (arith, h, reads_rank k)
 low k j begins h = h
 
-pub begun_low : (k : Kind) (fed : List Fed) (j : Begun) (begins : Bool) → ask k fed ≡ Inner j begins → rank (Reads j) < 1
+pub begun_low : (k : Kind) (fed : List Fed) (j : Begun) (begins : Bool) → ask k fed ≡ Inner j begins → rank (Reads j) < 4
 begun_low k fed j begins e = low k j begins (subst (λ (a : Ask). BeginsBy k a) e (lower k fed))
 
 pub no_command : (k : Kind) (fed : List Fed) (c : Call) (begins : Bool) → ask k fed ≡ Inner (Command c) begins → ⊥

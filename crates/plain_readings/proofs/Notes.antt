@@ -1,12 +1,12 @@
--- Behind a note no reading reports at once, nor has it a name relaxed.
-use Rattle.std.proofs.Common.{◌≡◌, ℕ, Bool, true, false, List, [], ◌∷◌, ◌++◌, refl, sym, subst}
+-- Behind a note no reading reports at once, nor has it a name relaxed, but a dimension, and glue, of which the number of reports falls.
+use Rattle.std.proofs.Common.{◌≡◌, ◌≤◌, ◌-◌, ℕ, Bool, true, false, List, [], ◌∷◌, ◌++◌, refl, sym, subst, arith}
 use Rattle.tex_defs.specs.declared.Name.{Name}
 use Rattle.tex_defs.specs.declared.Token.{Token}
 use Rattle.plain_tokens.specs.Arguments as call
 use Rattle.plain_tokens.specs.Arguments.{start_of, places_of}
 use Rattle.plain_state.specs.Definitions as build
 use Rattle.tex_syntax.specs.declared.words.Want.TheVariants.{Nonblank}
-use Rattle.rows.specs.declared.words.Kind.TheVariants.{Command, Integer, Keyword, Text, Definition}
+use Rattle.rows.specs.declared.words.Kind.TheVariants.{Command, Integer, Factor, Dimension, Glue, Keyword, Text, Definition}
 use Rattle.rows.specs.declared.stage.Note.{Note}
 use Rattle.rows.specs.Laws.{is_told}
 use Rattle.rows.specs.Readings.{Fed, Tok, Val, Told, Fetched, Cut, Ask, Relaxes}
@@ -15,13 +15,16 @@ use Rattle.rows.proofs.Runs.{row_holds}
 use Rattle.plain_readings.specs.Lists.{build_ask, build_fed, manner, text, definition}
 use Rattle.plain_readings.specs.Calls.{call_ask, call_fed, gathered, mode_of}
 use Rattle.plain_readings.specs.Readings.{Kind, Reads, Spelling, FileName, Behind, Arguments, ask}
-use Rattle.plain_readings.specs.Laws.{reports_due}
+use Rattle.plain_readings.specs.Laws.{reports_due, GivesValue, IsSingle}
 use Rattle.plain_readings.proofs.Quiet as quiet
 use Rattle.plain_readings.proofs.Quiet.{parameters_quiet, first_quiet}
 use Rattle.plain_readings.proofs.Extra as extra
 use Rattle.plain_readings.proofs.Extra.{call_quiet}
 use Rattle.plain_readings.proofs.Steps.{integer_holds, spelling_holds, naming_holds}
 use Rattle.plain_readings.proofs.Keywords.{keyword_holds}
+use Rattle.plain_readings.proofs.Values.{values}
+use Rattle.plain_readings.proofs.Factors.{factor_reports}
+use Rattle.plain_readings.proofs.Measuring.{dimension_reports, glue_reports}
 
 -- how many reports may come at once, and names be relaxed
 abbrev pub notes_due : Ask → ℕ
@@ -91,28 +94,52 @@ arguments_quiet name long number ts (y ∷ fed) =
     (subst (λ (fed : List call.Fed). extra.IsQuiet (call.call (mode_of long) (start_of ts) (places_of ts) fed)) (sym (call_last (y ∷ fed)))
     (call_quiet (mode_of long) (start_of ts) (places_of ts) (call_fed (y ∷ fed))))
 
-pub told_quiet : (k : Kind) (fed : List Fed) → notes_due (ask k (fed ++ Told ∷ [])) ≡ 0
-told_quiet (Reads (Command c)) fed =
+-- a factor puts nothing in front, and relaxes no name
+factor_quiet : (a : Ask) → GivesValue Factor [] a → reports_due a ≡ 0 → notes_due a ≡ 0
+factor_quiet (Relaxes c n) v h = absurd v
+factor_quiet a v h = h
+
+integer_quiet : (fed : List Fed) → notes_due (ask (Reads Integer) (fed ++ Told ∷ [])) ≡ 0
+integer_quiet fed =
+    quiet_last (ask (Reads Integer) (fed ++ Told ∷ [])) false fed
+    (integer_holds IsQuiet (λ b want. any b _ refl) (λ report back. tt) (λ b n back. any b _ refl) (λ b. any b _ refl) (λ b l. any b _ refl) false false (fed ++ Told ∷ []))
+
+pub told_quiet : (k : Kind) (fed : List Fed) → IsSingle k → notes_due (ask k (fed ++ Told ∷ [])) ≡ 0
+told_quiet (Reads (Command c)) fed h =
     quiet_last (ask (Reads (Command c)) (fed ++ Told ∷ [])) false fed
     (row_holds IsQuiet (λ b want. any b _ refl) (λ b k begins low. any b _ refl) (λ b c e. any b _ refl) (λ b c e ts. any b _ refl) (λ b c n ts. any b _ refl) (λ b. any b _ refl) due_quiet c
     (fed ++ Told ∷ []))
-told_quiet (Reads Integer) fed =
-    quiet_last (ask (Reads Integer) (fed ++ Told ∷ [])) false fed
-    (integer_holds IsQuiet (λ b want. any b _ refl) (λ report back. tt) (λ b n back. any b _ refl) (λ b. any b _ refl) (λ b l. any b _ refl) false false (fed ++ Told ∷ []))
-told_quiet (Reads (Keyword w)) fed =
+told_quiet (Reads Integer) fed h = integer_quiet fed
+told_quiet (Reads Factor) fed h =
+    factor_quiet (ask (Reads Factor) (fed ++ Told ∷ [])) (values (Reads Factor) (fed ++ Told ∷ []))
+    (rw (factor_reports (fed ++ Told ∷ [])) (reports_too (ask (Reads Integer) (fed ++ Told ∷ [])) (integer_quiet fed)))
+told_quiet (Reads (Dimension k)) fed h = absurd h
+told_quiet (Reads (Glue mu)) fed h = absurd h
+told_quiet (Reads (Keyword w)) fed h =
     quiet_last (ask (Reads (Keyword w)) (fed ++ Told ∷ [])) false fed
     (keyword_holds IsQuiet (λ b want. any b _ refl) (λ b found. any b _ refl) (λ b t n few. any b _ refl) w false (fed ++ Told ∷ []))
-told_quiet (Reads (Text name expanded)) fed =
+told_quiet (Reads (Text name expanded)) fed h =
     build_quiet (text name expanded (fed ++ Told ∷ []))
     (subst (λ (fed : List build.Fed). quiet.IsQuiet (build.text (manner name expanded) fed)) (sym (build_last fed)) (first_quiet (manner name expanded) [] (build_fed fed)))
-told_quiet (Reads (Definition name expanded)) fed =
+told_quiet (Reads (Definition name expanded)) fed h =
     build_quiet (definition name expanded (fed ++ Told ∷ []))
     (subst (λ (fed : List build.Fed). quiet.IsQuiet (build.definition (manner name expanded) fed)) (sym (build_last fed)) (parameters_quiet (manner name expanded) 0 [] (build_fed fed)))
-told_quiet (Spelling c) fed =
+told_quiet (Spelling c) fed h =
     quiet_last (ask (Spelling c) (fed ++ Told ∷ [])) false fed
     (spelling_holds IsQuiet (λ b want. any b _ refl) (λ report back. tt) (λ b. any b _ refl) (λ b c ts. any b _ refl) c [] false (fed ++ Told ∷ []))
-told_quiet (FileName c) fed =
+told_quiet (FileName c) fed h =
     quiet_last (ask (FileName c) (fed ++ Told ∷ [])) false fed
     (naming_holds IsQuiet (λ b want. any b _ refl) (λ report back. tt) (λ b. any b _ refl) (λ b c back ts. any b _ refl) c Nonblank [] false (fed ++ Told ∷ []))
-told_quiet (Behind c x) fed = refl
-told_quiet (Arguments name long number ts) fed = arguments_quiet name long number ts fed
+told_quiet (Behind c x) fed h = refl
+told_quiet (Arguments name long number ts) fed h = arguments_quiet name long number ts fed
+
+pub single : (k : Kind) (fed : List Fed) → IsSingle k → reports_due (ask k (fed ++ Told ∷ [])) ≡ 0
+single k fed h = reports_too (ask k (fed ++ Told ∷ [])) (told_quiet k fed h)
+
+single_notes : (k : Kind) (fed : List Fed) → IsSingle k → reports_due (ask k (fed ++ Told ∷ [])) ≤ reports_due (ask k fed) - 1
+single_notes k fed h = omega (arith, single k fed h)
+
+pub notes : (k : Kind) (fed : List Fed) → reports_due (ask k (fed ++ Told ∷ [])) ≤ reports_due (ask k fed) - 1
+notes (Reads (Dimension k)) fed = dimension_reports k fed
+notes (Reads (Glue mu)) fed = glue_reports mu fed
+notes k fed = single_notes k fed tt

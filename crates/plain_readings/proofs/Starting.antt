@@ -3,32 +3,40 @@ use Rattle.std.proofs.Common.{◌<◌, List, [], refl, arith}
 use Rattle.rows.specs.declared.words.Datum.{Datum}
 use Rattle.rows.specs.declared.words.Keyword.{Keyword as Word}
 use Rattle.rows.specs.declared.words.Keyword.TheVariants as word
-use Rattle.rows.specs.declared.words.Kind.TheVariants.{Command, Integer, Keyword, Text, Definition}
+use Rattle.rows.specs.declared.words.Kind.TheVariants.{Command, Integer, Factor, Dimension, Glue, Keyword, Text, Definition}
 use Rattle.rows.specs.declared.stage.Stage.{Stage}
 use Rattle.rows.specs.declared.stage.Stage.TheVariants as stage
 use Rattle.rows.specs.declared.stage.Start.{Start}
 use Rattle.rows.specs.declared.stage.Start.TheVariants.{Looks, Begins}
 use Rattle.rows.specs.declared.command.Call.{Call}
-use Rattle.rows.specs.Stages.{start}
-use Rattle.rows.specs.Table.{row_of, first_in, rest_in}
+use Rattle.rows.specs.Stages.{start, value_kind, location}
+use Rattle.rows.specs.Table.{row_of, first_in, rest_in, value_stage}
 use Rattle.rows.specs.Run.{started, behind, run, turned}
 use Rattle.plain_readings.specs.Readings.{Kind, Reads, Spelling, FileName, Behind, Arguments, ask}
 use Rattle.plain_readings.specs.Laws.{IsRead, Starts, rank}
 
 abbrev IsLow : Start → Type 0
 IsLow (Looks want) = Unit {0}
-IsLow (Begins k) = rank (Reads k) < 1
+IsLow (Begins k) = rank (Reads k) < 4
+
+value_low : (s : Stage) → rank (Reads (value_kind s)) < 4
+value_low stage.Dimension = omega arith
+value_low (stage.Glue mu) = omega arith
+value_low s = omega arith
 
 start_low : (s : Stage) (c : Call) (ds : List Datum) → IsLow (start s c ds)
 start_low stage.Number c ds = omega arith
 start_low (stage.NumberTo greatest complaint) c ds = omega arith
 start_low (stage.NumberUpTo greatest) c ds = omega arith
+start_low stage.Dimension c ds = value_low stage.Dimension
+start_low (stage.Glue mu) c ds = value_low (stage.Glue mu)
+start_low stage.Amount c ds = value_low (value_stage (location 0 ds))
 start_low (stage.Keyword w) c ds = omega arith
 start_low (stage.Text expanded) c ds = omega arith
 start_low (stage.MacroText expanded) c ds = omega arith
 start_low s c ds = tt
 
-first_starts : (c : Call) (s : Stage) (ss : List Stage) (begun : Start) → IsLow begun → Starts 1 (behind turned c [] (λ es more. run turned c ss es more) (started s c begun []))
+first_starts : (c : Call) (s : Stage) (ss : List Stage) (begun : Start) → IsLow begun → Starts 4 (behind turned c [] (λ es more. run turned c ss es more) (started s c begun []))
 first_starts c s ss (Looks want) low = tt
 first_starts c s ss (Begins k) low = (low, refl)
 
@@ -57,6 +65,9 @@ starts (Reads (Command c)) h =
     first_starts c (first_in (row_of c.head).0) (rest_in (row_of c.head).0) (start (first_in (row_of c.head).0) c [])
     (start_low (first_in (row_of c.head).0) c [])
 starts (Reads Integer) h = tt
+starts (Reads Factor) h = tt
+starts (Reads (Dimension k)) h = tt
+starts (Reads (Glue mu)) h = tt
 starts (Reads (Keyword w)) h = keyword_starts w
 starts (Reads (Text name expanded)) h = tt
 starts (Reads (Definition name expanded)) h = tt

@@ -2,21 +2,25 @@
 use Rattle.std.specs.Prelude.{ℕ, ◌+◌, ◌-◌, ◌<◌, ◌≤◌, ◌≡◌, ◌≢◌, Bool, true, false, List, [], ◌∷◌, ◌++◌}
 use Rattle.tex_defs.specs.declared.Token.{Token}
 use Rattle.tex_syntax.specs.declared.words.Report.{Report}
-use Rattle.rows.specs.declared.words.Datum.TheVariants.{Number, Found}
+use Rattle.tex_syntax.specs.declared.words.Report.TheVariants.{MissingNumber, IncompatibleUnits}
+use Rattle.rows.specs.declared.words.Datum.TheVariants as datum
 use Rattle.rows.specs.declared.words.Value.{Value}
 use Rattle.rows.specs.declared.words.Value.TheVariants as value
 use Rattle.rows.specs.declared.words.Kind.{Kind as Begun}
-use Rattle.rows.specs.declared.words.Kind.TheVariants.{Command, Integer, Keyword, Text, Definition}
+use Rattle.rows.specs.declared.words.Kind.TheVariants.{Command, Integer, Factor, Dimension, Glue, Keyword, Text, Definition}
 use Rattle.rows.specs.declared.command.Call.{Call}
 use Rattle.rows.specs.Laws.{IsValueless}
-use Rattle.rows.specs.Readings.{Fed, Tok, Told, Ask, More, Inner, Done, ActsOn, Tells, Inserts, Puts, Fetches}
+use Rattle.rows.specs.Readings.{Fed, Tok, Told, Ask, More, Inner, Done, ActsOn, Tells, Inserts, Puts, Fetches, Magnifies}
 use Rattle.plain_readings.specs.Readings.{Kind, Reads, Spelling, FileName, Behind, ask, lists}
 
 -- RANKS. A reading that was fed with nothing begins only readings of a lower rank.
 abbrev pub rank : Kind → ℕ
-rank (Reads (Command c)) = 1
+rank (Reads (Command c)) = 4
+rank (Reads (Glue mu)) = 3
+rank (Reads (Dimension k)) = 2
+rank (Reads Factor) = 1
 rank (Reads k) = 0
-rank k = 1
+rank k = 4
 
 -- A READING THAT WAS FED WITH NOTHING asks for a token or begins another, not with a token; but for the token that waits behind another.
 abbrev pub Starts : ℕ → Ask → Type 0
@@ -53,23 +57,34 @@ Lends b a = Unit {0}
 abbrev pub TokensAreLent : Type 0
 TokensAreLent = (k : Kind) (fed : List Fed) → Lends (is_met false fed) (ask k fed)
 
--- VALUES. An integer's is a number, a keyword's whether it was there, and both hold no list; that of a text is its list, which may have no token, and that of a macro's
--- list has one.
+-- VALUES. An integer's is a number, a factor's that and whether a point came, that of a dimension and of glue is one, a keyword's whether it was there,
+-- and none of these holds a list; that of a text is its list, which may have no token, and that of a macro's list has one.
 abbrev pub IsValue : Begun → Value → List (List Token) → Type 0
-IsValue Integer (value.Plain (Number n)) [] = Unit {0}
-IsValue (Keyword w) (value.Plain (Found found)) [] = Unit {0}
+IsValue Integer (value.Plain (datum.Number n)) [] = Unit {0}
+IsValue Factor (value.Plain (datum.Factor n point)) [] = Unit {0}
+IsValue (Dimension k) (value.Plain (datum.Dimension n order)) [] = Unit {0}
+IsValue (Glue mu) (value.Plain (datum.Glue g)) [] = Unit {0}
+IsValue (Keyword w) (value.Plain (datum.Found found)) [] = Unit {0}
 IsValue (Text name expanded) value.List (ts ∷ []) = Unit {0}
 IsValue (Definition name expanded) value.List (ts ∷ []) = ts ≢ []
 IsValue k v held = ⊥
 
 -- What has a value asks for a token or reports until it ends with it; an integer also begins another, the number of a register or of a
--- character, or asks for what stands at a location, and a keyword puts tokens back, five at most. Nothing else has a value.
+-- character, or asks for what stands at a location; so do a factor, a dimension, which begins a factor and keywords too and has the magnification
+-- checked, and glue, which begins dimensions and keywords too. A keyword puts tokens back, five at most. Nothing else has a value.
 abbrev pub GivesValue : Begun → List (List Token) → Ask → Type 0
 GivesValue k held (More want) = Unit {0}
 GivesValue k held (Tells report back) = Unit {0}
 GivesValue k held (Done v back) = IsValue k v held
 GivesValue Integer held (Inner j begins) = (j ≡ Integer) × (begins ≡ false)
 GivesValue Integer held (Fetches l) = Unit {0}
+GivesValue Factor held (Inner j begins) = (j ≡ Integer) × (begins ≡ false)
+GivesValue Factor held (Fetches l) = Unit {0}
+GivesValue (Dimension k) held (Inner j begins) = rank (Reads j) < rank (Reads (Dimension k))
+GivesValue (Dimension k) held (Fetches l) = Unit {0}
+GivesValue (Dimension k) held Magnifies = Unit {0}
+GivesValue (Glue mu) held (Inner j begins) = rank (Reads j) < rank (Reads (Glue mu))
+GivesValue (Glue mu) held (Fetches l) = Unit {0}
 GivesValue (Keyword w) held (Puts t more) = more ≤ 4
 GivesValue k held a = ⊥
 
@@ -90,8 +105,11 @@ pub record NamesAreHeld : Type 0 where
   pub names : (c : Call) (fed : List Fed) → Spells c (lists (Spelling c) fed) (ask (Spelling c) fed)
   pub files : (c : Call) (fed : List Fed) → Spells c (lists (FileName c) fed) (ask (FileName c) fed)
 
--- NOTES. How many reports may come at once behind this one: none yet. (Behind what is fetched one more may come.)
+-- NOTES. How many reports may come at once behind this one, in a dimension, at most: behind a number that is missing in mu, that this isn't mu, and behind
+-- that, that a dimension is too large. (Behind what is fetched more may come.)
 abbrev pub after : Report → ℕ
+after MissingNumber = 2
+after IncompatibleUnits = 1
 after report = 0
 
 -- how many may come at once
@@ -100,6 +118,13 @@ reports_due (Tells report back) = 1 + after report
 reports_due (Inserts t report back) = 1 + after report
 reports_due a = 0
 
--- behind the note of a report fewer are left
-abbrev pub NotesFall : Type 0
-NotesFall = (k : Kind) (fed : List Fed) → reports_due (ask k (fed ++ Told ∷ [])) ≤ reports_due (ask k fed) - 1
+-- a reading whose reports are single
+abbrev pub IsSingle : Kind → Type 0
+IsSingle (Reads (Dimension k)) = ⊥
+IsSingle (Reads (Glue mu)) = ⊥
+IsSingle k = Unit {0}
+
+-- Behind the note of a report fewer are left, and none but in a dimension or in glue.
+pub record NotesFall : Type 0 where
+  pub falls : (k : Kind) (fed : List Fed) → reports_due (ask k (fed ++ Told ∷ [])) ≤ reports_due (ask k fed) - 1
+  pub single : (k : Kind) (fed : List Fed) → IsSingle k → reports_due (ask k (fed ++ Told ∷ [])) ≡ 0

@@ -1,4 +1,8 @@
 pub mod Integers
+pub mod Factors
+pub mod Dimens
+pub mod Glues
+pub mod Measures
 pub mod Keywords
 pub mod Lists
 pub mod Calls

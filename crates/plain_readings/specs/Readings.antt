@@ -6,12 +6,14 @@ use Rattle.tex_defs.specs.declared.Seen.{Seen}
 use Rattle.plain_tokens.specs.Puts.{list_of_tokens}
 use Rattle.tex_syntax.specs.declared.words.Want.TheVariants.{Nonblank}
 use Rattle.rows.specs.declared.words.Kind.{Kind as Begun}
-use Rattle.rows.specs.declared.words.Kind.TheVariants.{Command, Integer, Keyword, Text, Definition}
+use Rattle.rows.specs.declared.words.Kind.TheVariants.{Command, Integer, Factor, Dimension, Glue, Keyword, Text, Definition}
 use Rattle.rows.specs.declared.command.Call.{Call}
 use Rattle.rows.specs.declared.command.Effect.TheVariants.{PutBack}
 use Rattle.rows.specs.Readings.{Fed, Ask, Acts, ActsOn, Defines}
 use Rattle.rows.specs.Run.{row}
 use Rattle.plain_readings.specs.Integers.{integer}
+use Rattle.plain_readings.specs.Factors.{factor}
+use Rattle.plain_readings.specs.Measures.{dimension, glue}
 use Rattle.plain_readings.specs.Keywords.{keyword}
 use Rattle.plain_readings.specs.Lists.{build_ask, built, text, definition}
 use Rattle.plain_readings.specs.Calls.{gathered, arguments, call_lists}
@@ -32,6 +34,9 @@ pub data Kind : Type 0 where
 abbrev pub begun_ask : Begun → List Fed → Ask
 begun_ask (Command c) fed = row c fed
 begun_ask Integer fed = integer false fed
+begun_ask Factor fed = factor fed
+begun_ask (Dimension k) fed = dimension k fed
+begun_ask (Glue mu) fed = glue mu fed
 begun_ask (Keyword w) fed = keyword w fed
 begun_ask (Text name expanded) fed = build_ask (text name expanded fed)
 begun_ask (Definition name expanded) fed = build_ask (definition name expanded fed)
@@ -54,6 +59,9 @@ kept_list a = []
 abbrev pub begun_lists : Begun → List Fed → List (List Token)
 begun_lists (Command c) fed = kept_list (row c fed)
 begun_lists Integer fed = []
+begun_lists Factor fed = []
+begun_lists (Dimension k) fed = []
+begun_lists (Glue mu) fed = []
 begun_lists (Keyword w) fed = []
 begun_lists (Text name expanded) fed = built (text name expanded fed) ∷ []
 begun_lists (Definition name expanded) fed = built (definition name expanded fed) ∷ []

@@ -1,5 +1,5 @@
 -- Readings worked out: what each asks for, item by item, as it is fed, and the lists that it holds then.
-use Rattle.std.specs.Prelude.{ℕ, zero, suc, pos, negsuc, ◌≡◌, true, false, List, [], ◌∷◌, Option, Some, None}
+use Rattle.std.specs.Prelude.{ℕ, zero, suc, ℤ, pos, negsuc, ◌≡◌, Bool, true, false, List, [], ◌∷◌, Option, Some, None}
 use Rattle.tex_defs.specs.declared.Token.{Token}
 use Rattle.tex_defs.specs.declared.Token.TheVariants as token
 use Rattle.tex_defs.specs.declared.Name.TheVariants as name
@@ -9,12 +9,13 @@ use Rattle.tex_defs.specs.declared.RegisterKind.TheVariants as register
 use Rattle.tex_defs.specs.declared.Seen.{Seen}
 use Rattle.tex_syntax.specs.declared.words.Want.TheVariants.{Raw, Expanded, Copied, Nonblank}
 use Rattle.tex_syntax.specs.declared.words.Want.TheVariants as want
-use Rattle.tex_syntax.specs.declared.words.Report.TheVariants.{ImproperConstant, MissingNumber, NumberTooBig, BadCharacterCode, BadRegisterCode, IncompatibleUnits, MissingBrace, MissingEndcsname, ExtraBrace, ParagraphEnded, UseMismatch}
+use Rattle.tex_syntax.specs.declared.words.Report.TheVariants.{ImproperConstant, MissingNumber, NumberTooBig, BadCharacterCode, BadRegisterCode, IncompatibleUnits, DimensionTooLarge, MissingBrace, MissingEndcsname, ExtraBrace, ParagraphEnded, UseMismatch}
 use Rattle.plain_tokens.specs.Categories.{begin_group, end_group, parameter, letter, other}
 use Rattle.rows.specs.declared.words.Datum.TheVariants.{Number}
+use Rattle.rows.specs.declared.words.Datum.TheVariants as datum
 use Rattle.rows.specs.declared.words.Value.TheVariants as value
-use Rattle.rows.specs.declared.words.Keyword.TheVariants.{By, Plus, Minus, L}
-use Rattle.rows.specs.declared.words.Kind.TheVariants.{Command, Integer, Keyword, Text, Definition}
+use Rattle.rows.specs.declared.words.Keyword.TheVariants.{By, Plus, Minus, Fil, L, True, Em, Ex, Pt}
+use Rattle.rows.specs.declared.words.Kind.TheVariants.{Command, Integer, Factor, Dimension, Glue as GlueOf, Keyword, Text, Definition}
 use Rattle.tex_syntax.specs.declared.words.Scanned.TheVariants as scanned
 use Rattle.rows.specs.declared.command.Effect.TheVariants.{MakeName, StartInput, PutBack}
 use Rattle.equivalents.specs.declared.values.CodeKind.TheVariants as code
@@ -22,8 +23,9 @@ use Rattle.equivalents.specs.declared.values.Glue.{Glue}
 use Rattle.equivalents.specs.declared.values.Loc.{Loc}
 use Rattle.equivalents.specs.declared.values.Loc.TheVariants as loc
 use Rattle.equivalents.specs.declared.values.Val.TheVariants as val
+use Rattle.equivalents.specs.First.{magnification}
 use Rattle.rows.specs.Worked.{character, primitive, call, asked, number, x, y, x_name, a_letter, a_space}
-use Rattle.rows.specs.Readings.{Fed, Tok, Val, Told, Fetched, Cut, Ask, More, Inner, Done, Acts, ActsOn, Ends, Calls, Fails, RunsAway, Tells, Inserts, Puts, Fetches}
+use Rattle.rows.specs.Readings.{Fed, Tok, Val, Told, Fetched, Cut, Ask, More, Inner, Done, Acts, ActsOn, Ends, Calls, Fails, RunsAway, Tells, Inserts, Puts, Fetches, Magnifies}
 use Rattle.plain_readings.specs.Integers.{ends_with}
 use Rattle.plain_readings.specs.Keywords.{ends_found}
 use Rattle.plain_readings.specs.Calls.{par_token}
@@ -147,6 +149,95 @@ pub record WorkedInternals : Type 0 where
   pub plain : WorkedNumbers
   pub glue : WorkedGlue
   pub others : WorkedMeanings
+
+-- FACTORS, which end with a number and whether a point stands behind it
+
+abbrev pub factor_ends : ℤ → (point : Bool) → (give_back : Bool) → Ask
+factor_ends n point back = Done (value.Plain (datum.Factor n point)) back
+
+-- `12.`, where the point is given back; `7,`; `'7.`, where it is none of a fraction; 1 and a space; a letter; `\count 3`
+pub record WorkedFactors : Type 0 where
+  pub point : steps (Reads Factor) (others (49 ∷ 50 ∷ 46 ∷ []) []) ≡ More Nonblank ∷ expanded 2 (factor_ends (pos 12) true true ∷ [])
+  pub comma : steps (Reads Factor) (others (55 ∷ 44 ∷ []) []) ≡ More Nonblank ∷ expanded 1 (factor_ends (pos 7) true true ∷ [])
+  pub octal : steps (Reads Factor) (others (39 ∷ 55 ∷ 46 ∷ []) []) ≡ More Nonblank ∷ expanded 2 (factor_ends (pos 7) false true ∷ [])
+  pub space : steps (Reads Factor) (others (49 ∷ []) (Tok a_space ∷ [])) ≡ More Nonblank ∷ expanded 1 (factor_ends (pos 1) false false ∷ [])
+  pub missing : steps (Reads Factor) (Tok a_letter ∷ Told ∷ []) ≡ More Nonblank ∷ Tells MissingNumber true ∷ factor_ends (pos 0) false false ∷ []
+  pub count :
+      steps (Reads Factor) (Tok (primitive 41) ∷ number (pos 3) ∷ Fetched (val.Number (pos 7)) ∷ []) ≡
+      numbers (Fetches (loc.Register register.Count 3) ∷ factor_ends (pos 7) false false ∷ [])
+
+-- DIMENSIONS, which end with a number of scaled points and an order of infinity
+
+abbrev pub dimen_ends : ℤ → (order : ℕ) → (give_back : Bool) → Ask
+dimen_ends n order back = Done (value.Plain (datum.Dimension n order)) back
+
+abbrev pub plain : Kind
+plain = Reads (Dimension (record { mu = false; infinite = false }))
+
+abbrev pub a_stretch : Kind
+a_stretch = Reads (Dimension (record { mu = false; infinite = true }))
+
+abbrev pub in_mu : Kind
+in_mu = Reads (Dimension (record { mu = true; infinite = false }))
+
+-- a keyword was there, or wasn't; a number came, and whether a point stands behind it
+abbrev pub word : (found : Bool) → Fed
+word found = Val (value.Plain (datum.Found found)) []
+
+abbrev pub a_factor : ℤ → (point : Bool) → Fed
+a_factor n point = Val (value.Plain (datum.Factor n point)) []
+
+-- 1.5truept at a magnification of 2000; 2fill, whose last keyword isn't there; `\dimen 0`, which is 2^30; `\toks` in mu, which comes to two reports
+pub record WorkedDimensions : Type 0 where
+  pub magnified :
+      steps plain
+      (Tok (character other 49) ∷ a_factor (pos 1) true ∷ others (46 ∷ 53 ∷ []) (Tok (character letter 116) ∷ word false ∷ word false ∷ word true ∷ Told ∷ Fetched (val.Number (pos 2000)) ∷ word true ∷
+      Tok a_space ∷ [])) ≡
+      More Nonblank ∷ Inner Factor true ∷ expanded 3 (Inner (Keyword Em) true ∷ Inner (Keyword Ex) false ∷ Inner (Keyword True) false ∷ Magnifies ∷ Fetches (loc.Integer magnification) ∷
+      Inner (Keyword Pt) false ∷ More Expanded ∷ dimen_ends (pos 49152) 0 false ∷ [])
+  pub infinite :
+      steps a_stretch (Tok (character other 50) ∷ a_factor (pos 2) false ∷ word true ∷ word true ∷ word false ∷ Tok a_letter ∷ []) ≡
+      More Nonblank ∷ Inner Factor true ∷ Inner (Keyword Fil) false ∷ Inner (Keyword L) false ∷ Inner (Keyword L) false ∷ More Expanded ∷ dimen_ends (pos 131072) 2 true ∷ []
+  pub dimen :
+      steps plain (Tok (primitive 42) ∷ number (pos 0) ∷ Fetched (val.Number (pos 1073741824)) ∷ Told ∷ []) ≡
+      numbers (Fetches (loc.Register register.Dimen 0) ∷ Tells DimensionTooLarge false ∷ dimen_ends (pos 1073741823) 0 false ∷ [])
+  pub missing :
+      steps in_mu (Tok (primitive 45) ∷ Told ∷ Told ∷ []) ≡ More Nonblank ∷ Tells MissingNumber true ∷ Tells IncompatibleUnits false ∷ dimen_ends (pos 0) 0 false ∷ []
+
+-- GLUE
+
+abbrev pub glue_ends : Glue → Ask
+glue_ends g = Done (value.Plain (datum.Glue g)) false
+
+abbrev pub a_dimension : ℤ → (order : ℕ) → Fed
+a_dimension n order = Val (value.Plain (datum.Dimension n order)) []
+
+-- the width and the stretch of a glue, and no shrink
+abbrev pub stretched : (width stretch : ℤ) → (order : ℕ) → Glue
+stretched w s o = record { width = w; stretch = s; stretch_order = o; shrink = pos 0; shrink_order = 0 }
+
+-- 1pt plus 2fil; -1pt; `-\skip 0`, of which each part is negated; `\muskip 256` in glue that isn't in mu, which comes to two reports
+pub record WorkedWholeGlue : Type 0 where
+  pub plus :
+      steps (Reads (GlueOf false)) (Tok (character other 49) ∷ a_dimension (pos 65536) 0 ∷ word true ∷ a_dimension (pos 131072) 1 ∷ word false ∷ []) ≡
+      More Nonblank ∷ Inner (Dimension (record { mu = false; infinite = false })) true ∷ Inner (Keyword Plus) false ∷ Inner (Dimension (record { mu = false; infinite = true })) false ∷
+      Inner (Keyword Minus) false ∷ glue_ends (stretched (pos 65536) (pos 131072) 1) ∷ []
+  pub minus :
+      steps (Reads (GlueOf true)) (others (45 ∷ 49 ∷ []) (a_dimension (pos 65536) 0 ∷ word false ∷ word false ∷ [])) ≡
+      More Nonblank ∷ More Nonblank ∷ Inner (Dimension (record { mu = true; infinite = false })) true ∷ Inner (Keyword Plus) false ∷ Inner (Keyword Minus) false ∷
+      glue_ends (stretched (negsuc 65535) (pos 0) 0) ∷ []
+  pub skip :
+      steps (Reads (GlueOf false)) (others (45 ∷ []) (Tok (primitive 43) ∷ number (pos 0) ∷ Fetched (val.Skip a_glue) ∷ [])) ≡
+      More Nonblank ∷ numbers (Fetches (loc.Register register.Skip 0) ∷
+      glue_ends (record { width = negsuc 196607; stretch = negsuc 65535; stretch_order = 1; shrink = negsuc 1; shrink_order = 0 }) ∷ [])
+  pub muskip :
+      steps (Reads (GlueOf false)) (Tok (primitive 44) ∷ number (pos 256) ∷ Told ∷ Fetched (val.Skip a_glue) ∷ Told ∷ []) ≡
+      numbers (Tells (BadRegisterCode (pos 256)) false ∷ Fetches (loc.Register register.Muskip 0) ∷ Tells IncompatibleUnits false ∷ glue_ends a_glue ∷ [])
+
+pub record WorkedMeasures : Type 0 where
+  pub factors : WorkedFactors
+  pub dimensions : WorkedDimensions
+  pub glue : WorkedWholeGlue
 
 -- KEYWORDS
 
@@ -344,6 +435,7 @@ pub record WorkedReadings : Type 0 where
   pub integers : WorkedIntegers
   pub internals : WorkedInternals
   pub reports : WorkedReports
+  pub measures : WorkedMeasures
   pub keywords : WorkedKeywords
   pub names : WorkedNames
   pub files : WorkedFiles

@@ -28,7 +28,7 @@ pub fn names_are_held()
     ensures { NamesAreHeld }
 {}
 
-/// Behind a report so many may follow at once as its measure says.
+/// Behind a report so many may follow at once as its measure says, and none but in a dimension or in glue.
 pub fn notes_fall()
     ensures { NotesFall }
 {}

@@ -19,7 +19,7 @@ use Rattle.reading_frames.specs.Resumes.{building, build_at, name_list_at, file_
 use Rattle.reading_frames.specs.Stands.{FrameStands, AreHeld}
 use Rattle.reading_frames.specs.declared.command.CommandScan.TheVariants as command
 use Rattle.reading_frames.specs.declared.frame.Frame.{Frame}
-use Rattle.reading_frames.specs.declared.frame.Frame.TheVariants.{Command, Integer, Keyword, Build, Spelling, FileName, Behind}
+use Rattle.reading_frames.specs.declared.frame.Frame.TheVariants.{Command, Integer, Factor, Dimension, Glue, Keyword, Build, Spelling, FileName, Behind}
 use Rattle.reading_frames.specs.declared.spelling.SpellPlace.{SpellPlace}
 use Rattle.reading_frames.specs.declared.spelling.SpellPlace.TheVariants as spell
 use Rattle.reading_frames.specs.declared.file_name.FilePlace.{FilePlace}
@@ -51,6 +51,9 @@ built_length (Command (command.ActsOn c e b) p) held = listed_length b held
 built_length (Command (command.Defines c n b) p) held = listed_length b held
 built_length (Command command.Ended p) held = refl
 built_length (Integer scan) held = refl
+built_length (Factor scan) held = refl
+built_length (Dimension scan) held = refl
+built_length (Glue scan) held = refl
 built_length (Keyword scan) held = refl
 built_length (Build scan) held = refl
 built_length (Spelling scan) held = refl
@@ -99,6 +102,9 @@ built_now (Command (command.ActsOn c e b) p) held h = listed_now b held h
 built_now (Command (command.Defines c n b) p) held h = listed_now b held h
 built_now (Command command.Ended p) held h = refl
 built_now (Integer scan) held h = refl
+built_now (Factor scan) held h = refl
+built_now (Dimension scan) held h = refl
+built_now (Glue scan) held h = refl
 built_now (Keyword scan) held h = refl
 built_now (Build scan) held h = ap (λ (l : List Token). l ∷ []) (build_now scan.manner scan.place (top_list held)) ∙ top_taken held h
 built_now (Spelling scan) held h = ap (λ (l : List Token). l ∷ []) (name_now scan.place (top_list held)) ∙ top_taken held h

@@ -7,13 +7,14 @@ use Rattle.equivalents.specs.declared.values.Loc.{Loc}
 use Rattle.rows.specs.declared.words.Keyword.{Keyword}
 use Rattle.rows.specs.Readings.{Told, Fetches}
 use Rattle.plain_readings.specs.Keywords.{letters, giving_back, keyword_from}
-use Rattle.plain_readings.specs.Weights.{value_weight, act_weight, ask_weight, IsNoted}
+use Rattle.plain_readings.specs.Weights.{value_weight, ask_weight, IsNoted}
 use Rattle.plain_readings.proofs.Keywords.{letters_few}
 use Rattle.scan_dimens.specs.Sees.{letters_at, back_at, kept, kept_at, want_behind}
 use Rattle.scan_dimens.specs.Resumes.{resume, resume_at, kept_in}
-use Rattle.scan_dimens.specs.declared.keyword.Place.{Place}
-use Rattle.scan_dimens.specs.declared.keyword.Place.TheVariants.{Letters, PutsBack, Ended}
+use Rattle.scan_dimens.specs.declared.keyword.KeywordPlace.{KeywordPlace}
+use Rattle.scan_dimens.specs.declared.keyword.KeywordPlace.TheVariants.{Letters, PutsBack, Ended}
 use Rattle.scan_dimens.specs.declared.keyword.KeywordScan.{KeywordScan}
+use Rattle.reading_frames.specs.Weights.{IsEnd}
 
 from_light : (cs : List ℕ) (ts : List Token) (want : Want) → ask_weight value_weight (keyword_from cs ts want []) ≤ value_weight
 from_light [] ts want = omega arith
@@ -26,12 +27,12 @@ giving_light (t ∷ ts) = omega arith
 kept_length : (ts : List Token) (n : ℕ) → length ts ≡ 5 → length (kept n ts) ≤ n
 kept_length ts n e = omega (arith, e, length-drop (5 - n) ts)
 
-light_at : (w : Keyword) (ts : List Token) (p : Place) → length ts ≡ 5 → ask_weight value_weight (resume_at w ts p []) ≤ value_weight + kept_at p
+light_at : (w : Keyword) (ts : List Token) (p : KeywordPlace) → length ts ≡ 5 → ask_weight value_weight (resume_at w ts p []) ≤ value_weight + kept_at p
 light_at w ts (Letters n) e = omega (arith, from_light (drop n (letters w)) (kept n ts) (want_behind n))
 light_at w ts (PutsBack n) e = omega (arith, giving_light (kept n ts), kept_length ts n e)
 light_at w ts (Ended found) e = omega arith
 
-few_at : (w : Keyword) (p : Place) → letters_at p < length (letters w) → back_at p ≤ 5 → kept_at p ≤ 5
+few_at : (w : Keyword) (p : KeywordPlace) → letters_at p < length (letters w) → back_at p ≤ 5 → kept_at p ≤ 5
 few_at w (Letters n) more few = omega (arith, more, letters_few w)
 few_at w (PutsBack n) more few = few
 few_at w (Ended found) more few = omega arith
@@ -40,7 +41,7 @@ few_at w (Ended found) more few = omega arith
 pub keyword_light : (s : KeywordScan) → ask_weight value_weight (resume s []) ≤ value_weight + kept_in s
 keyword_light s = light_at s.keyword s.tokens s.place s.longest
 
-pub keyword_small : (s : KeywordScan) → ask_weight value_weight (resume s []) ≤ act_weight
+pub keyword_small : (s : KeywordScan) → ask_weight value_weight (resume s []) ≤ value_weight + 5
 keyword_small s = omega (arith, keyword_light s, few_at s.keyword s.place s.more s.few)
 
 -- BEHIND A NOTE
@@ -54,7 +55,7 @@ giving_told [] h = absurd h
 giving_told (t ∷ []) h = omega arith
 giving_told (t ∷ u ∷ ts) h = omega arith
 
-told_at : (w : Keyword) (ts : List Token) (p : Place) → IsNoted (resume_at w ts p []) → ask_weight value_weight (resume_at w ts p (Told ∷ [])) < ask_weight value_weight (resume_at w ts p [])
+told_at : (w : Keyword) (ts : List Token) (p : KeywordPlace) → IsNoted (resume_at w ts p []) → ask_weight value_weight (resume_at w ts p (Told ∷ [])) < ask_weight value_weight (resume_at w ts p [])
 told_at w ts (Letters n) h = absurd (from_unnoted (drop n (letters w)) (kept n ts) (want_behind n) h)
 told_at w ts (PutsBack n) h = giving_told (kept n ts) h
 told_at w ts (Ended found) h = absurd h
@@ -72,10 +73,28 @@ giving_unfetched : (ts : List Token) (l : Loc) → giving_back ts [] ≡ Fetches
 giving_unfetched [] l e = cc
 giving_unfetched (t ∷ ts) l e = cc
 
-unfetched_at : (w : Keyword) (ts : List Token) (p : Place) (l : Loc) → resume_at w ts p [] ≡ Fetches l → ⊥
+unfetched_at : (w : Keyword) (ts : List Token) (p : KeywordPlace) (l : Loc) → resume_at w ts p [] ≡ Fetches l → ⊥
 unfetched_at w ts (Letters n) l e = from_unfetched (drop n (letters w)) (kept n ts) (want_behind n) l e
 unfetched_at w ts (PutsBack n) l e = giving_unfetched (kept n ts) l e
 unfetched_at w ts (Ended found) l e = cc
 
 pub keyword_unfetched : (s : KeywordScan) (l : Loc) → resume s [] ≡ Fetches l → ⊥
 keyword_unfetched s l e = unfetched_at s.keyword s.tokens s.place l e
+
+-- IT HAS A VALUE
+
+from_unended : (cs : List ℕ) (ts : List Token) (want : Want) → IsEnd (keyword_from cs ts want []) → ⊥
+from_unended [] ts want h = h
+from_unended (c ∷ cs) ts want h = h
+
+giving_unended : (ts : List Token) → IsEnd (giving_back ts []) → ⊥
+giving_unended [] h = h
+giving_unended (t ∷ ts) h = h
+
+unended_at : (w : Keyword) (ts : List Token) (p : KeywordPlace) → IsEnd (resume_at w ts p []) → ⊥
+unended_at w ts (Letters n) h = from_unended (drop n (letters w)) (kept n ts) (want_behind n) h
+unended_at w ts (PutsBack n) h = giving_unended (kept n ts) h
+unended_at w ts (Ended found) h = h
+
+pub keyword_unended : (s : KeywordScan) → IsEnd (resume s []) → ⊥
+keyword_unended s h = unended_at s.keyword s.tokens s.place h

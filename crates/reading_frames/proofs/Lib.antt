@@ -9,6 +9,10 @@ pub mod Scanning
 pub mod Rows
 pub mod Asking
 pub mod Keywords
+pub mod Integers
+pub mod Factors
+pub mod Dimens
+pub mod Glues
 pub mod Weights
 pub mod Rules
 pub mod Braces

@@ -53,7 +53,7 @@ module _ (more : List Fed) where
   comes_same : (m : Next) (fed : List Fed) → Same (comes m fed) (comes m (fed ++ more))
   comes_same (next.Takes d) fed = refl
   comes_same next.Stops fed = λ over. refl
-  comes_same (next.Fails c) fed = λ over. refl
+  comes_same (next.Unassigned c) fed = λ over. refl
   comes_same (next.Turns c) fed = refl
 
   noted_same : (n : Note) (m : Next) (fed : List Fed) → Same (noted n m fed) (noted n m (fed ++ more))

@@ -17,6 +17,7 @@ use Rattle.rows.specs.Readings.{Fed, Val, Ask}
 use Rattle.rows.specs.Table.{stages_left}
 use Rattle.rows.specs.Tokens.{is_at_most, is_up_to}
 use Rattle.rows.specs.Stages.{start, on_datum, numbered_by}
+use Rattle.rows.specs.Arithmetic.{number_in}
 use Rattle.rows.specs.Run.{Outcome, valued, started, behind, run}
 use Rattle.row_frames.specs.declared.frame.RowFrame.{RowFrame}
 use Rattle.row_frames.specs.declared.turn.Kept.{Kept}
@@ -34,8 +35,8 @@ either true g h i j = i
 either false g h i j = j
 
 datum_listless : (s : Stage) (d : Datum) → IsListless (on_datum s d)
-datum_listless (NumberTo greatest complaint) (datum.Number n) = either (is_at_most greatest n) _ _ tt tt
-datum_listless (NumberUpTo greatest) (datum.Number n) = either (is_up_to greatest n) _ _ tt tt
+datum_listless (NumberTo greatest complaint) d = either (is_at_most greatest (number_in d)) _ _ tt tt
+datum_listless (NumberUpTo greatest) d = either (is_up_to greatest (number_in d)) _ _ tt tt
 datum_listless s d = tt
 
 numbered_listless : (b : Bank) (d : Datum) → IsListless (numbered_by b (Plain d))

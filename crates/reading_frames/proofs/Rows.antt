@@ -81,7 +81,7 @@ module _
     comes_fits : (m : Next) → Fits (comes m [])
     comes_fits (next.Takes d) = refl
     comes_fits next.Stops = end
-    comes_fits (next.Fails c) = act c Unassigned
+    comes_fits (next.Unassigned c) = act c Unassigned
     comes_fits (next.Turns c) = refl
 
     start_told : (s : Stage) (c : Call) (begun : Start) → Fits (started s c begun (Told ∷ []))

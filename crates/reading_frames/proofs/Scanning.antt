@@ -14,7 +14,7 @@ use Rattle.reading_frames.specs.Resumes.{list_count, frame_status, read_at, read
 use Rattle.reading_frames.specs.Stands.{FramesStand}
 use Rattle.reading_frames.specs.Stack.{Found, found_at, innermost_found, unless_unguarded, found_in, scanning_of}
 use Rattle.reading_frames.specs.declared.frame.Frame.{Frame}
-use Rattle.reading_frames.specs.declared.frame.Frame.TheVariants.{Command, Integer, Keyword, Build, Spelling, FileName, Behind}
+use Rattle.reading_frames.specs.declared.frame.Frame.TheVariants.{Command, Integer, Factor, Dimension, Glue, Keyword, Build, Spelling, FileName, Behind}
 use Rattle.reading_frames.proofs.Held.{lists_counted}
 
 command_inherits : (b : Bool) (list : List Token) (o : Option Scanning) → scanned_at (command_status b) list o ≡ o
@@ -29,6 +29,9 @@ first_list (list ∷ held) = refl
 on_top : (f : Frame) (held : Lists) (o : Option Scanning) → scanned_at (frame_status f) (first_of (list_count f) held) o ≡ scanned_at (frame_status f) (top_list held) o
 on_top (Command scan p) held o = command_inherits (reads_under_normal p) _ o ∙ sym (command_inherits (reads_under_normal p) (top_list held) o)
 on_top (Integer scan) held o = refl
+on_top (Factor scan) held o = refl
+on_top (Dimension scan) held o = refl
+on_top (Glue scan) held o = refl
 on_top (Keyword scan) held o = refl
 on_top (Build scan) held o = ap (λ (list : List Token). scanned_at (frame_status (Build scan)) list o) (first_list held)
 on_top (Spelling scan) held o = refl

@@ -1,40 +1,52 @@
 -- The weights of frames, by what they ask for.
-use Rattle.std.proofs.Common.{◌≡◌, ◌≤◌, ◌<◌, ◌+◌, Bool, true, false, List, [], ◌∷◌, Option, Some, arith, refl, sym, subst, ap, ◌∙◌}
+use Rattle.std.proofs.Common.{◌≡◌, ◌≤◌, ◌<◌, ℕ, ◌+◌, Bool, true, false, List, [], ◌∷◌, Option, Some, arith, refl, sym, subst, ap, ◌∙◌}
 use Rattle.tex_defs.specs.declared.Token.{Token}
 use Rattle.tex_defs.specs.declared.Token.TheVariants.{EndPlaces}
 use Rattle.tex_syntax.specs.declared.words.Manner.{Manner}
+use Rattle.tex_syntax.specs.declared.words.Report.{Report}
+use Rattle.tex_syntax.specs.declared.words.Report.TheVariants.{MissingNumber, IncompatibleUnits, BadCharacterCode, BadRegisterCode}
 use Rattle.list_builder.specs.declared.stage.Stage.{Stage}
 use Rattle.list_builder.specs.declared.stage.Stage.TheVariants as stage
 use Rattle.list_builder.specs.Stages as stages
 use Rattle.plain_state.specs.Definitions as build
 use Rattle.rows.specs.declared.words.Value.{Value}
-use Rattle.rows.specs.declared.internal.Bank.TheVariants as bank
 use Rattle.rows.specs.declared.command.Head.{Head}
 use Rattle.rows.specs.declared.stage.Note.{Note}
 use Rattle.rows.specs.declared.stage.Note.TheVariants as note
 use Rattle.rows.specs.Run.{due}
 use Rattle.rows.specs.Run.{row as row_asked}
 use Rattle.equivalents.specs.declared.values.Loc.{Loc}
-use Rattle.rows.specs.Readings.{Fed, Val, Told, Ask, Fetches}
+use Rattle.tex_defs.specs.declared.Seen.{Seen}
+use Rattle.equivalents.specs.Locations.{SeenValue}
+use Rattle.rows.specs.Readings.{Fed, Tok, Val, Told, Fetched, Ask, Inner, Fetches}
 use Rattle.row_frames.specs.declared.frame.RowFrame.{RowFrame}
 use Rattle.row_frames.specs.Resumes as row
 use Rattle.plain_readings.specs.Readings.{Reads}
 use Rattle.plain_readings.specs.Lists.{build_ask}
-use Rattle.plain_readings.specs.Weights.{frame_weight, value_weight, act_weight, behind_weight, ask_weight, IsNoted}
-use Rattle.plain_readings.proofs.Weights.{effect_light, fetching_light, PutsLight, any_light, note_heavy, begins_light}
+use Rattle.plain_readings.specs.Laws.{after}
+use Rattle.plain_readings.specs.Dimens as dimens
+use Rattle.plain_readings.specs.Glues as glues
+use Rattle.plain_readings.specs.Measures.{dimen_ask, dimen_value, glue_ask, glue_value}
+use Rattle.plain_readings.specs.Weights.{value_frame, act_frame, value_weight, act_weight, behind_weight, fetching_behind, ask_weight, IsNoted}
+use Rattle.plain_readings.proofs.Weights.{effect_light, note_heavy, begins_light}
 use Rattle.scan_dimens.specs.Resumes as keyword
 use Rattle.scan_dimens.specs.declared.keyword.KeywordScan.{KeywordScan}
+use Rattle.scan_dimens.specs.DimenResumes as dimen
+use Rattle.scan_dimens.specs.declared.dimen.DimenScan.{DimenScan}
+use Rattle.scan_glue.specs.GlueResumes as glue
+use Rattle.scan_glue.specs.declared.glue.GlueScan.{GlueScan}
 use Rattle.scan_numbers.specs.Resumes as number
-use Rattle.scan_numbers.specs.declared.number.Place.{Place}
-use Rattle.scan_numbers.specs.declared.number.Place.TheVariants as place
+use Rattle.scan_numbers.specs.FactorResumes as factor
 use Rattle.scan_numbers.specs.declared.number.NumberScan.{NumberScan}
+use Rattle.scan_numbers.specs.declared.factor.FactorScan.{FactorScan}
 use Rattle.reading_frames.specs.Sees.{Lists, has_no_token}
-use Rattle.reading_frames.specs.Resumes.{resume, resume_command, resume_name, name_at, resume_file, file_at, resume_build, build_at}
+use Rattle.reading_frames.specs.Resumes.{resume, resume_command, resume_name, name_at, file_at, resume_build, build_at}
 use Rattle.reading_frames.specs.Stack.{asks_in, frames_of}
-use Rattle.reading_frames.specs.Weights.{frame_end, asks_weight, innermost_weight, innermost_end, opening_end, begun_weight, begun_with_weight, put_count, innermost_puts, IsReported}
+use Rattle.reading_frames.specs.Weights.{frame_end, own_weight, asks_weight, innermost_weight, begun_weight, fed_weight, IsReported, IsEnd}
 use Rattle.reading_frames.specs.declared.ask.Opening.{Opening}
 use Rattle.reading_frames.specs.declared.ask.Opening.TheVariants as opening
 use Rattle.rows.specs.declared.command.Call.{Call}
+use Rattle.rows.specs.declared.words.Kind.{Kind}
 use Rattle.rows.specs.declared.words.Kind.TheVariants as kind
 use Rattle.reading_frames.specs.declared.command.CommandScan.{CommandScan}
 use Rattle.reading_frames.specs.declared.command.CommandScan.TheVariants as command
@@ -48,10 +60,22 @@ use Rattle.reading_frames.specs.declared.text.BuildPlace.{BuildPlace}
 use Rattle.reading_frames.specs.declared.text.BuildPlace.TheVariants as at
 use Rattle.reading_frames.specs.declared.text.BuildScan.{BuildScan}
 use Rattle.reading_frames.specs.declared.frame.Frame.{Frame}
-use Rattle.reading_frames.specs.declared.frame.Frame.TheVariants.{Command, Integer, Keyword, Build, Spelling, FileName, Behind}
+use Rattle.reading_frames.specs.declared.frame.Frame.TheVariants.{Command, Integer, Factor, Dimension, Glue, Keyword, Build, Spelling, FileName, Behind}
 use Rattle.reading_frames.proofs.Rows.{told_holds, value_holds}
 use Rattle.reading_frames.proofs.Asking.{frame_asks}
-use Rattle.reading_frames.proofs.Keywords.{keyword_light, keyword_small, keyword_told, keyword_unfetched}
+use Rattle.reading_frames.proofs.Keywords.{keyword_light, keyword_small, keyword_told, keyword_unfetched, keyword_unended}
+use Rattle.reading_frames.proofs.Integers.{integer_light, integer_fed, integer_told, integer_fetched, integer_unended}
+use Rattle.reading_frames.proofs.Factors.{factor_light, factor_fed, factor_told, factor_fetched, factor_unended}
+use Rattle.reading_frames.proofs.Dimens.{dimension_light, dimension_told, dimension_fetched, dimension_valued, dimension_unended}
+use Rattle.reading_frames.proofs.Glues.{glue_light, glue_told, glue_fetched, glue_valued, glue_unended}
+
+-- a report, by what may follow it
+report_light : (report : Report) → after report + fetching_behind report ≤ 3
+report_light MissingNumber = omega arith
+report_light IncompatibleUnits = omega arith
+report_light (BadCharacterCode n) = omega arith
+report_light (BadRegisterCode n) = omega arith
+report_light report = omega arith
 
 -- COMMANDS
 
@@ -60,10 +84,10 @@ row_told f =
     told_holds (λ (a : Ask). ask_weight behind_weight a ≤ behind_weight) (λ want. omega arith) (λ k. omega arith) (λ c e. effect_light e) (λ c e ts. omega arith) (λ c n ts. omega arith)
     (omega arith) f
 
-row_valued : (f : RowFrame) (v : Value) (ts : List Token) → ask_weight behind_weight (row.resume f (Val v ts ∷ [])) ≤ 25
+row_valued : (f : RowFrame) (v : Value) (ts : List Token) → ask_weight behind_weight (row.resume f (Val v ts ∷ [])) ≤ 64
 row_valued f v ts =
-    value_holds (λ (a : Ask). ask_weight behind_weight a ≤ 25) (λ want. omega arith) (λ k. omega arith) (λ c e. omega (arith, effect_light e)) (λ c e ts. omega arith)
-    (λ c n ts. omega arith) (omega arith) (λ report. omega (arith, fetching_light report)) v ts f
+    value_holds (λ (a : Ask). ask_weight behind_weight a ≤ 64) (λ want. omega arith) (λ k. omega arith) (λ c e. omega (arith, effect_light e)) (λ c e ts. omega arith)
+    (λ c n ts. omega arith) (omega arith) (λ report. omega (arith, report_light report)) v ts f
 
 pub command_told : (s : CommandScan) → IsNoted (resume_command s [] []) → ask_weight behind_weight (resume_command s [] (Told ∷ [])) < ask_weight behind_weight (resume_command s [] [])
 command_told (command.Reads f) h = omega (arith, row_told f, note_heavy behind_weight (row.resume f []) h)
@@ -72,7 +96,7 @@ command_told (command.ActsOn c e b) h = absurd h
 command_told (command.Defines c n b) h = absurd h
 command_told command.Ended h = absurd h
 
-command_valued : (s : CommandScan) (v : Value) (ts : List Token) → ask_weight behind_weight (resume_command s [] (Val v ts ∷ [])) ≤ 25
+command_valued : (s : CommandScan) (v : Value) (ts : List Token) → ask_weight behind_weight (resume_command s [] (Val v ts ∷ [])) ≤ 64
 command_valued (command.Reads f) v ts = row_valued f v ts
 command_valued (command.Acts c e) v ts = omega (arith, effect_light e)
 command_valued (command.ActsOn c e b) v ts = omega arith
@@ -96,54 +120,15 @@ sampled true = refl
 sampled false = refl
 
 pub command_light : (s : CommandScan) (v : Value) (b : Bool) (new : CommandScan) (held : Lists) → resume_command s [] (Val v (sample b) ∷ []) ≡ resume_command new held [] →
-    ask_weight behind_weight (resume_command new [] []) < frame_weight + value_weight
+    ask_weight behind_weight (resume_command new [] []) < value_frame + value_weight
 command_light s v b new held e =
     let same : ask_weight behind_weight (resume_command s [] (Val v (sample b) ∷ [])) ≡ ask_weight behind_weight (resume_command new [] []) =
     ap (λ (a : Ask). ask_weight behind_weight a) e ∙ command_same new held in
     omega (arith, same, command_valued s v (sample b))
 
--- INTEGERS
-
-integer_at : (negative : Bool) (p : Place) → ask_weight value_weight (number.resume_at negative p []) ≤ 19
-integer_at negative place.Signs = omega arith
-integer_at negative place.Quote = omega arith
-integer_at negative (place.First radix) = omega arith
-integer_at negative (place.Digits radix n) = omega arith
-integer_at negative (place.TooBig radix) = omega arith
-integer_at negative (place.Dropped radix) = omega arith
-integer_at negative (place.Behind code) = omega arith
-integer_at negative place.NoNumber = omega arith
-integer_at negative place.NoCode = omega arith
-integer_at negative (place.Numbered b) = omega arith
-integer_at negative (place.BadNumber (bank.Codes kind) n) = omega arith
-integer_at negative (place.BadNumber (bank.Registers kind) n) = omega arith
-integer_at negative (place.Fetching l) = omega arith
-integer_at negative (place.MuFound n) = omega arith
-integer_at negative (place.Ended n back) = omega arith
-
-told_at : (negative : Bool) (p : Place) → IsNoted (number.resume_at negative p []) → ask_weight value_weight (number.resume_at negative p (Told ∷ [])) < ask_weight value_weight (number.resume_at negative p [])
-told_at negative place.Signs h = absurd h
-told_at negative place.Quote h = absurd h
-told_at negative (place.First radix) h = absurd h
-told_at negative (place.Digits radix n) h = absurd h
-told_at negative (place.TooBig radix) h = omega arith
-told_at negative (place.Dropped radix) h = absurd h
-told_at negative (place.Behind code) h = absurd h
-told_at negative place.NoNumber h = omega arith
-told_at negative place.NoCode h = omega arith
-told_at negative (place.Numbered b) h = absurd h
-told_at negative (place.BadNumber (bank.Codes kind) n) h = omega arith
-told_at negative (place.BadNumber (bank.Registers kind) n) h = omega arith
-told_at negative (place.Fetching l) h = absurd h
-told_at negative (place.MuFound n) h = omega arith
-told_at negative (place.Ended n back) h = absurd h
-
-pub integer_told : (s : NumberScan) → IsNoted (number.resume s []) → ask_weight value_weight (number.resume s (Told ∷ [])) < ask_weight value_weight (number.resume s [])
-integer_told s h = told_at s.negative s.place h
-
 -- LISTS
 
-stage_at : (m : Manner) (s : Stage) (list : List Token) → ask_weight value_weight (build_ask (stages.resume m s list [])) ≤ 19
+stage_at : (m : Manner) (s : Stage) (list : List Token) → ask_weight value_weight (build_ask (stages.resume m s list [])) ≤ 59
 stage_at m stage.First list = omega arith
 stage_at m stage.FirstMissing list = omega arith
 stage_at m (stage.Parameters count) list = omega arith
@@ -155,7 +140,7 @@ stage_at m (stage.InBody b depth) list = omega arith
 stage_at m (stage.Reference b depth character) list = omega arith
 stage_at m (stage.Illegal b depth character) list = omega arith
 
-build_at_light : (m : Manner) (p : BuildPlace) (list : List Token) → ask_weight value_weight (build_ask (build_at m p list [])) ≤ 19
+build_at_light : (m : Manner) (p : BuildPlace) (list : List Token) → ask_weight value_weight (build_ask (build_at m p list [])) ≤ 59
 build_at_light m (at.At s) list = stage_at m s list
 build_at_light m at.Whole list = omega arith
 
@@ -211,7 +196,7 @@ name_told_at c spell.Stopped h = absurd h
 pub name_told : (s : SpellScan) → IsNoted (resume_name s [] []) → ask_weight behind_weight (resume_name s [] (Told ∷ [])) < ask_weight behind_weight (resume_name s [] [])
 name_told s h = name_told_at s.call s.place h
 
-name_light_at : (c : Call) (p : SpellPlace) → ask_weight behind_weight (name_at c p [] []) ≤ 25
+name_light_at : (c : Call) (p : SpellPlace) → ask_weight behind_weight (name_at c p [] []) ≤ 61
 name_light_at c spell.Inside = omega arith
 name_light_at c spell.NoEnd = omega arith
 name_light_at c spell.Whole = omega arith
@@ -219,39 +204,45 @@ name_light_at c spell.Stopped = omega arith
 
 -- `\input`
 
-file_puts_at : (c : Call) (p : FilePlace) → PutsLight behind_weight (file_at c p [] [])
-file_puts_at c file.Before = tt
-file_puts_at c file.Inside = tt
-file_puts_at c (file.Whole back) = tt
-file_puts_at c file.Stopped = tt
-
-file_light : (s : FileScan) → asks_weight (FileName s) ≤ 30
-file_light s = any_light behind_weight (resume_file s [] []) (omega arith) (file_puts_at s.call s.place)
+file_light_at : (c : Call) (p : FilePlace) → ask_weight behind_weight (file_at c p [] []) ≤ 61
+file_light_at c file.Before = omega arith
+file_light_at c file.Inside = omega arith
+file_light_at c (file.Whole back) = omega arith
+file_light_at c file.Stopped = omega arith
 
 -- ALL
 
-due_puts : (n : Note) → PutsLight behind_weight (due n)
-due_puts (note.Tells report back) = tt
-due_puts (note.Inserts t report back) = tt
-due_puts (note.Relaxes c n) = tt
+inner_light : (k : Kind) (begins : Bool) → ask_weight behind_weight (Inner k begins) ≤ 92
+inner_light k false = omega arith
+inner_light (kind.Dimension k) true = omega arith
+inner_light (kind.Glue mu) true = omega arith
+inner_light k true = omega arith
 
-command_puts : (s : CommandScan) → PutsLight behind_weight (resume_command s [] [])
-command_puts (command.Reads f) = frame_asks (λ (a : Ask). PutsLight behind_weight a) (λ want. tt) (λ k begins. tt) (λ c e. tt) due_puts f
-command_puts (command.Acts c e) = tt
-command_puts (command.ActsOn c e b) = tt
-command_puts (command.Defines c n b) = tt
-command_puts command.Ended = tt
+due_light : (n : Note) → ask_weight behind_weight (due n) ≤ 92
+due_light (note.Tells report back) = omega (arith, report_light report)
+due_light (note.Inserts t report back) = omega (arith, report_light report)
+due_light (note.Relaxes c n) = omega arith
 
-pub all_light : (f : Frame) → asks_weight f ≤ 30
-all_light (Command s h) = any_light behind_weight (resume_command s [] []) (omega arith) (command_puts s)
-all_light (Integer s) = omega (arith, integer_at s.negative s.place)
+command_most : (s : CommandScan) → ask_weight behind_weight (resume_command s [] []) ≤ 92
+command_most (command.Reads f) = frame_asks (λ (a : Ask). ask_weight behind_weight a ≤ 92) (λ want. omega arith) inner_light (λ c e. omega (arith, effect_light e)) due_light f
+command_most (command.Acts c e) = omega (arith, effect_light e)
+command_most (command.ActsOn c e b) = omega arith
+command_most (command.Defines c n b) = omega arith
+command_most command.Ended = omega arith
+
+pub all_light : (f : Frame) → asks_weight f ≤ 92
+all_light (Command s h) = command_most s
+all_light (Integer s) = omega (arith, integer_light s)
+all_light (Factor s) = omega (arith, factor_light s)
+all_light (Dimension s) = omega (arith, dimension_light s)
+all_light (Glue s) = omega (arith, glue_light s)
 all_light (Keyword s) = omega (arith, keyword_small s)
 all_light (Build s) = omega (arith, build_at_light s.manner s.place [])
 all_light (Spelling s) = omega (arith, name_light_at s.call s.place)
-all_light (FileName s) = file_light s
+all_light (FileName s) = omega (arith, file_light_at s.call s.place)
 all_light (Behind c x) = omega arith
 
-pub small : (fs : List Frame) → innermost_weight fs < frame_weight + act_weight
+pub small : (fs : List Frame) → innermost_weight fs < act_frame + act_weight
 small [] = omega arith
 small (f ∷ fs) = omega (arith, all_light f)
 
@@ -261,28 +252,68 @@ pub innermost_falls : (fs : List Frame) (o : Option Frame) (f new : Frame) (bene
 innermost_falls fs o f new beneath is begun falls =
     subst (λ (gs : List Frame). IsReported (asks_in gs []) → asks_weight new < innermost_weight gs) (ap (λ (p : Option Frame). frames_of p beneath) begun ∙ sym is) falls
 
--- WHAT HAS A VALUE, AND WHAT IS NO COMMAND
+-- BEHIND A VALUE
 
-pub value_light : (f : Frame) → frame_end f ≡ value_weight → put_count f ≤ 1 → asks_weight f ≤ 19
-value_light (Command s h) e one = absurd (omega (arith, e))
-value_light (Integer s) e one = integer_at s.negative s.place
-value_light (Keyword s) e one = omega (arith, one, keyword_light s)
-value_light (Build s) e one = build_at_light s.manner s.place []
-value_light (Spelling s) e one = absurd (omega (arith, e))
-value_light (FileName s) e one = absurd (omega (arith, e))
-value_light (Behind c x) e one = absurd (omega (arith, e))
-
-pub keyword_valued : (s : KeywordScan) → asks_weight (Keyword s) < frame_weight + value_weight
+pub keyword_valued : (s : KeywordScan) → asks_weight (Keyword s) < value_frame + value_weight
 keyword_valued s = omega (arith, keyword_small s)
 
-pub integer_light : (s : NumberScan) → asks_weight (Integer s) < frame_weight + value_weight
-integer_light s = omega (arith, integer_at s.negative s.place)
+pub integer_valued : (s : NumberScan) → asks_weight (Integer s) < value_frame + value_weight
+integer_valued s = omega (arith, integer_light s)
 
-pub build_light : (s : BuildScan) → asks_weight (Build s) < frame_weight + value_weight
-build_light s = omega (arith, build_at_light s.manner s.place [])
+pub factor_valued : (s : FactorScan) → asks_weight (Factor s) < value_frame + value_weight
+factor_valued s = omega (arith, factor_light s)
 
-pub name_light : (s : SpellScan) → asks_weight (Spelling s) < frame_weight + value_weight
-name_light s = omega (arith, name_light_at s.call s.place)
+pub measured : (s new : DimenScan) (v : Value) → ((fed : List dimens.Fed) → dimen.resume s (dimen_value v ∷ fed) ≡ dimen.resume new fed) → asks_weight (Dimension new) < value_frame + value_weight
+measured s new v e =
+    let same = ap (λ (a : dimens.Answer). ask_weight value_weight (dimen_ask a)) (e []) in
+    omega (arith, same, dimension_valued s v)
+
+pub glued : (s new : GlueScan) (v : Value) → ((fed : List glues.Fed) → glue.resume s (glue_value v ∷ fed) ≡ glue.resume new fed) → asks_weight (Glue new) < value_frame + value_weight
+glued s new v e =
+    let same = ap (λ (a : glues.Answer). ask_weight value_weight (glue_ask a)) (e []) in
+    omega (arith, same, glue_valued s v)
+
+-- BEHIND A TOKEN
+
+-- a frame of another kind than integers, factors and keywords never weighs more
+most_fed : (f : Frame) → fed_weight f ≡ 92 → (new : Frame) → asks_weight new ≤ fed_weight f
+most_fed f e new = omega (arith, e, all_light new)
+
+pub command_fed : (f : Frame) (s : CommandScan) (h : Head) (new : Frame) → f ≡ Command s h → asks_weight new ≤ fed_weight f
+command_fed f s h new is = most_fed f (ap fed_weight is) new
+
+pub spelling_fed : (f : Frame) (s : SpellScan) (new : Frame) → f ≡ Spelling s → asks_weight new ≤ fed_weight f
+spelling_fed f s new is = most_fed f (ap fed_weight is) new
+
+pub file_fed : (f : Frame) (s : FileScan) (new : Frame) → f ≡ FileName s → asks_weight new ≤ fed_weight f
+file_fed f s new is = most_fed f (ap fed_weight is) new
+
+pub behind_fed : (f : Frame) (c : Call) (x : Seen) (new : Frame) → f ≡ Behind c x → asks_weight new ≤ fed_weight f
+behind_fed f c x new is = most_fed f (ap fed_weight is) new
+
+pub number_fed : (f : Frame) (s new : NumberScan) (x : Seen) → f ≡ Integer s → ((fed : List Fed) → number.resume s (Tok x ∷ fed) ≡ number.resume new fed) → asks_weight (Integer new) ≤ fed_weight f
+number_fed f s new x is e =
+    let same = ap (λ (a : Ask). ask_weight value_weight a) (e []) in
+    let most = ap fed_weight is in
+    omega (arith, same, most, integer_fed s x)
+
+pub fraction_fed : (f : Frame) (s new : FactorScan) (x : Seen) → f ≡ Factor s → ((fed : List Fed) → factor.resume_factor s (Tok x ∷ fed) ≡ factor.resume_factor new fed) → asks_weight (Factor new) ≤ fed_weight f
+fraction_fed f s new x is e =
+    let same = ap (λ (a : Ask). ask_weight value_weight a) (e []) in
+    let most = ap fed_weight is in
+    omega (arith, same, most, factor_fed s x)
+
+pub dimension_fed : (f : Frame) (s new : DimenScan) → f ≡ Dimension s → asks_weight (Dimension new) ≤ fed_weight f
+dimension_fed f s new is = omega (arith, ap fed_weight is, dimension_light new)
+
+pub glue_fed : (f : Frame) (s new : GlueScan) → f ≡ Glue s → asks_weight (Glue new) ≤ fed_weight f
+glue_fed f s new is = omega (arith, ap fed_weight is, glue_light new)
+
+pub keyword_fed : (f : Frame) (s new : KeywordScan) → f ≡ Keyword s → keyword.kept_in new ≤ keyword.kept_in s + 1 → asks_weight (Keyword new) ≤ fed_weight f
+keyword_fed f s new is more = omega (arith, ap fed_weight is, more, keyword_light new)
+
+pub build_fed : (f : Frame) (s new : BuildScan) → f ≡ Build s → asks_weight (Build new) ≤ fed_weight f
+build_fed f s new is = omega (arith, ap fed_weight is, build_at_light new.manner new.place [])
 
 -- BEHIND A NOTE a frame that reported weighs less.
 
@@ -299,6 +330,59 @@ pub keyword_falls : (f : Frame) (s new : KeywordScan) → f ≡ Keyword s → ((
 keyword_falls f s new is e =
     subst (λ (g : Frame). IsNoted (resume g [] []) → asks_weight (Keyword new) < asks_weight g) (sym is)
     (λ (h : IsNoted (keyword.resume s [])). let same = ap (λ (a : Ask). ask_weight value_weight a) (e []) in omega (arith, same, keyword_told s h))
+
+pub number_falls : (f : Frame) (s new : NumberScan) → f ≡ Integer s → ((fed : List Fed) → number.resume s (Told ∷ fed) ≡ number.resume new fed) → IsNoted (resume f [] []) →
+    asks_weight (Integer new) < asks_weight f
+number_falls f s new is e =
+    subst (λ (g : Frame). IsNoted (resume g [] []) → asks_weight (Integer new) < asks_weight g) (sym is)
+    (λ (h : IsNoted (number.resume s [])). let same = ap (λ (a : Ask). ask_weight value_weight a) (e []) in omega (arith, same, integer_told s h))
+
+pub fraction_falls : (f : Frame) (s new : FactorScan) → f ≡ Factor s → ((fed : List Fed) → factor.resume_factor s (Told ∷ fed) ≡ factor.resume_factor new fed) → IsNoted (resume f [] []) →
+    asks_weight (Factor new) < asks_weight f
+fraction_falls f s new is e =
+    subst (λ (g : Frame). IsNoted (resume g [] []) → asks_weight (Factor new) < asks_weight g) (sym is)
+    (λ (h : IsNoted (factor.resume_factor s [])). let same = ap (λ (a : Ask). ask_weight value_weight a) (e []) in omega (arith, same, factor_told s h))
+
+pub dimension_falls : (f : Frame) (s new : DimenScan) → f ≡ Dimension s → ((fed : List dimens.Fed) → dimen.resume s (dimens.Told ∷ fed) ≡ dimen.resume new fed) → IsNoted (resume f [] []) →
+    asks_weight (Dimension new) < asks_weight f
+dimension_falls f s new is e =
+    subst (λ (g : Frame). IsNoted (resume g [] []) → asks_weight (Dimension new) < asks_weight g) (sym is)
+    (λ (h : IsNoted (dimen_ask (dimen.resume s []))). let same = ap (λ (a : dimens.Answer). ask_weight value_weight (dimen_ask a)) (e []) in omega (arith, same, dimension_told s h))
+
+pub glue_falls : (f : Frame) (s new : GlueScan) → f ≡ Glue s → ((fed : List glues.Fed) → glue.resume s (glues.Told ∷ fed) ≡ glue.resume new fed) → IsNoted (resume f [] []) →
+    asks_weight (Glue new) < asks_weight f
+glue_falls f s new is e =
+    subst (λ (g : Frame). IsNoted (resume g [] []) → asks_weight (Glue new) < asks_weight g) (sym is)
+    (λ (h : IsNoted (glue_ask (glue.resume s []))). let same = ap (λ (a : glues.Answer). ask_weight value_weight (glue_ask a)) (e []) in omega (arith, same, glue_told s h))
+
+-- BEHIND WHAT STANDS AT A LOCATION a frame that asked for it weighs less.
+
+fetches_heavy : (f : Frame) (l : Loc) → value_weight ≡ frame_end f → resume f [] [] ≡ Fetches l → asks_weight f ≡ value_weight + 3
+fetches_heavy f l end e = ap (λ (a : Ask). ask_weight (frame_end f) a) e ∙ ap (λ (n : ℕ). n + 3) (sym end)
+
+pub number_fetched : (f : Frame) (s new : NumberScan) (v : SeenValue) → f ≡ Integer s → ((fed : List Fed) → number.resume s (Fetched v ∷ fed) ≡ number.resume new fed) →
+    (l : Loc) → resume f [] [] ≡ Fetches l → asks_weight (Integer new) < asks_weight f
+number_fetched f s new v is e l asks =
+    let same = ap (λ (a : Ask). ask_weight value_weight a) (e []) in
+    omega (arith, same, fetches_heavy f l (sym (ap frame_end is)) asks, integer_fetched s v)
+
+pub fraction_fetched : (f : Frame) (s new : FactorScan) (v : SeenValue) → f ≡ Factor s → ((fed : List Fed) → factor.resume_factor s (Fetched v ∷ fed) ≡ factor.resume_factor new fed) →
+    (l : Loc) → resume f [] [] ≡ Fetches l → asks_weight (Factor new) < asks_weight f
+fraction_fetched f s new v is e l asks =
+    let same = ap (λ (a : Ask). ask_weight value_weight a) (e []) in
+    omega (arith, same, fetches_heavy f l (sym (ap frame_end is)) asks, factor_fetched s v)
+
+pub measure_fetched : (f : Frame) (s new : DimenScan) (v : SeenValue) → f ≡ Dimension s → ((fed : List dimens.Fed) → dimen.resume s (dimens.Fetched v ∷ fed) ≡ dimen.resume new fed) →
+    (l : Loc) → resume f [] [] ≡ Fetches l → asks_weight (Dimension new) < asks_weight f
+measure_fetched f s new v is e l asks =
+    let same = ap (λ (a : dimens.Answer). ask_weight value_weight (dimen_ask a)) (e []) in
+    omega (arith, same, fetches_heavy f l (sym (ap frame_end is)) asks, dimension_fetched s v)
+
+pub skip_fetched : (f : Frame) (s new : GlueScan) (v : SeenValue) → f ≡ Glue s → ((fed : List glues.Fed) → glue.resume s (glues.Fetched v ∷ fed) ≡ glue.resume new fed) →
+    (l : Loc) → resume f [] [] ≡ Fetches l → asks_weight (Glue new) < asks_weight f
+skip_fetched f s new v is e l asks =
+    let same = ap (λ (a : glues.Answer). ask_weight value_weight (glue_ask a)) (e []) in
+    omega (arith, same, fetches_heavy f l (sym (ap frame_end is)) asks, glue_fetched s v)
 
 -- a keyword asks for nothing that stands at a location
 pub keyword_fetched : (f : Frame) (s new : KeywordScan) → f ≡ Keyword s → (l : Loc) → resume f [] [] ≡ Fetches l → asks_weight (Keyword new) < asks_weight f
@@ -319,18 +403,31 @@ command_begun c s h o is e =
     let most : begun_weight o ≡ 11 = ap begun_weight is in
     omega (arith, same, most, begins_light (Reads (kind.Command c)) tt)
 
--- with a token
+-- AN END WITHOUT A VALUE
 
-value_frames : (fs : List Frame) → innermost_end fs ≡ value_weight → innermost_puts fs ≤ 1 → innermost_weight fs ≤ 19
-value_frames [] e one = omega arith
-value_frames (f ∷ fs) e one = value_light f e one
+build_unended : (a : build.Answer) → IsEnd (build_ask a) → ⊥
+build_unended (build.More want list) h = h
+build_unended (build.Tells report back list) h = h
+build_unended (build.Done list) h = h
 
-pub begun_with_light : (o : Opening) (fs : List Frame) → innermost_end fs ≡ opening_end o → innermost_puts fs ≤ 1 → innermost_weight fs ≤ begun_with_weight o
-begun_with_light (opening.Reads (kind.Command c)) fs e one = omega (arith, small fs)
-begun_with_light (opening.Reads kind.Integer) fs e one = value_frames fs e one
-begun_with_light (opening.Reads (kind.Keyword w)) fs e one = value_frames fs e one
-begun_with_light (opening.Reads (kind.Text name expanded)) fs e one = value_frames fs e one
-begun_with_light (opening.Reads (kind.Definition name expanded)) fs e one = value_frames fs e one
-begun_with_light (opening.Spelling c) fs e one = omega (arith, small fs)
-begun_with_light (opening.FileName c) fs e one = omega (arith, small fs)
-begun_with_light (opening.Behind c x) fs e one = omega (arith, small fs)
+pub frame_ends : (f : Frame) → IsEnd (resume f [] []) → own_weight f ≡ act_frame
+frame_ends (Command s p) h = refl
+frame_ends (Integer s) h = absurd (integer_unended s h)
+frame_ends (Factor s) h = absurd (factor_unended s h)
+frame_ends (Dimension s) h = absurd (dimension_unended (dimen.resume s []) h)
+frame_ends (Glue s) h = absurd (glue_unended (glue.resume s []) h)
+frame_ends (Keyword s) h = absurd (keyword_unended s h)
+frame_ends (Build s) h = absurd (build_unended (resume_build s [] []) h)
+frame_ends (Spelling s) h = refl
+frame_ends (FileName s) h = refl
+frame_ends (Behind c x) h = refl
+
+-- a frame weighs more than nothing
+pub frame_heavy : (f : Frame) → value_frame ≤ own_weight f
+frame_heavy (Integer s) = omega arith
+frame_heavy (Factor s) = omega arith
+frame_heavy (Dimension s) = omega arith
+frame_heavy (Glue s) = omega arith
+frame_heavy (Keyword s) = omega arith
+frame_heavy (Build s) = omega arith
+frame_heavy f = omega arith

@@ -6,7 +6,7 @@ use Rattle.reading_frames.specs.Stack.{innermost_lists, innermost_count, lists_b
 use Rattle.reading_frames.specs.Stands.{opened_lists}
 use Rattle.reading_frames.specs.declared.ask.Opening.{Opening}
 use Rattle.reading_frames.specs.declared.ask.Opening.TheVariants.{Reads, Spelling, FileName, Behind}
-use Rattle.rows.specs.declared.words.Kind.TheVariants.{Command, Integer, Keyword, Text, Definition}
+use Rattle.rows.specs.declared.words.Kind.TheVariants.{Command, Integer, Factor, Dimension, Glue, Keyword, Text, Definition}
 use Rattle.reading_frames.specs.declared.frame.Frame.{Frame}
 use Rattle.reading_frames.proofs.Held.{built_now}
 
@@ -24,6 +24,9 @@ whole (f ∷ fs) held list rest built holds beneath =
 pub opened_list : (o : Opening) (held : Lists) → 1 ≤ length (opened_lists o []) → opened_lists o held ≡ [] ∷ held
 opened_list (Reads (Command c)) held h = absurd (omega (arith, h))
 opened_list (Reads Integer) held h = absurd (omega (arith, h))
+opened_list (Reads Factor) held h = absurd (omega (arith, h))
+opened_list (Reads (Dimension k)) held h = absurd (omega (arith, h))
+opened_list (Reads (Glue mu)) held h = absurd (omega (arith, h))
 opened_list (Reads (Keyword w)) held h = absurd (omega (arith, h))
 opened_list (Behind c x) held h = absurd (omega (arith, h))
 opened_list (Reads (Text name expanded)) held h = refl

@@ -22,8 +22,12 @@ use Rattle.plain_readings.specs.Scanning.{Status, Scans, Unguarded, Inherits, co
 use Rattle.plain_readings.specs.Lists.{build_fed, build_ask, built}
 use Rattle.plain_readings.specs.Spelling.{spelling, characters, endcsname_missing, makes}
 use Rattle.plain_readings.specs.FileNames.{file_naming, file_characters, opens}
+use Rattle.plain_readings.specs.Measures.{dimen_fed, dimen_ask, glue_fed, glue_ask}
 use Rattle.scan_numbers.specs.Resumes as number
+use Rattle.scan_numbers.specs.FactorResumes as factor
 use Rattle.scan_dimens.specs.Resumes as keyword
+use Rattle.scan_dimens.specs.DimenResumes as dimen
+use Rattle.scan_glue.specs.GlueResumes as glue
 use Rattle.reading_frames.specs.declared.ask.Ask.{Ask as Answer}
 use Rattle.reading_frames.specs.declared.ask.Ask.TheVariants as answer
 use Rattle.reading_frames.specs.declared.ask.Grown.{Grown}
@@ -39,7 +43,7 @@ use Rattle.reading_frames.specs.declared.text.BuildPlace.{BuildPlace}
 use Rattle.reading_frames.specs.declared.text.BuildPlace.TheVariants as place
 use Rattle.reading_frames.specs.declared.text.BuildScan.{BuildScan}
 use Rattle.reading_frames.specs.declared.frame.Frame.{Frame}
-use Rattle.reading_frames.specs.declared.frame.Frame.TheVariants.{Command, Integer, Keyword, Build, Spelling, FileName, Behind}
+use Rattle.reading_frames.specs.declared.frame.Frame.TheVariants.{Command, Integer, Factor, Dimension, Glue, Keyword, Build, Spelling, FileName, Behind}
 use Rattle.reading_frames.specs.Sees.{Lists, top_list, kept_list_of}
 
 -- A command, and the list with which it is to do something
@@ -153,6 +157,9 @@ token_count g = cell_count g.first + cell_count g.second
 abbrev pub resume : Frame → Lists → List Fed → Ask
 resume (Command scan head) held fed = resume_command scan held fed
 resume (Integer scan) held fed = number.resume scan fed
+resume (Factor scan) held fed = factor.resume_factor scan fed
+resume (Dimension scan) held fed = dimen_ask (dimen.resume scan (dimen_fed fed))
+resume (Glue scan) held fed = glue_ask (glue.resume scan (glue_fed fed))
 resume (Keyword scan) held fed = keyword.resume scan fed
 resume (Build scan) held fed = build_ask (resume_build scan (top_list held) fed)
 resume (Spelling scan) held fed = resume_name scan (top_list held) fed
@@ -163,6 +170,9 @@ resume (Behind c x) held fed = reading.Acts c (PutBack x)
 abbrev pub building : Frame → Lists → List Fed → Lists
 building (Command scan head) held fed = command_lists scan held fed
 building (Integer scan) held fed = []
+building (Factor scan) held fed = []
+building (Dimension scan) held fed = []
+building (Glue scan) held fed = []
 building (Keyword scan) held fed = []
 building (Build scan) held fed = built (resume_build scan (top_list held) fed) ∷ []
 building (Spelling scan) held fed = name_list scan (top_list held) fed ∷ []

@@ -9,7 +9,7 @@ use Rattle.plain_readings.specs.Readings as kind
 use Rattle.reading_frames.specs.declared.ask.Opening.{Opening}
 use Rattle.reading_frames.specs.declared.ask.Opening.TheVariants.{Reads, Spelling, FileName, Behind}
 use Rattle.reading_frames.specs.declared.ask.Ask.{Ask}
-use Rattle.reading_frames.specs.declared.ask.Ask.TheVariants.{More, Inner, Done, Acts, ActsOn, Defines, Ends, Tells, Inserts, Puts, Relaxes, Fetches}
+use Rattle.reading_frames.specs.declared.ask.Ask.TheVariants.{More, Inner, Done, Acts, ActsOn, Defines, Ends, Tells, Inserts, Puts, Relaxes, Magnifies, Fetches}
 use Rattle.reading_frames.specs.declared.ask.Grown.{Grown}
 
 -- The lists that open readings hold, that of the innermost first, and of each reading the last one first.
@@ -60,6 +60,7 @@ ask_of held (Tells report back) = reading.Tells report back
 ask_of held (Inserts t report back) = reading.Inserts t report back
 ask_of held (Puts t more) = reading.Puts t more
 ask_of held (Relaxes c n) = reading.Relaxes c n
+ask_of held Magnifies = reading.Magnifies
 ask_of held (Fetches l) = reading.Fetches l
 
 -- what is fetched stands at a location that is there

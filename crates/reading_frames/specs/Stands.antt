@@ -1,6 +1,6 @@
 -- The open frames stand for the open readings of the machine, one for one.
 use Rattle.std.specs.Prelude.{◌≡◌, ◌≤◌, length, List, [], ◌∷◌, ◌++◌, drop, take}
-use Rattle.rows.specs.declared.words.Kind.TheVariants.{Command, Integer, Keyword}
+use Rattle.rows.specs.declared.words.Kind.TheVariants.{Command, Integer, Factor, Dimension, Glue, Keyword}
 use Rattle.rows.specs.Readings.{Fed}
 use Rattle.plain_readings.specs.Readings.{Kind, Arguments, Reading, ask, lists, fed_with, opened}
 use Rattle.plain_readings.specs.Scanning.{status}
@@ -39,6 +39,9 @@ AreShallow (f ∷ fs) held = (groups f ≤ length (top_list held)) × AreShallow
 abbrev pub opened_lists : Opening → Lists → Lists
 opened_lists (Reads (Command c)) held = held
 opened_lists (Reads Integer) held = held
+opened_lists (Reads Factor) held = held
+opened_lists (Reads (Dimension k)) held = held
+opened_lists (Reads (Glue mu)) held = held
 opened_lists (Reads (Keyword w)) held = held
 opened_lists (Behind c x) held = held
 opened_lists o held = [] ∷ held

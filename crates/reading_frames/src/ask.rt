@@ -38,6 +38,8 @@ pub enum Ask {
     Puts(Token, u8),
     /// The name becomes `\relax`, by this command.
     Relaxes(Call, Name),
+    /// That the magnification be checked.
+    Magnifies,
     /// What stands at a location.
     Fetches(Loc),
 }

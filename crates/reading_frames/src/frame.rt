@@ -7,10 +7,14 @@ ghost use Rattle.rows.specs.Readings.{Fed, Tok, Told, Val, Fetched, Fetches};
 ghost use Rattle.reading_frames.specs.Sees.{ask_of, has_no_token, kind_of, IsFetchedAt, Lists, on_top, top_list};
 ghost use Rattle.reading_frames.specs.Stands.{Begins, opened_lists};
 ghost use Rattle.reading_frames.specs.Resumes.{resume, building, list_count, below, frame_status, groups, read_at, reads_unguarded, token_count, with_list, Owns};
-ghost use Rattle.reading_frames.specs.Weights.{asks_weight, begun_weight, frame_end, opening_end, put_count};
-ghost use Rattle.plain_readings.specs.Weights.{frame_weight, value_weight, IsNoted};
+ghost use Rattle.reading_frames.specs.Weights.{asks_weight, begun_weight, begun_with_weight, fed_weight, opening_frame, own_weight};
+ghost use Rattle.plain_readings.specs.Measures.{dimen_ask, dimen_inner, glue_ask, glue_inner};
+ghost use Rattle.plain_readings.specs.Weights.{value_frame, value_weight, IsNoted};
 ghost use Rattle.scan_numbers.specs.Sees as numbers;
+ghost use Rattle.scan_numbers.specs.FactorSees as factors;
 ghost use Rattle.scan_dimens.specs.Sees as keywords;
+ghost use Rattle.scan_dimens.specs.DimenSees as dimens;
+ghost use Rattle.scan_glue.specs.GlueSees as glues;
 
 use crate::ask::{Ask, Grown, Opening};
 use crate::command::CommandScan;
@@ -20,8 +24,9 @@ use crate::text::BuildScan;
 use equivalents::Val as StoredValue;
 use row_frames::reads_under_normal;
 use rows::{Call, Datum, Effect, Head, Kind, Value};
-use scan_dimens::KeywordScan;
-use scan_numbers::NumberScan;
+use scan_dimens::{DimenAsk, DimenScan, KeywordAsk, KeywordScan};
+use scan_glue::{GlueAsk, GlueScan};
+use scan_numbers::{FactorAsk, FactorScan, NumberScan};
 use tex_defs::{Name, Seen};
 use tex_syntax::Scanned;
 
@@ -31,6 +36,10 @@ pub enum Frame {
     /// A command or an expansion, by its row, and what the name means that began.
     Command(CommandScan, Head),
     Integer(NumberScan),
+    /// The integer before a fraction.
+    Factor(FactorScan),
+    Dimension(DimenScan),
+    Glue(GlueScan),
     /// An optional keyword.
     Keyword(KeywordScan),
     /// A balanced text, or the list of a macro.
@@ -58,16 +67,84 @@ fn of_number(asked: scan_numbers::Ask) -> Ask
     }
 }
 
+// What the scanner of a factor asks for.
+fn of_factor(asked: FactorAsk) -> Ask
+    ensures is { (held : Lists) → ask_of held result ≡ factors.ask_of asked }
+    ensures owns { Owns result 0 }
+    ensures found { factors.IsFetchedAt asked → IsFetchedAt result }
+{
+    match asked {
+        FactorAsk::More(want) => Ask::More(want),
+        FactorAsk::Begins => Ask::Inner(Kind::Integer, false),
+        FactorAsk::Fetches(loc) => Ask::Fetches(loc),
+        FactorAsk::Tells(report, back) => Ask::Tells(report, back),
+        FactorAsk::Done(n, point, back) => Ask::Done(Value::Plain(Datum::Factor(n, point)), back),
+    }
+}
+
+// What a dimension reads within.
+fn dimen_kind(inner: scan_dimens::Inner) -> Kind
+    ensures { result ≡ dimen_inner (dimens.inner_of inner) }
+{
+    match inner {
+        scan_dimens::Inner::Factor => Kind::Factor,
+        scan_dimens::Inner::Number => Kind::Integer,
+        scan_dimens::Inner::Key(keyword) => Kind::Keyword(keyword),
+    }
+}
+
+// What a dimension's scanner asks for.
+fn of_dimension(asked: DimenAsk) -> Ask
+    ensures is { (held : Lists) → ask_of held result ≡ dimen_ask (dimens.ask_of asked) }
+    ensures owns { Owns result 0 }
+    ensures found { dimens.IsFetchedAt asked → IsFetchedAt result }
+{
+    match asked {
+        DimenAsk::More(want) => Ask::More(want),
+        DimenAsk::Begins(inner, begins) => Ask::Inner(dimen_kind(inner), begins),
+        DimenAsk::Fetches(loc) => Ask::Fetches(loc),
+        DimenAsk::Magnifies => Ask::Magnifies,
+        DimenAsk::Tells(report, back) => Ask::Tells(report, back),
+        DimenAsk::Done(n, order, back) => Ask::Done(Value::Plain(Datum::Dimension(n, order)), back),
+    }
+}
+
+// What glue reads within.
+fn glue_kind(inner: scan_glue::Inner) -> Kind
+    ensures { result ≡ glue_inner (glues.inner_of inner) }
+{
+    match inner {
+        scan_glue::Inner::Dimension(kind) => Kind::Dimension(kind),
+        scan_glue::Inner::Number => Kind::Integer,
+        scan_glue::Inner::Key(keyword) => Kind::Keyword(keyword),
+    }
+}
+
+// What the scanner of glue asks for.
+fn of_glue(asked: GlueAsk) -> Ask
+    ensures is { (held : Lists) → ask_of held result ≡ glue_ask (glues.ask_of asked) }
+    ensures owns { Owns result 0 }
+    ensures found { glues.IsFetchedAt asked → IsFetchedAt result }
+{
+    match asked {
+        GlueAsk::More(want) => Ask::More(want),
+        GlueAsk::Begins(inner, begins) => Ask::Inner(glue_kind(inner), begins),
+        GlueAsk::Fetches(loc) => Ask::Fetches(loc),
+        GlueAsk::Tells(report) => Ask::Tells(report, false),
+        GlueAsk::Done(glue) => Ask::Done(Value::Plain(Datum::Glue(glue)), false),
+    }
+}
+
 // What a keyword's scanner asks for.
-fn of_keyword(asked: scan_dimens::Ask) -> Ask
+fn of_keyword(asked: KeywordAsk) -> Ask
     ensures is { (held : Lists) → ask_of held result ≡ keywords.ask_of asked }
     ensures owns { Owns result 0 }
     ensures found { IsFetchedAt result }
 {
     match asked {
-        scan_dimens::Ask::More(want) => Ask::More(want),
-        scan_dimens::Ask::Puts(token, more) => Ask::Puts(token, more),
-        scan_dimens::Ask::Done(found) => Ask::Done(Value::Plain(Datum::Found(found)), false),
+        KeywordAsk::More(want) => Ask::More(want),
+        KeywordAsk::Puts(token, more) => Ask::Puts(token, more),
+        KeywordAsk::Done(found) => Ask::Done(Value::Plain(Datum::Found(found)), false),
     }
 }
 
@@ -76,15 +153,18 @@ impl Frame {
     pub fn begin(opening: Opening) -> Frame
         ensures begins { (held : Lists) → Begins (kind_of opening) result held (opened_lists opening held) }
         ensures shallow { groups result ≡ 0 }
-        ensures ends { frame_end result ≡ opening_end opening }
+        ensures own { own_weight result ≡ opening_frame opening }
         ensures weight { asks_weight result ≤ begun_weight opening }
-        ensures unread { put_count result ≡ 0 }
+        ensures fed { fed_weight result ≤ begun_with_weight opening }
     {
         match opening {
             Opening::Reads(Kind::Command(call)) => {
                 Frame::Command(CommandScan::new(call), call.head)
             }
             Opening::Reads(Kind::Integer) => Frame::Integer(NumberScan::new()),
+            Opening::Reads(Kind::Factor) => Frame::Factor(FactorScan::new()),
+            Opening::Reads(Kind::Dimension(kind)) => Frame::Dimension(DimenScan::new(kind)),
+            Opening::Reads(Kind::Glue(mu)) => Frame::Glue(GlueScan::new(mu)),
             Opening::Reads(Kind::Keyword(word)) => Frame::Keyword(KeywordScan::new(word)),
             Opening::Reads(Kind::Text(name, expanded)) => {
                 Frame::Build(BuildScan::text(name, expanded))
@@ -107,6 +187,9 @@ impl Frame {
         match self {
             Frame::Command(scan, _) => scan.ask(),
             Frame::Integer(scan) => of_number(scan.ask()),
+            Frame::Factor(scan) => of_factor(scan.ask()),
+            Frame::Dimension(scan) => of_dimension(scan.ask()),
+            Frame::Glue(scan) => of_glue(scan.ask()),
             Frame::Keyword(scan) => of_keyword(scan.ask()),
             Frame::Build(scan) => scan.ask(),
             Frame::Spelling(scan) => scan.ask(),
@@ -119,7 +202,8 @@ impl Frame {
     #[tactic(auto, using(crate::proofs::Growing::top_grown, crate::proofs::Growing::beneath_grown, crate::proofs::Growing::grown_held))]
     pub fn feed(&mut self, x: Seen) -> Grown
         requires { groups self.old + 1 < 2 ^ 64 }
-        ensures ends { frame_end self.new ≡ frame_end self.old }
+        ensures own { own_weight self.new ≡ own_weight self.old }
+        ensures weight { asks_weight self.new ≤ fed_weight self.old }
         ensures asks { (held : Lists) (fed : List Fed) → resume self.old held (Tok x ∷ fed) ≡ resume self.new (on_top result held) fed }
         ensures builds { (held : Lists) (fed : List Fed) → building self.old held (Tok x ∷ fed) ≡ building self.new (on_top result held) fed }
         ensures holds { (held : Lists) → list_count self.old ≤ length held → list_count self.new ≤ length (on_top result held) }
@@ -127,7 +211,6 @@ impl Frame {
         ensures checks { frame_status self.new ≡ frame_status self.old }
         ensures shallow { groups self.new ≤ groups self.old + token_count result }
         ensures listed { 1 ≤ token_count result → list_count self.old ≡ 1 }
-        ensures read { put_count self.new ≤ put_count self.old + 1 }
     {
         match self {
             Frame::Command(scan, _) => {
@@ -135,6 +218,18 @@ impl Frame {
                 Grown::none()
             }
             Frame::Integer(scan) => {
+                scan.feed(x);
+                Grown::none()
+            }
+            Frame::Factor(scan) => {
+                scan.feed(x);
+                Grown::none()
+            }
+            Frame::Dimension(scan) => {
+                scan.feed(x);
+                Grown::none()
+            }
+            Frame::Glue(scan) => {
                 scan.feed(x);
                 Grown::none()
             }
@@ -149,9 +244,10 @@ impl Frame {
         }
     }
 
-    /// Goes on behind its report, the token that was put back or the name that became `\relax`.
+    /// Goes on behind its report, the token that was put back, the name that became `\relax` or the magnification that was checked.
     #[tactic(auto, using(crate::proofs::Growing::top_grown, crate::proofs::Growing::beneath_grown, crate::proofs::Growing::grown_held))]
     pub fn told(&mut self) -> Grown
+        ensures own { own_weight self.new ≡ own_weight self.old }
         ensures weight { IsNoted (resume self.old [] []) → asks_weight self.new < asks_weight self.old }
         ensures asks { (held : Lists) (fed : List Fed) → resume self.old held (Told ∷ fed) ≡ resume self.new (on_top result held) fed }
         ensures builds { (held : Lists) (fed : List Fed) → building self.old held (Told ∷ fed) ≡ building self.new (on_top result held) fed }
@@ -167,6 +263,18 @@ impl Frame {
                 Grown::none()
             }
             Frame::Integer(scan) => {
+                scan.told();
+                Grown::none()
+            }
+            Frame::Factor(scan) => {
+                scan.told();
+                Grown::none()
+            }
+            Frame::Dimension(scan) => {
+                scan.told();
+                Grown::none()
+            }
+            Frame::Glue(scan) => {
                 scan.told();
                 Grown::none()
             }
@@ -196,7 +304,8 @@ impl Frame {
         ensures holds { (ts : List Token) (held : Lists) → list_count self.old ≤ length held → list_count self.new ≤ length (with_list result ts held) }
         ensures beneath { (ts : List Token) (held : Lists) → below self.new (with_list result ts held) ≡ below self.old held }
         ensures checks { frame_status self.new ≡ frame_status self.old }
-        ensures weight { asks_weight self.new < frame_weight + value_weight }
+        ensures own { own_weight self.new ≡ own_weight self.old }
+        ensures weight { asks_weight self.new < value_frame + value_weight }
         ensures kept { result ≡ true → is_empty ≡ false }
         ensures list { result ≡ true → value ≡ value_of.List }
         ensures shallow { (ts : List Token) (held : Lists) → groups self.old ≤ length (top_list held) → groups self.new ≤ length (top_list (with_list result ts held)) }
@@ -204,6 +313,18 @@ impl Frame {
         match self {
             Frame::Command(scan, _) => scan.feed_value(value, is_empty),
             Frame::Integer(scan) => {
+                scan.feed_value(value);
+                false
+            }
+            Frame::Factor(scan) => {
+                scan.feed_value(value);
+                false
+            }
+            Frame::Dimension(scan) => {
+                scan.feed_value(value);
+                false
+            }
+            Frame::Glue(scan) => {
                 scan.feed_value(value);
                 false
             }
@@ -225,6 +346,7 @@ impl Frame {
 
     /// Takes what stands at the location for which it asked.
     pub fn fetched(&mut self, value: StoredValue<()>)
+        ensures own { own_weight self.new ≡ own_weight self.old }
         ensures weight { (loc : Location) → resume self.old [] [] ≡ Fetches loc → asks_weight self.new < asks_weight self.old }
         ensures asks { (held : Lists) (fed : List Fed) → resume self.old held (Fetched value ∷ fed) ≡ resume self.new held fed }
         ensures builds { (held : Lists) (fed : List Fed) → building self.old held (Fetched value ∷ fed) ≡ building self.new held fed }
@@ -235,6 +357,9 @@ impl Frame {
         match self {
             Frame::Command(scan, _) => scan.fetched(value),
             Frame::Integer(scan) => scan.fetched(value),
+            Frame::Factor(scan) => scan.fetched(value),
+            Frame::Dimension(scan) => scan.fetched(value),
+            Frame::Glue(scan) => scan.fetched(value),
             Frame::Keyword(scan) => scan.stop(),
             Frame::Spelling(scan) => scan.stop(),
             Frame::FileName(scan) => scan.stop(),
@@ -260,7 +385,8 @@ impl Frame {
         match self {
             Frame::Command(scan, _) => { if scan.is_listed() { 1 } else { 0 } }
             Frame::Build(_) | Frame::Spelling(_) | Frame::FileName(_) => 1,
-            Frame::Integer(_) | Frame::Keyword(_) | Frame::Behind(..) => 0,
+            Frame::Integer(_) | Frame::Factor(_) | Frame::Dimension(_) | Frame::Glue(_) => 0,
+            Frame::Keyword(_) | Frame::Behind(..) => 0,
         }
     }
 

@@ -6,12 +6,12 @@ ghost use Rattle.equivalents.specs.declared.values.Loc.{Loc};
 ghost use Rattle.rows.specs.Readings.{Fed, Tok, Told, Val, Fetched, Fetches};
 ghost use Rattle.plain_readings.specs.Readings.{Reading, lists, opened, opened_with, fed_with};
 ghost use Rattle.plain_readings.specs.Scanning.{scanning};
-ghost use Rattle.plain_readings.specs.Weights.{frame_weight, value_weight, act_weight};
+ghost use Rattle.plain_readings.specs.Weights.{value_frame, act_frame, value_weight, act_weight};
 ghost use Rattle.reading_frames.specs.Sees.{has_no_token, kind_of, IsFetchedAt, Lists, on_top};
 ghost use Rattle.reading_frames.specs.Resumes.{with_list, listed_count, token_count, Owns};
 ghost use Rattle.reading_frames.specs.Stands.{FramesStand, AreShallow, opened_lists};
 ghost use Rattle.reading_frames.specs.Stack.{Stack, depth_full, asks_in, asked_in, asked_of, innermost_groups, innermost_count, innermost_lists, innermost_of, with_innermost, lists_beneath, found_in, innermost_found, scanning_of};
-ghost use Rattle.reading_frames.specs.Weights.{innermost_weight, innermost_end, begun_weight, begun_with_weight, opening_end, innermost_puts, IsReported};
+ghost use Rattle.reading_frames.specs.Weights.{frames_weight, opening_frame, innermost_weight, innermost_fed, begun_weight, begun_with_weight, IsReported};
 
 use crate::ask::{Ask, Grown, Opening};
 use crate::frame::Frame;
@@ -145,11 +145,11 @@ impl Readings {
         ensures shallow { OnOk result ((held : Lists) → AreShallow self.old.frames held → AreShallow self.new.frames (opened_lists opening held)) }
         ensures room { OnOk result (length self.old.frames < self.old.size) }
         ensures count { OnOk result (length self.new.frames ≡ length self.old.frames + 1) }
+        ensures frames { OnOk result (frames_weight self.new.frames ≡ frames_weight self.old.frames + opening_frame opening) }
         ensures size { self.new.size ≡ self.old.size }
         ensures weight { OnOk result (innermost_weight self.new.frames ≤ begun_weight opening) }
-        ensures ends { OnOk result (innermost_end self.new.frames ≡ opening_end opening) }
+        ensures fed { OnOk result (innermost_fed self.new.frames ≤ begun_with_weight opening) }
         ensures groups { OnOk result (innermost_groups self.new.frames ≡ 0) }
-        ensures unread { OnOk result (innermost_puts self.new.frames ≡ 0) }
         ensures rest { OnOk result (drop 1 self.new.frames ≡ self.old.frames) }
         ensures builds { OnOk result ((held : Lists) (fed : List Fed) → lists (kind_of opening) fed ≡ innermost_lists self.new.frames (opened_lists opening held) fed) }
         ensures beneath { OnOk result ((held : Lists) → lists_beneath self.new.frames (opened_lists opening held) ≡ held) }
@@ -178,12 +178,12 @@ impl Readings {
     ///
     /// # Errors
     /// As many are open as there may be. Nothing has changed then.
-    #[tactic(auto, using(crate::proofs::Weights::begun_with_light))]
     pub fn begin_with(&mut self, opening: Opening, x: Seen) -> Result<Grown, Full>
         ensures begins { IfOk result (λ grown. (held : Lists) (work : List Reading) → FramesStand self.old.frames held work → FramesStand self.new.frames (on_top grown (opened_lists opening held)) (opened_with (kind_of opening) (Tok x) work)) }
         ensures shallow { IfOk result (λ grown. (held : Lists) → AreShallow self.old.frames held → AreShallow self.new.frames (on_top grown (opened_lists opening held))) }
         ensures room { OnOk result (length self.old.frames < self.old.size) }
         ensures count { OnOk result (length self.new.frames ≡ length self.old.frames + 1) }
+        ensures frames { OnOk result (frames_weight self.new.frames ≡ frames_weight self.old.frames + opening_frame opening) }
         ensures size { self.new.size ≡ self.old.size }
         ensures weight { OnOk result (innermost_weight self.new.frames ≤ begun_with_weight opening) }
         ensures rest { OnOk result (drop 1 self.new.frames ≡ self.old.frames) }
@@ -203,9 +203,10 @@ impl Readings {
     /// The innermost takes a token. Fewer than 2^64 - 1 groups are open in the list that it builds.
     pub fn feed(&mut self, x: Seen) -> Grown
         requires { innermost_groups self.old.frames + 1 < 2 ^ 64 }
-        ensures ends { innermost_end self.new.frames ≡ innermost_end self.old.frames }
+        ensures weight { innermost_weight self.new.frames ≤ innermost_fed self.old.frames }
         ensures stands { (held : Lists) (work : List Reading) → FramesStand self.old.frames held work → FramesStand self.new.frames (on_top result held) (fed_with (Tok x) work) }
         ensures count { length self.new.frames ≡ length self.old.frames }
+        ensures frames { frames_weight self.new.frames ≡ frames_weight self.old.frames }
         ensures size { self.new.size ≡ self.old.size }
         ensures shallow { (held : Lists) → AreShallow self.old.frames held → AreShallow self.new.frames (on_top result held) }
         ensures rest { drop 1 self.new.frames ≡ drop 1 self.old.frames }
@@ -213,7 +214,6 @@ impl Readings {
         ensures beneath { (held : Lists) → lists_beneath self.new.frames (on_top result held) ≡ lists_beneath self.old.frames held }
         ensures holds { (held : Lists) → innermost_count self.old.frames ≤ length held → innermost_count self.new.frames ≤ length (on_top result held) }
         ensures listed { 1 ≤ token_count result → innermost_count self.old.frames ≡ 1 }
-        ensures read { innermost_puts self.new.frames ≤ innermost_puts self.old.frames + 1 }
     {
         match self.innermost.as_mut() {
             None => Grown::none(),
@@ -221,11 +221,12 @@ impl Readings {
         }
     }
 
-    /// The innermost goes on behind its report, the token that was put back or the name that became `\relax`.
+    /// The innermost goes on behind its report, the token that was put back, the name that became `\relax` or the magnification that was checked.
     pub fn told(&mut self) -> Grown
         ensures weight { IsReported (asks_in self.old.frames []) → innermost_weight self.new.frames < innermost_weight self.old.frames }
         ensures stands { (held : Lists) (work : List Reading) → FramesStand self.old.frames held work → FramesStand self.new.frames (on_top result held) (fed_with Told work) }
         ensures count { length self.new.frames ≡ length self.old.frames }
+        ensures frames { frames_weight self.new.frames ≡ frames_weight self.old.frames }
         ensures size { self.new.size ≡ self.old.size }
         ensures shallow { (held : Lists) → AreShallow self.old.frames held → AreShallow self.new.frames (on_top result held) }
         ensures rest { drop 1 self.new.frames ≡ drop 1 self.old.frames }
@@ -246,8 +247,9 @@ impl Readings {
         ensures stands { (ts : List Token) → is_empty ≡ has_no_token ts → (held : Lists) (work : List Reading) → FramesStand self.old.frames held work → FramesStand self.new.frames (with_list result ts held) (fed_with (Val value ts) work) }
         ensures kept { result ≡ true → is_empty ≡ false }
         ensures list { result ≡ true → value ≡ value_of.List }
-        ensures weight { innermost_weight self.new.frames < frame_weight + value_weight }
+        ensures weight { innermost_weight self.new.frames < value_frame + value_weight }
         ensures count { length self.new.frames ≡ length self.old.frames }
+        ensures frames { frames_weight self.new.frames ≡ frames_weight self.old.frames }
         ensures size { self.new.size ≡ self.old.size }
         ensures shallow { (ts : List Token) (held : Lists) → AreShallow self.old.frames held → AreShallow self.new.frames (with_list result ts held) }
         ensures beneath { (ts : List Token) (held : Lists) → lists_beneath self.new.frames (with_list result ts held) ≡ lists_beneath self.old.frames held }
@@ -263,6 +265,7 @@ impl Readings {
         ensures weight { (l : Loc) → asks_in self.old.frames [] ≡ Some (Fetches l) → innermost_weight self.new.frames < innermost_weight self.old.frames }
         ensures stands { (held : Lists) (work : List Reading) → FramesStand self.old.frames held work → FramesStand self.new.frames held (fed_with (Fetched value) work) }
         ensures count { length self.new.frames ≡ length self.old.frames }
+        ensures frames { frames_weight self.new.frames ≡ frames_weight self.old.frames }
         ensures size { self.new.size ≡ self.old.size }
         ensures shallow { (held : Lists) → AreShallow self.old.frames held → AreShallow self.new.frames held }
         ensures rest { drop 1 self.new.frames ≡ drop 1 self.old.frames }
@@ -290,8 +293,9 @@ impl Readings {
         ensures stands { (held : Lists) (work : List Reading) → FramesStand self.old.frames held work → FramesStand self.new.frames (lists_beneath self.old.frames held) (drop 1 work) }
         ensures shallow { (held : Lists) → AreShallow self.old.frames held → AreShallow self.new.frames (lists_beneath self.old.frames held) }
         ensures count { length self.new.frames ≡ length self.old.frames - 1 }
+        ensures frames { frames_weight self.new.frames ≡ frames_weight (drop 1 self.old.frames) }
         ensures rest { self.new ≡ record { frames = drop 1 self.old.frames; size = self.old.size } }
-        ensures weight { innermost_weight self.new.frames < frame_weight + act_weight }
+        ensures weight { innermost_weight self.new.frames < act_frame + act_weight }
     {
         let has_list = self.has_list();
         self.innermost = self.beneath.pop();

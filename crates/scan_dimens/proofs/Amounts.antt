@@ -4,7 +4,7 @@ use Rattle.std.specs.Prelude.{if◌then◌else◌}
 use Rattle.std.proofs.lemmas.Bool.Decides.{nat_tests}
 use Rattle.std.proofs.lemmas.Int.{ints, to_z-of_z, fits_signed_from_abs, unsigned_abs-mul}
 use Rattle.std.proofs.lemmas.Nat.{mul-le}
-use Rattle.scan_dimens.specs.Dimens.{measured, too_large}
+use Rattle.rows.specs.Arithmetic.{measured, too_large}
 
 part_small : (z : ℤ) → unsigned_abs (int_div z (pos 65536)) ≤ unsigned_abs z
 part_small (pos n) = omega arith

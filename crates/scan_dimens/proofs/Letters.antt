@@ -12,8 +12,8 @@ use Rattle.rows.specs.Readings.{Fed, Tok, Told, More}
 use Rattle.plain_readings.specs.Keywords.{letters, is_letter, ends_found, giving_back, keyword_from}
 use Rattle.scan_dimens.specs.Sees.{letters_at, back_at, kept, want_behind}
 use Rattle.scan_dimens.specs.Resumes.{resume, resume_at}
-use Rattle.scan_dimens.specs.declared.keyword.Place.{Place}
-use Rattle.scan_dimens.specs.declared.keyword.Place.TheVariants.{Letters, PutsBack}
+use Rattle.scan_dimens.specs.declared.keyword.KeywordPlace.{KeywordPlace}
+use Rattle.scan_dimens.specs.declared.keyword.KeywordPlace.TheVariants.{Letters, PutsBack}
 use Rattle.scan_dimens.specs.declared.keyword.KeywordScan.{KeywordScan}
 
 -- AMONG THE LETTERS
@@ -69,10 +69,10 @@ back_told ts n fed e least most = ap (λ (l : List Token). giving_back l (Told �
 -- WHERE A SCANNER STANDS
 
 left : (s : KeywordScan) (n : ℕ) → s.place ≡ Letters n → n < length (letters s.keyword)
-left s n is = subst (λ (p : Place). letters_at p < length (letters s.keyword)) is s.more
+left s n is = subst (λ (p : KeywordPlace). letters_at p < length (letters s.keyword)) is s.more
 
-resumed : (s : KeywordScan) (p : Place) (fed : List Fed) → s.place ≡ p → resume s fed ≡ resume_at s.keyword s.tokens p fed
-resumed s p fed is = ap (λ (q : Place). resume_at s.keyword s.tokens q fed) is
+resumed : (s : KeywordScan) (p : KeywordPlace) (fed : List Fed) → s.place ≡ p → resume s fed ≡ resume_at s.keyword s.tokens p fed
+resumed s p fed is = ap (λ (q : KeywordPlace). resume_at s.keyword s.tokens q fed) is
 
 want_later : (n : ℕ) → want_behind (n + 1) ≡ Expanded
 want_later n = let e : n + 1 ≡ suc n = add-one n in rw e refl
@@ -89,7 +89,7 @@ back_ends s n y fed is other = resumed s (PutsBack n) (y ∷ fed) is ∙ back_st
 pub back_goes_on : (s : KeywordScan) (n : ℕ) (fed : List Fed) → s.place ≡ PutsBack n → resume s (Told ∷ fed) ≡ giving_back (kept (n - 1) s.tokens) fed
 back_goes_on s n fed is =
     resumed s (PutsBack n) (Told ∷ fed) is ∙
-    back_told s.tokens n fed s.longest (subst (λ (p : Place). 1 ≤ back_at p) is s.some) (subst (λ (p : Place). back_at p ≤ 5) is s.few)
+    back_told s.tokens n fed s.longest (subst (λ (p : KeywordPlace). 1 ≤ back_at p) is s.some) (subst (λ (p : KeywordPlace). back_at p ≤ 5) is s.few)
 
 none_kept : (ts : List Token) (n : ℕ) → length ts ≡ 5 → n ≡ 0 → kept n ts ≡ []
 none_kept ts n e z = rw z (drop_all 5 ts (omega (arith, e)))

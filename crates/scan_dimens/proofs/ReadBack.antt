@@ -11,13 +11,14 @@ use Rattle.plain_tokens.specs.Categories.{other}
 use Rattle.plain_tokens.specs.Numerals.{fraction_digits}
 use Rattle.plain_tokens.specs.Tokens.{is_space}
 use Rattle.rows.specs.Worked.{character}
+use Rattle.rows.specs.Arithmetic.{measured, too_large}
 use Rattle.rows.specs.Internal.{with_sign}
 use Rattle.plain_readings.specs.Integers.{is_digit}
 use Rattle.scaled_arith.specs.Scaled.{fraction_of}
 use Rattle.scan_numbers.specs.Laws.{digit}
 use Rattle.scan_numbers.proofs.Spelt.{digit_holds}
 use Rattle.char_text.proofs.Fractions.{AllNine, printed_reads}
-use Rattle.scan_dimens.specs.Dimens.{Fed, Tok, Factored, Answer, Done, dimension, factored, fraction, behind_digits, with_digit, amount, measured, finished, too_large}
+use Rattle.plain_readings.specs.Dimens.{Fed, Tok, Factored, Answer, Done, dimension, factored, fraction, behind_digits, with_digit, amount, finished}
 use Rattle.scan_dimens.specs.DimenSees.{IsDimension}
 use Rattle.scan_dimens.specs.DimenWorked.{others, a_character, behind, plain}
 use Rattle.scan_dimens.specs.DimenLaws.{characters, first, IsReadBack}

@@ -5,11 +5,11 @@ use Rattle.tex_syntax.specs.declared.words.UnitTaken.{UnitTaken}
 use Rattle.equivalents.specs.declared.values.Loc.{Loc}
 use Rattle.equivalents.specs.Locations.{SeenValue}
 use Rattle.rows.specs.declared.internal.Bank.{Bank}
-use Rattle.scan_dimens.specs.Dimens.{Fed, Tok, Told, Fetched, Factored, Numbered, Found, Magnified, senseless, by_unit, physical}
+use Rattle.plain_readings.specs.Dimens.{Fed, Tok, Told, Fetched, Factored, Numbered, Found, senseless, by_unit, physical}
 use Rattle.scan_dimens.specs.DimenResumes.{resume_at}
-use Rattle.scan_dimens.specs.declared.units.Amount.{Amount}
-use Rattle.scan_dimens.specs.declared.units.Measure.{Measure}
-use Rattle.scan_dimens.specs.declared.units.DimenKind.{DimenKind}
+use Rattle.plain_readings.specs.declared.measures.Amount.{Amount}
+use Rattle.plain_readings.specs.declared.measures.Measure.{Measure}
+use Rattle.rows.specs.declared.words.DimenKind.{DimenKind}
 use Rattle.scan_dimens.specs.declared.decimals.Digits.{Digits}
 use Rattle.scan_dimens.specs.declared.dimen.Sought.{Sought}
 use Rattle.scan_dimens.specs.declared.dimen.DimenPlace.{DimenPlace}
@@ -44,22 +44,25 @@ module _ (k : DimenKind) (negative : Bool) where
 
   pub no_note : (p : DimenPlace) → ((s : Sought) (b : Bank) (n : ℤ) → p ≡ place.BadNumber s b n → ⊥) → ((v : Option ℤ) → p ≡ place.Incompatible v → ⊥) → (p ≡ place.NoNumber → ⊥) →
       ((a : Amount) (order : ℕ) → p ≡ place.TooLong a order → ⊥) → ((unit : UnitTaken) (v : Option ℤ) → p ≡ place.Illegal unit v → ⊥) → ((order : ℕ) (back : Bool) → p ≡ place.TooLarge order back → ⊥) →
-      GoesOn p → (fed : List Fed) → resume_at k negative p (Told ∷ fed) ≡ senseless
-  no_note (place.BadNumber s bank n) a b c d e f g fed = absurd (a s bank n refl)
-  no_note (place.Incompatible v) a b c d e f g fed = absurd (b v refl)
-  no_note place.NoNumber a b c d e f g fed = absurd (c refl)
-  no_note (place.TooLong amount order) a b c d e f g fed = absurd (d amount order refl)
-  no_note (place.Illegal unit v) a b c d e f g fed = absurd (e unit v refl)
-  no_note (place.TooLarge order back) a b c d e f g fed = absurd (f order back refl)
-  no_note (place.Ended n order back) a b c d e f g fed = absurd (g n order back refl)
-  no_note (place.Physical n amount) a b c d e f g fed = no_word negative amount (drop n physical) Told fed tt
-  no_note p a b c d e f g fed = refl
+      ((a : Amount) → p ≡ place.Magnification a → ⊥) → GoesOn p → (fed : List Fed) → resume_at k negative p (Told ∷ fed) ≡ senseless
+  no_note (place.BadNumber s bank n) a b c d e f m g fed = absurd (a s bank n refl)
+  no_note (place.Incompatible v) a b c d e f m g fed = absurd (b v refl)
+  no_note place.NoNumber a b c d e f m g fed = absurd (c refl)
+  no_note (place.TooLong amount order) a b c d e f m g fed = absurd (d amount order refl)
+  no_note (place.Illegal unit v) a b c d e f m g fed = absurd (e unit v refl)
+  no_note (place.TooLarge order back) a b c d e f m g fed = absurd (f order back refl)
+  no_note (place.Magnification amount) a b c d e f m g fed = absurd (m amount refl)
+  no_note (place.Ended n order back) a b c d e f m g fed = absurd (g n order back refl)
+  no_note (place.Physical n amount) a b c d e f m g fed = no_word negative amount (drop n physical) Told fed tt
+  no_note p a b c d e f m g fed = refl
 
-  pub no_value : (p : DimenPlace) (v : SeenValue) → ((s : Sought) (l : Loc) → p ≡ place.Fetching s l → ⊥) → GoesOn p → (fed : List Fed) → resume_at k negative p (Fetched v ∷ fed) ≡ senseless
-  no_value (place.Fetching s l) v a b fed = absurd (a s l refl)
-  no_value (place.Ended n order back) v a b fed = absurd (b n order back refl)
-  no_value (place.Physical n amount) v a b fed = no_word negative amount (drop n physical) (Fetched v) fed tt
-  no_value p v a b fed = refl
+  pub no_value : (p : DimenPlace) (v : SeenValue) → ((s : Sought) (l : Loc) → p ≡ place.Fetching s l → ⊥) → ((a : Amount) → p ≡ place.MagnificationFetched a → ⊥) → GoesOn p → (fed : List Fed) →
+      resume_at k negative p (Fetched v ∷ fed) ≡ senseless
+  no_value (place.Fetching s l) v a m b fed = absurd (a s l refl)
+  no_value (place.MagnificationFetched amount) v a m b fed = absurd (m amount refl)
+  no_value (place.Ended n order back) v a m b fed = absurd (b n order back refl)
+  no_value (place.Physical n amount) v a m b fed = no_word negative amount (drop n physical) (Fetched v) fed tt
+  no_value p v a m b fed = refl
 
   pub no_number : (p : DimenPlace) (n : ℤ) → ((s : Sought) (b : Bank) → p ≡ place.Numbered s b → ⊥) → GoesOn p → (fed : List Fed) → resume_at k negative p (Numbered n ∷ fed) ≡ senseless
   no_number (place.Numbered s bank) n a b fed = absurd (a s bank refl)
@@ -72,9 +75,3 @@ module _ (k : DimenKind) (negative : Bool) where
   no_factor (place.Ended m order back) n point a b fed = absurd (b m order back refl)
   no_factor (place.Physical m amount) n point a b fed = no_word negative amount (drop m physical) (Factored n point) fed tt
   no_factor p n point a b fed = refl
-
-  pub no_magnification : (p : DimenPlace) (mag : ℕ) → ((a : Amount) → p ≡ place.Magnification a → ⊥) → GoesOn p → (fed : List Fed) → resume_at k negative p (Magnified mag ∷ fed) ≡ senseless
-  no_magnification (place.Magnification amount) mag a b fed = absurd (a amount refl)
-  no_magnification (place.Ended m order back) mag a b fed = absurd (b m order back refl)
-  no_magnification (place.Physical m amount) mag a b fed = no_word negative amount (drop m physical) (Magnified mag) fed tt
-  no_magnification p mag a b fed = refl

@@ -4,7 +4,7 @@ use Rattle.std.specs.Fmt.{decimal}
 use Rattle.tex_defs.specs.declared.Seen.{Seen}
 use Rattle.plain_tokens.specs.Numerals.{scaled}
 use Rattle.plain_tokens.specs.Tokens.{is_space}
-use Rattle.scan_dimens.specs.Dimens.{Fed, Tok, Factored, Done, dimension}
+use Rattle.plain_readings.specs.Dimens.{Fed, Tok, Factored, Done, dimension}
 use Rattle.scan_dimens.specs.DimenSees.{IsDimension}
 use Rattle.scan_dimens.specs.DimenWorked.{others, a_character, behind, plain}
 

@@ -1,9 +1,9 @@
 -- What a scanner of a dimension will answer on what is still to come.
 use Rattle.std.specs.Prelude.{Bool, true, false, ℤ, List, drop}
 use Rattle.equivalents.specs.declared.values.Loc.{Loc}
-use Rattle.scan_dimens.specs.Dimens.{Fed, Answer, Done, dimension, factored, pointed, fraction, numbered, bad_numbered, fetched, value_fetched, unit_fetched, incompatible, no_number, fil_or_not, longer, unit_sought, mu_or_not, em_or_not, ex_or_not, true_or_not, magnified, by_unit, physical, scaled_points, illegal, spaced, too_large_told}
+use Rattle.plain_readings.specs.Dimens.{Fed, Answer, Done, dimension, factored, pointed, fraction, numbered, bad_numbered, fetched, value_fetched, unit_fetched, incompatible, no_number, fil_or_not, longer, unit_sought, mu_or_not, em_or_not, ex_or_not, true_or_not, magnified, magnification_fetched, by_unit, physical, scaled_points, illegal, spaced, too_large_told}
 use Rattle.scan_dimens.specs.DimenSees.{digits_of}
-use Rattle.scan_dimens.specs.declared.units.DimenKind.{DimenKind}
+use Rattle.rows.specs.declared.words.DimenKind.{DimenKind}
 use Rattle.scan_dimens.specs.declared.dimen.Sought.{Sought}
 use Rattle.scan_dimens.specs.declared.dimen.Sought.TheVariants.{Dimension, Unit}
 use Rattle.scan_dimens.specs.declared.dimen.DimenPlace.{DimenPlace}
@@ -34,6 +34,7 @@ resume_at k negative (place.Em a) fed = em_or_not negative a fed
 resume_at k negative (place.Ex a) fed = ex_or_not negative a fed
 resume_at k negative (place.True a) fed = true_or_not negative a fed
 resume_at k negative (place.Magnification a) fed = magnified negative a fed
+resume_at k negative (place.MagnificationFetched a) fed = magnification_fetched negative a fed
 resume_at k negative (place.Physical n a) fed = by_unit negative a (drop n physical) fed
 resume_at k negative (place.ScaledPoints a) fed = scaled_points negative a fed
 resume_at k negative (place.Illegal unit v) fed = illegal unit negative v fed

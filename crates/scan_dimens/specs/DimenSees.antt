@@ -2,11 +2,11 @@
 use Rattle.std.specs.Prelude.{ℕ, ℤ, pos, ◌≤◌, ◌<◌, List, take, Option, Some, None, nat_abs}
 use Rattle.equivalents.specs.declared.values.Loc.{Loc}
 use Rattle.equivalents.specs.declared.values.Loc.TheVariants as loc
+use Rattle.rows.specs.Arithmetic.{too_large}
 use Rattle.rows.specs.Internal.{IsFetchable}
-use Rattle.scan_dimens.specs.Dimens as dimens
-use Rattle.scan_dimens.specs.Dimens.{too_large}
-use Rattle.scan_dimens.specs.declared.units.Amount.{Amount}
-use Rattle.scan_dimens.specs.declared.units.Measure.{Measure}
+use Rattle.plain_readings.specs.Dimens as dimens
+use Rattle.plain_readings.specs.declared.measures.Amount.{Amount}
+use Rattle.plain_readings.specs.declared.measures.Measure.{Measure}
 use Rattle.scan_dimens.specs.declared.decimals.Digits.{Digits}
 use Rattle.scan_dimens.specs.declared.dimen.Inner.{Inner}
 use Rattle.scan_dimens.specs.declared.dimen.Inner.TheVariants as inner
@@ -74,6 +74,7 @@ amount_read (place.Em a) = a
 amount_read (place.Ex a) = a
 amount_read (place.True a) = a
 amount_read (place.Magnification a) = a
+amount_read (place.MagnificationFetched a) = a
 amount_read p = no_amount
 
 abbrev pub amount_kept : DimenPlace → Amount

@@ -12,11 +12,12 @@ use Rattle.equivalents.specs.declared.values.CodeKind.TheVariants as code
 use Rattle.equivalents.specs.declared.values.Glue.{Glue}
 use Rattle.equivalents.specs.declared.values.Loc.TheVariants as loc
 use Rattle.equivalents.specs.declared.values.Val.TheVariants as val
+use Rattle.equivalents.specs.First.{magnification}
 use Rattle.rows.specs.declared.words.Keyword.{Keyword}
 use Rattle.rows.specs.declared.words.Keyword.TheVariants.{Fil, L, True, Em, Ex, Pt, In, Pc, Cm, Mm, Bp, Dd, Cc, Sp, Mu}
 use Rattle.rows.specs.Worked.{character, primitive, x_name, a_space}
-use Rattle.scan_dimens.specs.Dimens.{Fed, Tok, Factored, Numbered, Found, Told, Fetched, Magnified, Answer, More, Begins, Fetches, Magnifies, Tells, Done, Factor, Number, Key, dimension}
-use Rattle.scan_dimens.specs.declared.units.DimenKind.{DimenKind}
+use Rattle.plain_readings.specs.Dimens.{Fed, Tok, Factored, Numbered, Found, Told, Fetched, Answer, More, Begins, Fetches, Magnifies, Tells, Done, Factor, Number, Key, dimension}
+use Rattle.rows.specs.declared.words.DimenKind.{DimenKind}
 
 -- WHAT IS ASKED FOR before each item and behind the last
 
@@ -176,20 +177,20 @@ pub record WorkedLarge : Type 0 where
 -- 1truein at the magnifications 2000 and 500; 7.9999999truesp at 2000 and at 1000, where only the second drops the fraction as it was; 2000000truein at 1
 pub record WorkedMagnification : Type 0 where
   pub halved :
-      steps plain (integer (pos 1) false (a_character 116 (behind 2 (Magnified 2000 ∷ behind 1 space_behind)))) ≡
-      whole [] (Magnifies ∷ words (Pt ∷ In ∷ []) (More Expanded ∷ Done (pos 2368143) 0 false ∷ []))
+      steps plain (integer (pos 1) false (a_character 116 (behind 2 (Told ∷ Fetched (val.Number (pos 2000)) ∷ behind 1 space_behind)))) ≡
+      whole [] (Magnifies ∷ Fetches (loc.Integer magnification) ∷ words (Pt ∷ In ∷ []) (More Expanded ∷ Done (pos 2368143) 0 false ∷ []))
   pub doubled :
-      steps plain (integer (pos 1) false (a_character 116 (behind 2 (Magnified 500 ∷ behind 1 space_behind)))) ≡
-      whole [] (Magnifies ∷ words (Pt ∷ In ∷ []) (More Expanded ∷ Done (pos 9472573) 0 false ∷ []))
+      steps plain (integer (pos 1) false (a_character 116 (behind 2 (Told ∷ Fetched (val.Number (pos 500)) ∷ behind 1 space_behind)))) ≡
+      whole [] (Magnifies ∷ Fetches (loc.Integer magnification) ∷ words (Pt ∷ In ∷ []) (More Expanded ∷ Done (pos 9472573) 0 false ∷ []))
   pub scaled_points :
-      steps plain (integer (pos 7) true (others (46 ∷ 57 ∷ 57 ∷ 57 ∷ 57 ∷ 57 ∷ 57 ∷ 57 ∷ []) (a_character 116 (behind 2 (Magnified 2000 ∷ behind 8 space_behind))))) ≡
-      More Nonblank ∷ Begins Factor true ∷ expanded 9 (units [] (Magnifies ∷ words all_units (More Expanded ∷ Done (pos 4) 0 false ∷ [])))
+      steps plain (integer (pos 7) true (others (46 ∷ 57 ∷ 57 ∷ 57 ∷ 57 ∷ 57 ∷ 57 ∷ 57 ∷ []) (a_character 116 (behind 2 (Told ∷ Fetched (val.Number (pos 2000)) ∷ behind 8 space_behind))))) ≡
+      More Nonblank ∷ Begins Factor true ∷ expanded 9 (units [] (Magnifies ∷ Fetches (loc.Integer magnification) ∷ words all_units (More Expanded ∷ Done (pos 4) 0 false ∷ [])))
   pub scaled_points_dropped :
-      steps plain (integer (pos 7) true (others (46 ∷ 57 ∷ 57 ∷ 57 ∷ 57 ∷ 57 ∷ 57 ∷ 57 ∷ []) (a_character 116 (behind 2 (Magnified 1000 ∷ behind 8 space_behind))))) ≡
-      More Nonblank ∷ Begins Factor true ∷ expanded 9 (units [] (Magnifies ∷ words all_units (More Expanded ∷ Done (pos 7) 0 false ∷ [])))
+      steps plain (integer (pos 7) true (others (46 ∷ 57 ∷ 57 ∷ 57 ∷ 57 ∷ 57 ∷ 57 ∷ 57 ∷ []) (a_character 116 (behind 2 (Told ∷ Fetched (val.Number (pos 1000)) ∷ behind 8 space_behind))))) ≡
+      More Nonblank ∷ Begins Factor true ∷ expanded 9 (units [] (Magnifies ∷ Fetches (loc.Integer magnification) ∷ words all_units (More Expanded ∷ Done (pos 7) 0 false ∷ [])))
   pub large :
-      steps plain (integer (pos 2000000) false (a_character 116 (behind 2 (Magnified 1 ∷ behind 1 space_behind)))) ≡
-      whole [] (Magnifies ∷ words (Pt ∷ In ∷ []) (More Expanded ∷ Tells DimensionTooLarge false ∷ []))
+      steps plain (integer (pos 2000000) false (a_character 116 (behind 2 (Told ∷ Fetched (val.Number (pos 1)) ∷ behind 1 space_behind)))) ≡
+      whole [] (Magnifies ∷ Fetches (loc.Integer magnification) ∷ words (Pt ∷ In ∷ []) (More Expanded ∷ Tells DimensionTooLarge false ∷ []))
 
 -- '10pt, "A pt and `A pt, whose integers are read within; '1.5pt, where the point is no unit, and 5 without one
 pub record WorkedConstants : Type 0 where

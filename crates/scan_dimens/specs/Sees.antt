@@ -5,22 +5,22 @@ use Rattle.tex_syntax.specs.declared.words.Want.{Want}
 use Rattle.tex_syntax.specs.declared.words.Want.TheVariants.{Expanded, Nonblank}
 use Rattle.rows.specs.Readings as reading
 use Rattle.plain_readings.specs.Keywords.{ends_found}
-use Rattle.scan_dimens.specs.declared.keyword.Ask.{Ask}
-use Rattle.scan_dimens.specs.declared.keyword.Ask.TheVariants.{More, Puts, Done}
-use Rattle.scan_dimens.specs.declared.keyword.Place.{Place}
-use Rattle.scan_dimens.specs.declared.keyword.Place.TheVariants.{Letters, PutsBack, Ended}
+use Rattle.scan_dimens.specs.declared.keyword.KeywordAsk.{KeywordAsk}
+use Rattle.scan_dimens.specs.declared.keyword.KeywordAsk.TheVariants.{More, Puts, Done}
+use Rattle.scan_dimens.specs.declared.keyword.KeywordPlace.{KeywordPlace}
+use Rattle.scan_dimens.specs.declared.keyword.KeywordPlace.TheVariants.{Letters, PutsBack, Ended}
 
-abbrev pub ask_of : Ask → reading.Ask
+abbrev pub ask_of : KeywordAsk → reading.Ask
 ask_of (More want) = reading.More want
 ask_of (Puts t more) = reading.Puts t more
 ask_of (Done found) = ends_found found
 
 -- behind how many letters it stands, and how many tokens are to be put back; elsewhere a number that counts nothing
-abbrev pub letters_at : Place → ℕ
+abbrev pub letters_at : KeywordPlace → ℕ
 letters_at (Letters n) = n
 letters_at p = 0
 
-abbrev pub back_at : Place → ℕ
+abbrev pub back_at : KeywordPlace → ℕ
 back_at (PutsBack n) = n
 back_at p = 1
 
@@ -29,7 +29,7 @@ abbrev pub kept : ℕ → List Token → List Token
 kept n ts = drop (5 - n) ts
 
 -- how many are kept
-abbrev pub kept_at : Place → ℕ
+abbrev pub kept_at : KeywordPlace → ℕ
 kept_at (Letters n) = n
 kept_at (PutsBack n) = n
 kept_at (Ended found) = 0

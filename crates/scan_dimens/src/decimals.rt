@@ -2,7 +2,7 @@
 ghost use Rattle.std.specs.Prelude.{◌≡◌, ◌≤◌, ◌<◌, [], length, slice_index, EachIndex};
 ghost use Rattle.plain_tokens.specs.Tokens as tokens;
 ghost use Rattle.scaled_arith.specs.Scaled as scaled;
-ghost use Rattle.scan_dimens.specs.Dimens as dimens;
+ghost use Rattle.plain_readings.specs.Dimens as dimens;
 
 use equivalents::Loc;
 use scaled_arith::fraction;

@@ -3,16 +3,23 @@ ghost use Rattle.std.specs.Prelude.{◌≡◌, ◌≤◌, ◌∷◌, true, Bool,
 ghost use Rattle.rows.specs.Internal as internals;
 ghost use Rattle.rows.specs.Internal.{is_fetchable};
 ghost use Rattle.scan_numbers.specs.Sees.{IsInRange};
-ghost use Rattle.scan_dimens.specs.Dimens.{Fed, Found, physical, by_unit, spaced};
+ghost use Rattle.plain_readings.specs.Dimens.{Fed, Found, physical, by_unit, spaced};
 ghost use Rattle.scan_dimens.specs.DimenSees as sees;
 
 use crate::decimals::{Digits, is_integer_at, is_list, is_other, is_space};
-use crate::units::{Amount, DimenKind, GREATEST, measured, physical_unit};
+use crate::units::{GREATEST, in_units, magnified, physical_unit, points, scaled_points, times};
 use equivalents::{Loc, Val as StoredValue};
-use rows::{Bank, Internal, Keyword, byte_of, internal_of, is_mu};
-use scan_numbers::{Radix, integer_of};
+use plain_readings::Amount;
+use rows::{
+    Bank, Datum, DimenKind, Internal, Keyword, Value, byte_of, integer_of, internal_of, is_mu,
+    measured,
+};
+use scan_numbers::Radix;
 use tex_defs::Seen;
 use tex_syntax::{Report, UnitTaken, Want};
+
+/// The place of the magnification among the parameters that are integers.
+const MAGNIFICATION: u8 = 17;
 
 /// What is read within a dimension.
 #[derive(Clone, Copy)]
@@ -33,7 +40,7 @@ pub enum DimenAsk {
     Begins(Inner, bool),
     /// What stands at a location.
     Fetches(Loc),
-    /// The magnification, which is checked then.
+    /// That the magnification be checked.
     Magnifies,
     /// A report, and whether the last token is put back before it.
     Tells(Report, bool),
@@ -87,8 +94,10 @@ pub enum DimenPlace {
     Ex(Amount),
     /// Before the word `true`.
     True(Amount),
-    /// Before the magnification.
+    /// Before the magnification is checked.
     Magnification(Amount),
+    /// Before the magnification.
+    MagnificationFetched(Amount),
     /// Before the word for this physical unit.
     Physical(u8, Amount),
     /// Before the word `sp`.
@@ -141,8 +150,8 @@ fn physical_value(place: u8, factor: Amount) -> Option<i32>
     ensures range { sees.IsDimension (sees.value_in result) }
 {
     match physical_unit(place) {
-        Some(unit) => factor.in_units(unit),
-        None => factor.scaled_points(),
+        Some(unit) => in_units(factor, unit),
+        None => scaled_points(factor),
     }
 }
 
@@ -150,7 +159,9 @@ impl DimenScan {
     ghost use Rattle.std.specs.Prelude.{◌≡◌, ◌≤◌, List, [], ◌∷◌, false, pos, Option};
     ghost use Rattle.equivalents.specs.Locations.{SeenValue};
     ghost use Rattle.rows.specs.Internal as internals;
-    ghost use Rattle.scan_dimens.specs.Dimens.{Fed, Tok, Told, Fetched, Factored, Numbered, Found, Magnified, magnified, dimension, finished, spaced, valued, unit_behind, unit_with, unit_at, word_unit, internal_or_word, internal_or_factor, unsigned, factor_read, behind_digits, with_factor, with_number, fetched, fraction, points, amount};
+    ghost use Rattle.rows.specs.Readings.{Cut};
+    ghost use Rattle.plain_readings.specs.Measures.{dimen_value, dimen_item};
+    ghost use Rattle.plain_readings.specs.Dimens.{Fed, Tok, Told, Fetched, Factored, Numbered, Found, by_magnification, positive_part, dimension, finished, spaced, valued, unit_behind, unit_with, unit_at, word_unit, internal_or_word, internal_or_factor, unsigned, factor_read, behind_digits, with_factor, with_number, fetched, fraction, points, amount};
     ghost use Rattle.scan_dimens.specs.DimenSees as sees;
     ghost use Rattle.scan_dimens.specs.DimenSees.{ask_of, digits_of, EndsInRange, IsFetchedAt, IsRead, IsMagnified, IsDimension};
     ghost use Rattle.scan_numbers.specs.Sees.{IsInRange};
@@ -188,6 +199,7 @@ impl DimenScan {
                 DimenAsk::Tells(Report::IllegalUnit(UnitTaken::Filll), false)
             }
             DimenPlace::Magnification(_) => DimenAsk::Magnifies,
+            DimenPlace::MagnificationFetched(_) => DimenAsk::Fetches(Loc::Integer(MAGNIFICATION)),
             DimenPlace::Illegal(unit, _) => DimenAsk::Tells(Report::IllegalUnit(unit), false),
             DimenPlace::TooLarge(_, back) => DimenAsk::Tells(Report::DimensionTooLarge, back),
             DimenPlace::Ended(value, order, back) => DimenAsk::Done(value, order, back),
@@ -222,7 +234,7 @@ impl DimenScan {
         }
     }
 
-    /// Goes on behind its report.
+    /// Goes on behind its report, or the check of the magnification.
     pub fn told(&mut self)
         ensures { (fed : List Fed) → resume self.old (Told ∷ fed) ≡ resume self.new fed }
     {
@@ -239,6 +251,9 @@ impl DimenScan {
             DimenPlace::TooLarge(order, _) => {
                 self.place = DimenPlace::Ended(with_sign(self.negative, GREATEST), order, false);
             }
+            DimenPlace::Magnification(factor) => {
+                self.place = DimenPlace::MagnificationFetched(factor);
+            }
             DimenPlace::Ended(..) => {}
             _ => self.place = DimenPlace::Ended(0, 0, false),
         }
@@ -249,7 +264,8 @@ impl DimenScan {
         ensures { (fed : List Fed) → resume self.old (Fetched value ∷ fed) ≡ resume self.new fed }
     {
         match self.place {
-            DimenPlace::Fetching(sought, loc) => self.feed_value(sought, loc, integer_of(value)),
+            DimenPlace::Fetching(sought, loc) => self.feed_internal(sought, loc, integer_of(value)),
+            DimenPlace::MagnificationFetched(factor) => self.magnify(factor, integer_of(value)),
             DimenPlace::Ended(..) => {}
             _ => self.place = DimenPlace::Ended(0, 0, false),
         }
@@ -294,24 +310,32 @@ impl DimenScan {
         }
     }
 
-    /// Takes the magnification.
-    pub fn magnified(&mut self, mag: u32)
-        ensures { (fed : List Fed) → resume self.old (Magnified mag ∷ fed) ≡ resume self.new fed }
+    /// Takes the value of what it began, or another, for which it never asks.
+    pub fn feed_value(&mut self, value: Value)
+        ensures { (fed : List Fed) → resume self.old (dimen_value value ∷ fed) ≡ resume self.new fed }
     {
-        match self.place {
-            DimenPlace::Magnification(factor) => self.magnify(factor, mag),
-            DimenPlace::Ended(..) => {}
-            _ => self.place = DimenPlace::Ended(0, 0, false),
+        match value {
+            Value::Plain(Datum::Factor(n, point)) => self.factored(n, point),
+            Value::Plain(Datum::Number(n)) => self.numbered(n),
+            Value::Plain(Datum::Found(found)) => self.found(found),
+            _ => self.numbered(0),
         }
     }
 
+    /// The note of a check came, which no dimension asks for.
+    pub fn stop(&mut self)
+        ensures { (fed : List Fed) → resume self.old (dimen_item Cut ∷ fed) ≡ resume self.new fed }
+    {
+        self.numbered(0);
+    }
+
     /// Behind `true`, at this magnification.
-    fn magnify(&mut self, factor: Amount, mag: u32)
+    fn magnify(&mut self, factor: Amount, mag: i32)
         requires { IsRead factor }
-        ensures { (fed : List Fed) → magnified self.old.negative factor (Magnified mag ∷ fed) ≡ resume self.new fed }
+        ensures { (fed : List Fed) → by_magnification self.old.negative factor (positive_part mag) fed ≡ resume self.new fed }
     {
         self.place = if mag > 0 {
-            DimenPlace::Physical(0, factor.magnified(mag))
+            DimenPlace::Physical(0, magnified(factor, mag.unsigned_abs()))
         } else {
             DimenPlace::Ended(0, 0, false)
         };
@@ -330,14 +354,14 @@ impl DimenScan {
                     DimenPlace::Longer(factor, order + 1)
                 }
             }
-            DimenPlace::Mu(factor) => DimenPlace::Space(factor.points(), 0),
+            DimenPlace::Mu(factor) => DimenPlace::Space(points(factor), 0),
             DimenPlace::Em(_) | DimenPlace::Ex(_) => DimenPlace::Space(Some(0), 0),
             DimenPlace::True(factor) => DimenPlace::Magnification(factor),
             DimenPlace::Physical(place, factor) => DimenPlace::Space(
                 physical_value(place, factor),
                 0,
             ),
-            DimenPlace::ScaledPoints(factor) => DimenPlace::Space(factor.scaled_points(), 0),
+            DimenPlace::ScaledPoints(factor) => DimenPlace::Space(scaled_points(factor), 0),
             DimenPlace::Ended(n, order, back) => DimenPlace::Ended(n, order, back),
             _ => DimenPlace::Ended(0, 0, false),
         };
@@ -349,17 +373,17 @@ impl DimenScan {
     {
         self.place = match self.place {
             DimenPlace::Fil(factor, _) => DimenPlace::UnitSought(factor),
-            DimenPlace::Longer(factor, order) => DimenPlace::Space(factor.points(), order),
-            DimenPlace::Mu(factor) => DimenPlace::Illegal(UnitTaken::Mu, factor.points()),
+            DimenPlace::Longer(factor, order) => DimenPlace::Space(points(factor), order),
+            DimenPlace::Mu(factor) => DimenPlace::Illegal(UnitTaken::Mu, points(factor)),
             DimenPlace::Em(factor) => DimenPlace::Ex(factor),
             DimenPlace::Ex(factor) => DimenPlace::True(factor),
             DimenPlace::True(factor) => DimenPlace::Physical(0, factor),
             DimenPlace::Physical(place, factor) => match physical_unit(place) {
                 Some(_) => DimenPlace::Physical(place + 1, factor),
-                None => DimenPlace::Illegal(UnitTaken::Pt, factor.points()),
+                None => DimenPlace::Illegal(UnitTaken::Pt, points(factor)),
             },
             DimenPlace::ScaledPoints(factor) => {
-                DimenPlace::Illegal(UnitTaken::Pt, factor.points())
+                DimenPlace::Illegal(UnitTaken::Pt, points(factor))
             }
             DimenPlace::Ended(n, order, back) => DimenPlace::Ended(n, order, back),
             _ => DimenPlace::Ended(0, 0, false),
@@ -391,7 +415,7 @@ impl DimenScan {
     }
 
     /// Behind an internal value.
-    fn feed_value(&mut self, sought: Sought, loc: Loc, n: i32)
+    fn feed_internal(&mut self, sought: Sought, loc: Loc, n: i32)
         requires factor { IsRead (sees.amount_sought sought) }
         requires range { IsInRange n }
         ensures { (fed : List Fed) → onward self.old.kind self.old.negative sought loc n fed ≡ resume self.new fed }
@@ -404,7 +428,7 @@ impl DimenScan {
                     self.valued(is_mu(loc), measured(n));
                 }
             }
-            Sought::Unit(factor) => self.valued(is_mu(loc), factor.times(n)),
+            Sought::Unit(factor) => self.valued(is_mu(loc), times(factor, n)),
         }
     }
 
@@ -480,7 +504,7 @@ impl DimenScan {
         ensures { (fed : List Fed) → internal_or_word self.old.kind self.old.negative factor internal fed ≡ resume self.new fed }
     {
         match internal {
-            Some(Internal::Given(n)) => self.valued(false, factor.times(i32::from(n))),
+            Some(Internal::Given(n)) => self.valued(false, times(factor, i32::from(n))),
             Some(Internal::At(loc)) => {
                 self.place = DimenPlace::Fetching(Sought::Unit(factor), loc);
             }

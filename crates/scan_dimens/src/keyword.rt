@@ -14,7 +14,7 @@ const LONGEST: usize = 5;
 /// What a scanner asks for.
 #[must_use]
 #[derive(Clone, Copy)]
-pub enum Ask {
+pub enum KeywordAsk {
     More(Want),
     /// That this token be put back, and how many more are to follow.
     Puts(Token, u8),
@@ -24,7 +24,7 @@ pub enum Ask {
 
 /// Where a scanner stands.
 #[derive(Clone, Copy)]
-pub enum Place {
+pub enum KeywordPlace {
     /// Behind so many letters.
     Letters(u8),
     /// So many tokens are still to be put back.
@@ -39,7 +39,7 @@ pub struct KeywordScan {
     pub keyword: Keyword,
     /// The tokens read, the last one first; they fill it up to its end.
     pub tokens: [Token; LONGEST],
-    pub place: Place,
+    pub place: KeywordPlace,
     ghost longest: { length tokens ≡ 5 },
     ghost more: { letters_at place < length (keywords.letters keyword) },
     ghost some: { 1 ≤ back_at place },
@@ -111,20 +111,20 @@ impl KeywordScan {
         KeywordScan {
             keyword,
             tokens: [Token::EndPlaces; LONGEST],
-            place: Place::Letters(0),
+            place: KeywordPlace::Letters(0),
         }
     }
 
     /// What it asks for where it stands.
-    pub fn ask(&self) -> Ask
+    pub fn ask(&self) -> KeywordAsk
         ensures { ask_of result ≡ resume self.now [] }
     {
         match self.place {
-            Place::Letters(read) => Ask::More(want_behind(read)),
-            Place::PutsBack(count) => {
-                Ask::Puts(self.tokens[LONGEST - usize::from(count)], count - 1)
+            KeywordPlace::Letters(read) => KeywordAsk::More(want_behind(read)),
+            KeywordPlace::PutsBack(count) => {
+                KeywordAsk::Puts(self.tokens[LONGEST - usize::from(count)], count - 1)
             }
-            Place::Ended(found) => Ask::Done(found),
+            KeywordPlace::Ended(found) => KeywordAsk::Done(found),
         }
     }
 
@@ -134,9 +134,9 @@ impl KeywordScan {
         ensures kept { kept_in self.new ≤ kept_in self.old + 1 }
     {
         match self.place {
-            Place::Letters(read) => self.feed_letter(read, seen),
-            Place::PutsBack(_) => self.place = Place::Ended(false),
-            Place::Ended(_) => {}
+            KeywordPlace::Letters(read) => self.feed_letter(read, seen),
+            KeywordPlace::PutsBack(_) => self.place = KeywordPlace::Ended(false),
+            KeywordPlace::Ended(_) => {}
         }
     }
 
@@ -145,15 +145,15 @@ impl KeywordScan {
         ensures { (fed : List Fed) → resume self.old (Told ∷ fed) ≡ resume self.new fed }
     {
         match self.place {
-            Place::Letters(_) => self.place = Place::Ended(false),
-            Place::PutsBack(count) => {
+            KeywordPlace::Letters(_) => self.place = KeywordPlace::Ended(false),
+            KeywordPlace::PutsBack(count) => {
                 if count > 1 {
-                    self.place = Place::PutsBack(count - 1);
+                    self.place = KeywordPlace::PutsBack(count - 1);
                 } else {
-                    self.place = Place::Ended(false);
+                    self.place = KeywordPlace::Ended(false);
                 }
             }
-            Place::Ended(_) => {}
+            KeywordPlace::Ended(_) => {}
         }
     }
 
@@ -164,9 +164,9 @@ impl KeywordScan {
         ensures cut { (fed : List Fed) → resume self.old (Cut ∷ fed) ≡ resume self.new fed }
     {
         match self.place {
-            Place::Letters(_) => self.place = Place::Ended(false),
-            Place::PutsBack(_) => self.place = Place::Ended(false),
-            Place::Ended(_) => {}
+            KeywordPlace::Letters(_) => self.place = KeywordPlace::Ended(false),
+            KeywordPlace::PutsBack(_) => self.place = KeywordPlace::Ended(false),
+            KeywordPlace::Ended(_) => {}
         }
     }
 
@@ -180,11 +180,11 @@ impl KeywordScan {
         let at = usize::from(read);
         self.tokens[LONGEST - 1 - at] = seen.token;
         self.place = if !is_letter(word[at], seen.token) {
-            Place::PutsBack(read + 1)
+            KeywordPlace::PutsBack(read + 1)
         } else if at + 1 == word.len() {
-            Place::Ended(true)
+            KeywordPlace::Ended(true)
         } else {
-            Place::Letters(read + 1)
+            KeywordPlace::Letters(read + 1)
         };
     }
 }

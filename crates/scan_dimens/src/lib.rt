@@ -10,6 +10,5 @@ mod units;
 
 pub use decimals::Digits;
 pub use dimen::{DimenAsk, DimenPlace, DimenScan, Inner, Sought};
-pub use keyword::{Ask, KeywordScan, Place};
+pub use keyword::{KeywordAsk, KeywordPlace, KeywordScan};
 pub use laws::{dimensions_are_read, printed_dimensions_are_read_back};
-pub use units::{Amount, DimenKind, Measure};

@@ -1,38 +1,16 @@
 // Factors and the units of measure behind them.
 ghost use Rattle.std.specs.Prelude.{◌≡◌, ◌≤◌, ◌<◌, ◌+◌, pos, [], ◌∷◌, drop, MatchOption};
-ghost use Rattle.scan_dimens.specs.Dimens as dimens;
-ghost use Rattle.scan_dimens.specs.Dimens.{physical, in_points};
+ghost use Rattle.rows.specs.Arithmetic as arithmetic;
+ghost use Rattle.plain_readings.specs.Dimens as dimens;
+ghost use Rattle.plain_readings.specs.Dimens.{physical};
 ghost use Rattle.scan_dimens.specs.DimenSees.{IsRead, IsMagnified, IsUnit};
 
+use plain_readings::{Amount, Measure};
 use rows::Keyword;
 use scaled_arith::{times_plus, units};
 
 /// The greatest dimension, in sp.
 pub(crate) const GREATEST: i32 = 1073741823;
-
-/// What kind of dimension is read.
-#[derive(Clone, Copy)]
-pub struct DimenKind {
-    /// Of mu glue, in mu.
-    pub mu: bool,
-    /// A stretch or a shrink, which may be infinite.
-    pub infinite: bool,
-}
-
-/// The factor of a unit: an integer, and a fraction in units of 1/65536, at most 1.
-#[derive(Clone, Copy)]
-pub struct Amount {
-    pub whole: u64,
-    pub fraction: u32,
-}
-
-/// A physical unit: its keyword, and that it is num/den points.
-#[derive(Clone, Copy)]
-pub struct Measure {
-    pub word: Keyword,
-    pub num: u32,
-    pub den: u32,
-}
 
 /// The physical unit at this place, of eight.
 pub fn physical_unit(place: u8) -> Option<Measure>
@@ -53,20 +31,9 @@ pub fn physical_unit(place: u8) -> Option<Measure>
     Some(Measure { word, num, den })
 }
 
-/// A value in sp, where it isn't too large.
-pub fn measured(n: i32) -> Option<i32>
-    ensures { result ≡ dimens.measured n }
-{
-    if n >= -GREATEST && n <= GREATEST {
-        Some(n)
-    } else {
-        None
-    }
-}
-
 // A value in sp that isn't negative.
 fn measured_up(n: u64) -> Option<i32>
-    ensures { result ≡ dimens.measured (pos n) }
+    ensures { result ≡ arithmetic.measured (pos n) }
 {
     if n <= GREATEST as u64 {
         Some(n as i32)
@@ -75,76 +42,71 @@ fn measured_up(n: u64) -> Option<i32>
     }
 }
 
-impl Amount {
-    ghost use Rattle.std.specs.Prelude.{◌≡◌, ◌≤◌, ◌<◌, pos};
-    ghost use Rattle.scan_dimens.specs.DimenSees.{IsRead, IsMagnified, IsUnit};
+// A factor in sp, where the unit is a point.
+fn in_points(amount: Amount) -> u64
+    requires { IsMagnified amount }
+    ensures { result ≡ dimens.in_points amount }
+{
+    65536 * amount.whole + u64::from(amount.fraction)
+}
 
-    // In sp, where the unit is a point.
-    fn in_points(self) -> u64
-        requires { IsMagnified self }
-        ensures { result ≡ dimens.in_points self }
-    {
-        65536 * self.whole + u64::from(self.fraction)
+/// A factor in points.
+pub fn points(amount: Amount) -> Option<i32>
+    requires { IsMagnified amount }
+    ensures { result ≡ dimens.points amount }
+{
+    measured_up(in_points(amount))
+}
+
+/// A factor in scaled points, of which the fraction is dropped.
+pub fn scaled_points(amount: Amount) -> Option<i32>
+    ensures { result ≡ arithmetic.measured (pos amount.whole) }
+{
+    measured_up(amount.whole)
+}
+
+/// A factor in physical units.
+pub fn in_units(amount: Amount, unit: Measure) -> Option<i32>
+    requires amount { IsMagnified amount }
+    requires unit { IsUnit unit }
+    ensures { result ≡ arithmetic.measured (pos (dimens.in_units amount unit)) }
+{
+    let points = in_points(amount);
+    if points > 1 << 47 {
+        return None;
     }
-
-    /// In points.
-    pub fn points(self) -> Option<i32>
-        requires { IsMagnified self }
-        ensures { result ≡ dimens.points self }
-    {
-        measured_up(self.in_points())
+    match units(points as i64, unit.num, unit.den) {
+        Some(n) => Some(n as i32),
+        None => None,
     }
+}
 
-    /// In scaled points, of which the fraction is dropped.
-    pub fn scaled_points(self) -> Option<i32>
-        ensures { result ≡ dimens.measured (pos self.whole) }
-    {
-        measured_up(self.whole)
+/// A factor in internal units of this value, where the fraction's part is cut towards zero.
+pub fn times(amount: Amount, value: i32) -> Option<i32>
+    requires { IsRead amount }
+    ensures { result ≡ arithmetic.measured (dimens.times amount value) }
+{
+    let value = i64::from(value);
+    let part = value * i64::from(amount.fraction) / 65536;
+    match times_plus(amount.whole as i64, value, part, i64::from(GREATEST)) {
+        Some(n) => Some(n as i32),
+        None => None,
     }
+}
 
-    /// In physical units.
-    pub fn in_units(self, unit: Measure) -> Option<i32>
-        requires amount { IsMagnified self }
-        requires unit { IsUnit unit }
-        ensures { result ≡ dimens.measured (pos (dimens.in_units self unit)) }
-    {
-        let points = self.in_points();
-        if points > 1 << 47 {
-            return None;
-        }
-        match units(points as i64, unit.num, unit.den) {
-            Some(n) => Some(n as i32),
-            None => None,
-        }
+/// A factor divided by this magnification, in thousandths.
+pub fn magnified(amount: Amount, mag: u32) -> Amount
+    requires amount { IsRead amount }
+    requires positive { 1 ≤ mag }
+    ensures is { result ≡ dimens.magnified_amount amount mag }
+    ensures small { IsMagnified result }
+{
+    if mag == 1000 {
+        return amount;
     }
-
-    /// In internal units of this value, where the fraction's part is cut towards zero.
-    pub fn times(self, value: i32) -> Option<i32>
-        requires { IsRead self }
-        ensures { result ≡ dimens.measured (dimens.times self value) }
-    {
-        let value = i64::from(value);
-        let part = value * i64::from(self.fraction) / 65536;
-        match times_plus(self.whole as i64, value, part, i64::from(GREATEST)) {
-            Some(n) => Some(n as i32),
-            None => None,
-        }
-    }
-
-    /// Divided by this magnification, in thousandths.
-    pub fn magnified(self, mag: u32) -> Amount
-        requires amount { IsRead self }
-        requires positive { 1 ≤ mag }
-        ensures is { result ≡ dimens.magnified_amount self mag }
-        ensures small { IsMagnified result }
-    {
-        if mag == 1000 {
-            return self;
-        }
-        let points = self.in_points() * 1000 / u64::from(mag);
-        Amount {
-            whole: points / 65536,
-            fraction: (points % 65536) as u32,
-        }
+    let points = in_points(amount) * 1000 / u64::from(mag);
+    Amount {
+        whole: points / 65536,
+        fraction: (points % 65536) as u32,
     }
 }

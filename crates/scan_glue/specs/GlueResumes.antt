@@ -1,6 +1,6 @@
 -- What a scanner of glue will answer on what is still to come.
 use Rattle.std.specs.Prelude.{Bool, List}
-use Rattle.scan_glue.specs.Glues.{Fed, Answer, Done, glue, numbered, bad_numbered, fetched, incompatible, width, plus_or_not, stretch, minus_or_not, shrink}
+use Rattle.plain_readings.specs.Glues.{Fed, Answer, Done, glue, numbered, bad_numbered, fetched, incompatible, width, plus_or_not, stretch, minus_or_not, shrink}
 use Rattle.scan_glue.specs.declared.glue.GluePlace.{GluePlace}
 use Rattle.scan_glue.specs.declared.glue.GluePlace.TheVariants as place
 use Rattle.scan_glue.specs.declared.glue.GlueScan.{GlueScan}

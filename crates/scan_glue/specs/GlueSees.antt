@@ -6,7 +6,7 @@ use Rattle.equivalents.specs.declared.values.Loc.TheVariants as loc
 use Rattle.equivalents.specs.Locations.{zero_glue}
 use Rattle.rows.specs.Internal.{IsFetchable}
 use Rattle.scan_dimens.specs.DimenSees.{IsDimension}
-use Rattle.scan_glue.specs.Glues as glues
+use Rattle.plain_readings.specs.Glues as glues
 use Rattle.scan_glue.specs.declared.glue.Inner.{Inner}
 use Rattle.scan_glue.specs.declared.glue.Inner.TheVariants as inner
 use Rattle.scan_glue.specs.declared.glue.GlueAsk.{GlueAsk}

@@ -12,8 +12,8 @@ use Rattle.equivalents.specs.declared.values.Loc.TheVariants as loc
 use Rattle.equivalents.specs.declared.values.Val.TheVariants as val
 use Rattle.rows.specs.declared.words.Keyword.TheVariants.{Plus, Minus}
 use Rattle.rows.specs.Worked.{character, primitive, x_name}
-use Rattle.scan_glue.specs.Glues.{Fed, Tok, Measured, Numbered, Found, Told, Fetched, Answer, More, Begins, Fetches, Tells, Done, Dimension, Number, Key, finite, infinite, glue}
-use Rattle.scan_glue.specs.Sums.{sum, product, quotient}
+use Rattle.plain_readings.specs.Glues.{Fed, Tok, Measured, Numbered, Found, Told, Fetched, Answer, More, Begins, Fetches, Tells, Done, Dimension, Number, Key, finite, infinite, glue}
+use Rattle.rows.specs.Arithmetic.{sum, product, quotient}
 
 -- WHAT IS ASKED FOR before each item and behind the last
 

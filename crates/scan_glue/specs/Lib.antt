@@ -1,5 +1,3 @@
-pub mod Glues
-pub mod Sums
 pub mod GlueSees
 pub mod GlueResumes
 pub mod GlueWorked

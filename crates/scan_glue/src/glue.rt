@@ -2,19 +2,21 @@
 ghost use Rattle.std.specs.Prelude.{◌≡◌, true};
 ghost use Rattle.equivalents.specs.Locations as locations;
 ghost use Rattle.plain_tokens.specs.Tokens as tokens;
+ghost use Rattle.rows.specs.Arithmetic as arithmetic;
 ghost use Rattle.rows.specs.Internal.{is_fetchable};
 ghost use Rattle.scan_dimens.specs.DimenSees.{IsDimension};
-ghost use Rattle.scan_glue.specs.Glues as glues;
+ghost use Rattle.plain_readings.specs.Glues as glues;
 ghost use Rattle.scan_glue.specs.GlueSees as sees;
 
 use equivalents::{Glue, Loc, Val as StoredValue};
-use rows::{Bank, Internal, Keyword, byte_of, internal_of, is_mu};
-use scan_dimens::DimenKind;
-use tex_defs::{RegisterKind, Seen, Token};
+use rows::{
+    Bank, Datum, DimenKind, Internal, Keyword, Value, byte_of, internal_of, is_glue, is_mu,
+};
+use tex_defs::{Seen, Token};
 use tex_syntax::{Report, Want};
 
 /// The least that is no dimension, in sp.
-pub(crate) const TOO_LARGE: i32 = 1073741824;
+const TOO_LARGE: i32 = 1073741824;
 
 /// What is read within glue.
 #[derive(Clone, Copy)]
@@ -138,29 +140,11 @@ fn signed_glue(negative: bool, glue: Glue) -> Glue
 
 /// What stands at a location, as glue.
 fn glue_in(value: StoredValue<()>) -> Glue
-    ensures { result ≡ glues.glue_in value }
+    ensures { result ≡ arithmetic.glue_at value }
 {
     match value {
         StoredValue::Skip(glue) => glue,
         _ => zero_glue(),
-    }
-}
-
-/// Whether glue stands there.
-fn is_glue_at(loc: Loc) -> bool
-    ensures { result ≡ glues.is_glue_at loc }
-{
-    match loc {
-        Loc::Glue(_) => true,
-        Loc::Register {
-            kind: RegisterKind::Skip,
-            no: _,
-        } => true,
-        Loc::Register {
-            kind: RegisterKind::Muskip,
-            no: _,
-        } => true,
-        _ => false,
     }
 }
 
@@ -177,8 +161,10 @@ fn is_other(x: Seen, code: u8) -> bool
 impl GlueScan {
     ghost use Rattle.std.specs.Prelude.{◌≡◌, List, [], ◌∷◌, false, true};
     ghost use Rattle.rows.specs.Internal as internals;
-    ghost use Rattle.scan_glue.specs.Glues as glues;
-    ghost use Rattle.scan_glue.specs.Glues.{Fed, Tok, Measured, Told, Fetched, Numbered, Found};
+    ghost use Rattle.rows.specs.Readings.{Cut};
+    ghost use Rattle.plain_readings.specs.Measures.{glue_value, glue_item};
+    ghost use Rattle.plain_readings.specs.Glues as glues;
+    ghost use Rattle.plain_readings.specs.Glues.{Fed, Tok, Measured, Told, Fetched, Numbered, Found};
     ghost use Rattle.scan_glue.specs.GlueSees.{ask_of, EndsInRange, IsFetchedAt};
     ghost use Rattle.scan_glue.specs.GlueResumes.{resume};
 
@@ -308,6 +294,25 @@ impl GlueScan {
         };
     }
 
+    /// Takes the value of what it began, or another, for which it never asks.
+    pub fn feed_value(&mut self, value: Value)
+        ensures { (fed : List Fed) → resume self.old (glue_value value ∷ fed) ≡ resume self.new fed }
+    {
+        match value {
+            Value::Plain(Datum::Dimension(n, order)) => self.measured(n, order),
+            Value::Plain(Datum::Number(n)) => self.numbered(n),
+            Value::Plain(Datum::Found(found)) => self.found(found),
+            _ => self.numbered(0),
+        }
+    }
+
+    /// The note of a check came, which no glue asks for.
+    pub fn stop(&mut self)
+        ensures { (fed : List Fed) → resume self.old (glue_item Cut ∷ fed) ≡ resume self.new fed }
+    {
+        self.numbered(0);
+    }
+
     /// A dimension of this glue.
     fn dimension(&self, infinite: bool) -> Inner
         ensures { sees.inner_of result ≡ glues.Dimension (record { mu = self.now.mu; infinite = infinite }) }
@@ -375,14 +380,14 @@ impl GlueScan {
     {
         self.place = match internal {
             Some(Internal::At(loc)) => {
-                if is_glue_at(loc) {
+                if is_glue(loc) {
                     GluePlace::Fetching(loc)
                 } else {
                     GluePlace::Width
                 }
             }
             Some(Internal::Numbered(bank)) => {
-                if is_glue_at(bank.location(0)) {
+                if is_glue(bank.location(0)) {
                     GluePlace::Numbered(bank)
                 } else {
                     GluePlace::Width

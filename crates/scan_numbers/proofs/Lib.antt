@@ -1,2 +1,3 @@
 pub mod Spelt
 pub mod Texts
+pub mod Factors

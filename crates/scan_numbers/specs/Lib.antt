@@ -1,4 +1,6 @@
 pub mod Sees
 pub mod Resumes
+pub mod FactorSees
+pub mod FactorResumes
 pub mod Laws
 pub mod Worked

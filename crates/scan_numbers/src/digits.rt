@@ -3,16 +3,14 @@ ghost use Rattle.std.specs.Prelude.{◌≡◌, ◌≤◌, MatchOption, true, fal
 ghost use Rattle.plain_tokens.specs.Tokens as tokens;
 ghost use Rattle.rows.specs.Internal as internals;
 ghost use Rattle.plain_readings.specs.Integers as integers;
+ghost use Rattle.plain_readings.specs.Factors as factors;
 ghost use Rattle.plain_readings.specs.Integers.{greatest_integer, is_digit, digit_of};
 ghost use Rattle.scan_numbers.specs.Sees.{radix_number, IsInRange};
 
-use equivalents::Val;
 use tex_defs::{Meaning, Name, Seen, Token};
 
 /// The greatest integer.
 pub const GREATEST: u32 = 2147483647;
-
-const GREATEST_INTEGER: i32 = 2147483647;
 
 /// The base of a number's digits.
 #[derive(Clone, Copy)]
@@ -67,6 +65,23 @@ pub fn is_other(x: Seen, code: u8) -> bool
     }
 }
 
+/// Whether it is a decimal digit.
+pub fn is_decimal(x: Seen) -> bool
+    ensures { result ≡ is_digit 10 x }
+{
+    match Radix::Decimal.digit(x) {
+        Some(_) => true,
+        None => false,
+    }
+}
+
+/// Whether it is `.` or `,`.
+pub fn is_point(x: Seen) -> bool
+    ensures { result ≡ factors.is_point x }
+{
+    is_other(x, 46) || is_other(x, 44)
+}
+
 /// Whether it means a space.
 pub fn is_space(x: Seen) -> bool
     ensures { result ≡ tokens.is_space x }
@@ -87,20 +102,6 @@ pub fn code_of(token: Token) -> Option<u8>
         Token::Marked(Name::Active(code)) | Token::Marked(Name::Single(code)) => Some(code),
         _ => None,
     }
-}
-
-/// A value as an integer: a dimension in sp, glue by its width. The least 32-bit integer, which no assignment gives, counts as the
-/// next one.
-pub fn integer_of(value: Val<()>) -> i32
-    ensures value { result ≡ internals.integer_of value }
-    ensures range { IsInRange result }
-{
-    let n = match value {
-        Val::Number(n) => n,
-        Val::Skip(glue) => glue.width,
-        _ => 0,
-    };
-    if n == i32::MIN { -GREATEST_INTEGER } else { n }
 }
 
 /// An integer behind signs.

@@ -4,9 +4,9 @@ ghost use Rattle.plain_readings.specs.Integers.{greatest_integer};
 ghost use Rattle.rows.specs.Internal.{is_fetchable};
 ghost use Rattle.scan_numbers.specs.Sees.{IsInRange, digits_value, end_value, location_at};
 
-use crate::digits::{GREATEST, Radix, code_of, integer_of, is_other, is_space, signed, with_sign};
+use crate::digits::{GREATEST, Radix, code_of, is_other, is_space, signed, with_sign};
 use equivalents::{Loc, Val as StoredValue};
-use rows::{Bank, Datum, Internal, Value, byte_of, internal_of, is_mu};
+use rows::{Bank, Datum, Internal, Value, byte_of, integer_of, internal_of, is_mu};
 use tex_defs::Seen;
 use tex_syntax::{Report, Want};
 

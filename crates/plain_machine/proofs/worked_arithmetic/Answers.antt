@@ -6,10 +6,11 @@ use Rattle.plain_tokens.specs.Categories.{initial_categories}
 use Rattle.equivalents.specs.First.{first_tables}
 use Rattle.plain_tokens.specs.Lex.{headed, letters, behind_letters, lexed}
 use Rattle.plain_tokens.specs.Lookup.{number_from}
+use Rattle.plain_tokens.specs.Numerals.{fraction_digits}
 use Rattle.plain_machine.proofs.worked_arithmetic.Goals as goal
 
 pub returns : goal.returns
-unfolding job_of run_of job_fills full_in initial_categories first_tables digits headed letters behind_letters lexed number_from primitive_names primitive_name command_names assignment_names expandable_names conditional_names integer_names dimension_names glue_names token_names
+unfolding job_of run_of job_fills full_in initial_categories first_tables digits headed letters behind_letters lexed number_from fraction_digits primitive_names primitive_name command_names assignment_names expandable_names conditional_names integer_names dimension_names glue_names token_names
 returns c = record {
   advance = ((refl, refl), refl);
   without_by = ((refl, refl), refl);
@@ -38,6 +39,20 @@ returns c = record {
   no_variable = ((refl, refl), refl);
   behind_no_variable = (refl, refl);
   escape_character = (refl, refl);
+  dimension = ((refl, refl), refl);
+  dimension_without_by = (refl, refl);
+  dimension_divided = (refl, refl);
+  product_of_a_dimension_too_large = (refl, refl);
+  sum_of_dimensions = (refl, refl);
+  sum_of_dimensions_too_great = (refl, refl);
+  glue = (refl, refl);
+  glue_of_equal_orders = (refl, refl);
+  glue_with_a_part_of_zero = (refl, refl);
+  glue_multiplied = (refl, refl);
+  product_of_glue_too_large = (refl, refl);
+  glue_divided = (refl, refl);
+  glue_divided_by_zero = (refl, refl);
+  glue_in_mu = (refl, refl);
   depth = refl;
   depth_fits = (refl, refl);
   levels_of_a_keyword = refl;

@@ -6,10 +6,11 @@ use Rattle.plain_tokens.specs.Categories.{initial_categories}
 use Rattle.equivalents.specs.First.{first_tables}
 use Rattle.plain_tokens.specs.Lex.{headed, letters, behind_letters, lexed}
 use Rattle.plain_tokens.specs.Lookup.{number_from}
+use Rattle.plain_tokens.specs.Numerals.{fraction_digits}
 use Rattle.plain_machine.proofs.worked_shorthands.Goals as goal
 
 pub returns : goal.returns
-unfolding job_of run_of job_fills full_in initial_categories first_tables digits headed letters behind_letters lexed number_from primitive_names primitive_name command_names assignment_names expandable_names conditional_names integer_names dimension_names glue_names token_names
+unfolding job_of run_of job_fills full_in initial_categories first_tables digits headed letters behind_letters lexed number_from fraction_digits primitive_names primitive_name command_names assignment_names expandable_names conditional_names integer_names dimension_names glue_names token_names
 returns c = record {
   register = ((refl, refl), refl);
   register_without_an_equals_sign = (refl, refl);
@@ -20,6 +21,9 @@ returns c = record {
   behind_a_register = (refl, refl);
   register_let = (refl, refl);
   register_shown = (refl, refl);
+  dimension = (refl, refl);
+  glue = (refl, refl);
+  glue_in_mu = (refl, refl);
   character = ((refl, refl), refl);
   character_meant = (refl, refl);
   character_typeset = ((refl, refl), refl);

@@ -11,6 +11,11 @@ returns c = record {
     others = record { category = refl; delimiter = refl; no_character = refl; chardef = refl; mathchardef = refl; countdef = refl; toks = refl; everypar = refl; toksdef = refl };
   };
   reports = record { missing = refl; no_octal = refl; improper = refl; greatest = refl; too_big = refl };
+  measures = record {
+    factors = record { point = refl; comma = refl; octal = refl; space = refl; missing = refl; count = refl };
+    dimensions = record { magnified = refl; infinite = refl; dimen = refl; missing = refl };
+    glue = record { plus = refl; minus = refl; skip = refl; muskip = refl };
+  };
   keywords = record {
     found = record { found = refl; capitals = refl; single = refl };
     given_back = record { space = refl; space_held = refl; digit = refl; name = refl; fourth = refl; fifth = refl };

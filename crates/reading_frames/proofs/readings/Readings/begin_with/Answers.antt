@@ -3,7 +3,6 @@ use Rattle.rows.specs.Readings.{Tok}
 use Rattle.plain_readings.specs.Readings.{lists}
 use Rattle.reading_frames.specs.Sees.{kind_of, on_top}
 use Rattle.reading_frames.specs.Stands.{opened_lists}
-use Rattle.reading_frames.proofs.Weights.{begun_with_light}
 use Rattle.reading_frames.proofs.Whole.{whole, opened_list}
 use Rattle.reading_frames.proofs.readings.Readings.begin_with.Goals as goal
 
@@ -17,6 +16,3 @@ returns-in-Ok-clause-lists c = λ held.
 
 pub returns-in-Ok-clause-listed : goal.returns-in-Ok-clause-listed
 returns-in-Ok-clause-listed c = λ some held. opened_list c.args.opening held (omega (arith, c.feed.ensures.listed some, c.in-Ok.ensures.holds []))
-
-pub returns-in-Ok-clause-weight : goal.returns-in-Ok-clause-weight
-returns-in-Ok-clause-weight c = begun_with_light c.args.opening c.feed.new.self.frames (c.feed.ensures.ends ∙ c.in-Ok.ensures.ends) (omega (arith, c.feed.ensures.read, c.in-Ok.ensures.unread))

@@ -1,11 +1,11 @@
-use Rattle.std.proofs.Common.{◌≡◌, ◌≤◌, ◌+◌, ℕ, List, ◌∷◌, sym, ap, ◌∙◌, subst, arith, get_or, length, slice_set, ◌-◌}
+use Rattle.std.proofs.Common.{◌≡◌, ◌≤◌, ℕ, List, sym, ap, ◌∙◌, arith, get_or, length, slice_set, ◌-◌}
 use Rattle.tex_defs.specs.declared.Token.{Token}
-use Rattle.rows.specs.Readings.{Fed, Tok, Ask}
-use Rattle.plain_readings.specs.Keywords.{letters, keyword_from}
+use Rattle.rows.specs.Readings.{Fed}
+use Rattle.plain_readings.specs.Keywords.{letters}
 use Rattle.plain_readings.proofs.Keywords.{letters_few}
-use Rattle.scan_dimens.specs.Sees.{kept, want_behind}
+use Rattle.scan_dimens.specs.Sees.{want_behind}
 use Rattle.scan_dimens.specs.Resumes.{resume_at}
-use Rattle.scan_dimens.specs.declared.keyword.Place.{Place}
+use Rattle.scan_dimens.specs.declared.keyword.KeywordPlace.{KeywordPlace}
 use Rattle.scan_dimens.proofs.Letters.{refused, whole, goes_on}
 use Rattle.scan_dimens.proofs.keyword.KeywordScan.feed_letter.Goals as goal
 use Rattle.scan_dimens.proofs.keyword.KeywordScan.feed_letter.Goals.{then-not-is_letter, else-not-is_letter+then-at-word, else-not-is_letter+else-at-word}
@@ -19,11 +19,11 @@ returns-clause-asks c =
     let letter : get_or cs n 0 ≡ get_or c.letters-word.result.now c.from-at.result 0 =
     sym (ap (λ (l : List ℕ). get_or l c.from-at.result 0) c.letters-word.ensures ∙ ap (λ (i : ℕ). get_or cs i 0) at) in
     let few : n ≤ 4 = omega (arith, c.requires, letters_few c.args.self.now.keyword) in
-    let to : (p : Place) (fed : List Fed) → c.if-not-is_letter.self ≡ p →
+    let to : (p : KeywordPlace) (fed : List Fed) → c.if-not-is_letter.self ≡ p →
     resume_at c.args.self.now.keyword (slice_set ts (4 - n) c.args.seen.token) p fed ≡
     resume_at c.args.self.now.keyword (slice_set ts (4 - c.from-at.result) c.args.seen.token) c.if-not-is_letter.self fed =
     λ p fed is.
-    ap (λ (q : Place). resume_at c.args.self.now.keyword (slice_set ts (4 - n) c.args.seen.token) q fed) (sym is) ∙
+    ap (λ (q : KeywordPlace). resume_at c.args.self.now.keyword (slice_set ts (4 - n) c.args.seen.token) q fed) (sym is) ∙
     ap (λ (i : ℕ). resume_at c.args.self.now.keyword (slice_set ts (4 - i) c.args.seen.token) c.if-not-is_letter.self fed) (sym at) in
     let size : length c.letters-word.result.now ≡ length cs = ap (λ (l : List ℕ). length l) c.letters-word.ensures in
     elim c.if-not-is_letter.branch [

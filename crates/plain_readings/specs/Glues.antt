@@ -2,15 +2,12 @@
 -- chapters 12, 18 and 24; TeX: The Program, part 26 (`scan_glue`).
 use Rattle.std.specs.Prelude.{ℕ, ℤ, pos, nat_abs, nat_le, nat_lt, ◌&&◌, Bool, true, false, not, if◌then◌else◌, List, [], ◌∷◌, Option, Some}
 use Rattle.tex_defs.specs.declared.Seen.{Seen}
-use Rattle.tex_defs.specs.declared.RegisterKind.TheVariants as register
 use Rattle.tex_syntax.specs.declared.words.Want.{Want}
 use Rattle.tex_syntax.specs.declared.words.Want.TheVariants.{Nonblank}
 use Rattle.tex_syntax.specs.declared.words.Report.{Report}
 use Rattle.tex_syntax.specs.declared.words.Report.TheVariants.{IncompatibleUnits}
 use Rattle.equivalents.specs.declared.values.Glue.{Glue}
 use Rattle.equivalents.specs.declared.values.Loc.{Loc}
-use Rattle.equivalents.specs.declared.values.Loc.TheVariants as loc
-use Rattle.equivalents.specs.declared.values.Val.TheVariants as val
 use Rattle.equivalents.specs.Locations.{SeenValue, zero_glue}
 use Rattle.rows.specs.declared.words.Keyword.{Keyword}
 use Rattle.rows.specs.declared.words.Keyword.TheVariants.{Plus, Minus}
@@ -18,10 +15,10 @@ use Rattle.rows.specs.declared.internal.Bank.{Bank}
 use Rattle.rows.specs.declared.internal.Internal.{Internal}
 use Rattle.rows.specs.declared.internal.Internal.TheVariants as internal
 use Rattle.rows.specs.Tokens.{is_at_most}
-use Rattle.rows.specs.Internal.{byte_of, location_in, bad_number, internal_of, in_bounds, with_sign, is_mu}
+use Rattle.rows.specs.Internal.{byte_of, location_in, bad_number, internal_of, in_bounds, with_sign, is_mu, is_glue}
 use Rattle.plain_readings.specs.Integers.{is_minus, is_plus}
-use Rattle.scan_dimens.specs.Dimens.{too_large}
-use Rattle.scan_dimens.specs.declared.units.DimenKind.{DimenKind}
+use Rattle.rows.specs.Arithmetic.{too_large, glue_at}
+use Rattle.rows.specs.declared.words.DimenKind.{DimenKind}
 
 -- What is read within: a dimension of this kind; the number of a register; a keyword.
 pub data Inner : Type 0 where
@@ -116,10 +113,6 @@ signed_glue negative g =
     if negative then record { width = negated g.width; stretch = negated g.stretch; stretch_order = g.stretch_order; shrink = negated g.shrink; shrink_order = g.shrink_order }
     else g
 
-abbrev pub glue_in : SeenValue → Glue
-glue_in (val.Skip g) = g
-glue_in v = zero_glue
-
 -- glue in mu where it isn't wanted, and other glue where that is, are reported, and the glue taken
 abbrev pub incompatible : Glue → List Fed → Answer
 incompatible g [] = Tells IncompatibleUnits
@@ -134,7 +127,7 @@ valued wanted mu g fed = incompatible g fed
 
 abbrev pub fetched : (mu negative : Bool) → Loc → List Fed → Answer
 fetched mu negative l [] = Fetches l
-fetched mu negative l (Fetched v ∷ fed) = valued mu (is_mu l) (signed_glue negative (glue_in v)) fed
+fetched mu negative l (Fetched v ∷ fed) = valued mu (is_mu l) (signed_glue negative (glue_at v)) fed
 fetched mu negative l (y ∷ fed) = senseless
 
 -- another number than one from 0 to 255 is reported, and the register of number 0 taken
@@ -152,17 +145,10 @@ numbered mu negative b [] = Begins Number false
 numbered mu negative b (Numbered n ∷ fed) = with_number mu negative b n fed
 numbered mu negative b (y ∷ fed) = senseless
 
--- the glue parameters, and the registers of `\skip` and `\muskip`
-abbrev pub is_glue_at : Loc → Bool
-is_glue_at (loc.Glue i) = true
-is_glue_at (loc.Register register.Skip n) = true
-is_glue_at (loc.Register register.Muskip n) = true
-is_glue_at l = false
-
 -- another internal value is the width's
 abbrev pub internal_or_width : (mu negative : Bool) → Option Internal → List Fed → Answer
-internal_or_width mu negative (Some (internal.At l)) fed = if is_glue_at l then fetched mu negative l fed else width mu negative fed
-internal_or_width mu negative (Some (internal.Numbered b)) fed = if is_glue_at (location_in b 0) then numbered mu negative b fed else width mu negative fed
+internal_or_width mu negative (Some (internal.At l)) fed = if is_glue l then fetched mu negative l fed else width mu negative fed
+internal_or_width mu negative (Some (internal.Numbered b)) fed = if is_glue (location_in b 0) then numbered mu negative b fed else width mu negative fed
 internal_or_width mu negative o fed = width mu negative fed
 
 -- with the sign so far

@@ -1,6 +1,6 @@
 -- Dimensions: signs, a factor with its fraction, and a unit of measure; or an internal dimension. In glue a stretch or shrink may be infinite, and mu
 -- glue has a unit of its own. The TeXbook, chapters 10, 12, 18 and 24; TeX: The Program, part 26 (`scan_dimen`).
-use Rattle.std.specs.Prelude.{ℕ, ◌+◌, ◌*◌, ◌/◌, ◌%◌, ◌-◌, ◌==◌, ◌||◌, nat_le, nat_lt, ℤ, pos, negsuc, nat_abs, int_div, ◌+ℤ◌, ◌*ℤ◌, Bool, true, false, not, if◌then◌else◌, List, [], ◌∷◌, ◌++◌, length, Option, Some, None}
+use Rattle.std.specs.Prelude.{ℕ, ◌+◌, ◌*◌, ◌/◌, ◌%◌, ◌-◌, ◌==◌, ◌||◌, nat_lt, ℤ, pos, negsuc, nat_abs, int_div, ◌+ℤ◌, ◌*ℤ◌, Bool, true, false, not, if◌then◌else◌, List, [], ◌∷◌, ◌++◌, length, Option, Some, None}
 use Rattle.tex_defs.specs.declared.Seen.{Seen}
 use Rattle.tex_defs.specs.declared.Meaning.{Meaning}
 use Rattle.tex_defs.specs.declared.Meaning.TheVariants as means
@@ -12,10 +12,11 @@ use Rattle.tex_syntax.specs.declared.words.Report.TheVariants.{MissingNumber, In
 use Rattle.tex_syntax.specs.declared.words.UnitTaken.{UnitTaken}
 use Rattle.tex_syntax.specs.declared.words.UnitTaken.TheVariants as taken
 use Rattle.plain_tokens.specs.Categories.{is_between}
-use Rattle.plain_tokens.specs.Tokens.{is_other, is_space}
+use Rattle.plain_tokens.specs.Tokens.{is_space}
 use Rattle.scaled_arith.specs.Scaled.{fraction_of}
 use Rattle.equivalents.specs.declared.values.Loc.{Loc}
 use Rattle.equivalents.specs.declared.values.Loc.TheVariants as loc
+use Rattle.equivalents.specs.First.{magnification}
 use Rattle.equivalents.specs.Locations.{SeenValue}
 use Rattle.rows.specs.declared.words.Keyword.{Keyword}
 use Rattle.rows.specs.declared.words.Keyword.TheVariants.{Fil, L, True, Em, Ex, Pt, In, Pc, Cm, Mm, Bp, Dd, Cc, Sp, Mu}
@@ -25,9 +26,11 @@ use Rattle.rows.specs.declared.internal.Internal.TheVariants as internal
 use Rattle.rows.specs.Tokens.{is_at_most}
 use Rattle.rows.specs.Internal.{byte_of, location_in, bad_number, internal_of, in_bounds, integer_of, with_sign, is_mu}
 use Rattle.plain_readings.specs.Integers.{is_minus, is_plus, is_digit, digit_of}
-use Rattle.scan_dimens.specs.declared.units.Amount.{Amount}
-use Rattle.scan_dimens.specs.declared.units.Measure.{Measure}
-use Rattle.scan_dimens.specs.declared.units.DimenKind.{DimenKind}
+use Rattle.rows.specs.declared.words.DimenKind.{DimenKind}
+use Rattle.rows.specs.Arithmetic.{too_large, measured}
+use Rattle.plain_readings.specs.Factors.{is_point}
+use Rattle.plain_readings.specs.declared.measures.Amount.{Amount}
+use Rattle.plain_readings.specs.declared.measures.Measure.{Measure}
 
 -- What is read within: the integer before a fraction, with whether a point stands directly behind its decimal digits; the number of a register or of a
 -- character; a keyword.
@@ -36,7 +39,7 @@ pub data Inner : Type 0 where
   Number : Inner
   Key : Keyword → Inner
 
--- What a dimension is fed with: a token; what was read within; a note that a report was written; what stands at a location; the magnification.
+-- What a dimension is fed with: a token; what was read within; a note that a report was written, or the magnification checked; what stands at a location.
 pub data Fed : Type 0 where
   Tok : Seen → Fed
   Factored : ℤ → (point : Bool) → Fed
@@ -44,9 +47,8 @@ pub data Fed : Type 0 where
   Found : Bool → Fed
   Told : Fed
   Fetched : SeenValue → Fed
-  Magnified : ℕ → Fed
 
--- What it asks for: a token; something within, which may begin with the last token; what stands at a location; the magnification, which is checked then; to
+-- What it asks for: a token; something within, which may begin with the last token; what stands at a location; that the magnification be checked; to
 -- report, where the last token may be given back before; to end, in sp or in units of this order of infinity.
 pub data Answer : Type 0 where
   More : Want → Answer
@@ -61,14 +63,6 @@ abbrev pub senseless : Answer
 senseless = Done (pos 0) 0 false
 
 -- THE END
-
--- the least that is no dimension, in sp
-abbrev pub too_large : ℕ
-too_large = 1073741824
-
--- a value, where it isn't too large
-abbrev pub measured : ℤ → Option ℤ
-measured n = if nat_le too_large (nat_abs n) then None else Some n
 
 -- a value that is too large is reported, and the greatest taken, with the sign
 abbrev pub too_large_told : (negative : Bool) → (order : ℕ) → (give_back : Bool) → List Fed → Answer
@@ -127,6 +121,10 @@ by_unit negative a (u ∷ us) (Found true ∷ fed) = spaced negative (measured (
 by_unit negative a (u ∷ us) (Found false ∷ fed) = by_unit negative a us fed
 by_unit negative a (u ∷ us) (y ∷ fed) = senseless
 
+abbrev pub positive_part : ℤ → ℕ
+positive_part (pos n) = n
+positive_part (negsuc n) = 0
+
 -- `true`: the factor is divided by the magnification, in thousandths
 abbrev pub magnified_points : Amount → (mag : ℕ) → ℕ
 magnified_points a mag = in_points a * 1000 / mag
@@ -135,9 +133,22 @@ abbrev pub magnified_amount : Amount → (mag : ℕ) → Amount
 magnified_amount a mag =
     if mag == 1000 then a else record { whole = magnified_points a mag / 65536; fraction = magnified_points a mag % 65536 }
 
+-- the magnification as it stands; one that isn't positive, which no check leaves, counts as 0
+abbrev pub magnification_in : SeenValue → ℕ
+magnification_in v = positive_part (integer_of v)
+
+abbrev pub by_magnification : (negative : Bool) → Amount → (mag : ℕ) → List Fed → Answer
+by_magnification negative a mag fed = if mag == 0 then senseless else by_unit negative (magnified_amount a mag) physical fed
+
+abbrev pub magnification_fetched : (negative : Bool) → Amount → List Fed → Answer
+magnification_fetched negative a [] = Fetches (loc.Integer magnification)
+magnification_fetched negative a (Fetched v ∷ fed) = by_magnification negative a (magnification_in v) fed
+magnification_fetched negative a (y ∷ fed) = senseless
+
+-- it is checked before it is fetched
 abbrev pub magnified : (negative : Bool) → Amount → List Fed → Answer
 magnified negative a [] = Magnifies
-magnified negative a (Magnified mag ∷ fed) = if mag == 0 then senseless else by_unit negative (magnified_amount a mag) physical fed
+magnified negative a (Told ∷ fed) = magnification_fetched negative a fed
 magnified negative a (y ∷ fed) = senseless
 
 abbrev pub true_or_not : (negative : Bool) → Amount → List Fed → Answer
@@ -332,10 +343,6 @@ internal_value k negative (internal.Numbered b) fed = numbered b (value_fetched 
 abbrev pub internal_or_factor : DimenKind → (negative : Bool) → Option Internal → List Fed → Answer
 internal_or_factor k negative (Some i) fed = internal_value k negative i fed
 internal_or_factor k negative None fed = factored k negative fed
-
--- `.` or `,`
-abbrev pub is_point : Seen → Bool
-is_point x = is_other 46 x.token || is_other 44 x.token
 
 -- the first token behind the signs
 abbrev pub unsigned : DimenKind → (negative : Bool) → Seen → List Fed → Answer

@@ -1,0 +1,38 @@
+-- The integer before a fraction: its scanner asks for what that of the integer asks for, but for its end.
+use Rattle.std.proofs.Common.{◌≡◌, ℤ, Bool, false, List, [], ◌∷◌, Option, Some, None, refl, sym, ap, ◌∙◌}
+use Rattle.std.specs.Prelude.{◌&&◌}
+use Rattle.rows.specs.declared.words.Datum.TheVariants as datum
+use Rattle.rows.specs.declared.words.Value.TheVariants as value
+use Rattle.rows.specs.Readings.{Fed, Tok, Val, Told, Fetched, Cut, Ask, Done}
+use Rattle.plain_readings.specs.Integers.{integer, is_digit, ends_with}
+use Rattle.plain_readings.specs.Factors.{is_point, ends_in_point, as_factor}
+use Rattle.scan_numbers.specs.Resumes.{resume}
+use Rattle.scan_numbers.specs.FactorSees.{IsFresh, began_with, decimal_behind, is_decimal_item, is_point_item}
+use Rattle.scan_numbers.specs.FactorResumes.{resume_at}
+use Rattle.scan_numbers.specs.declared.number.NumberScan.{NumberScan}
+
+-- behind an item
+pub stepped : (decimal : Option Bool) (point : Bool) (scan new : NumberScan) (y : Fed) → IsFresh decimal scan →
+    ((fed : List Fed) → resume scan (y ∷ fed) ≡ resume new fed) → (fed : List Fed) →
+    resume_at decimal point scan (y ∷ fed) ≡ resume_at (Some (decimal_behind decimal (is_decimal_item y))) (is_point_item y) new fed
+stepped None point scan new (Tok x) fresh on fed = ap (λ (a : Ask). as_factor (is_digit 10 x) (ends_in_point (is_point x) fed) a) (fresh refl (Tok x ∷ fed) ∙ on fed)
+stepped None point scan new (Val v ts) fresh on fed = ap (λ (a : Ask). as_factor false (ends_in_point false fed) a) (fresh refl (Val v ts ∷ fed) ∙ on fed)
+stepped None point scan new Told fresh on fed = ap (λ (a : Ask). as_factor false (ends_in_point false fed) a) (fresh refl (Told ∷ fed) ∙ on fed)
+stepped None point scan new (Fetched v) fresh on fed = ap (λ (a : Ask). as_factor false (ends_in_point false fed) a) (fresh refl (Fetched v ∷ fed) ∙ on fed)
+stepped None point scan new Cut fresh on fed = ap (λ (a : Ask). as_factor false (ends_in_point false fed) a) (fresh refl (Cut ∷ fed) ∙ on fed)
+stepped (Some decimal) point scan new (Tok x) fresh on fed = ap (λ (a : Ask). as_factor decimal (ends_in_point (is_point x) fed) a) (on fed)
+stepped (Some decimal) point scan new (Val v ts) fresh on fed = ap (λ (a : Ask). as_factor decimal (ends_in_point false fed) a) (on fed)
+stepped (Some decimal) point scan new Told fresh on fed = ap (λ (a : Ask). as_factor decimal (ends_in_point false fed) a) (on fed)
+stepped (Some decimal) point scan new (Fetched v) fresh on fed = ap (λ (a : Ask). as_factor decimal (ends_in_point false fed) a) (on fed)
+stepped (Some decimal) point scan new Cut fresh on fed = ap (λ (a : Ask). as_factor decimal (ends_in_point false fed) a) (on fed)
+
+-- what is no end is asked for as it is
+pub asked : (decimal : Option Bool) (point : Bool) (scan : NumberScan) (a : Ask) → IsFresh decimal scan → ((d p : Bool) → as_factor d p a ≡ a) → a ≡ resume scan [] →
+    a ≡ resume_at decimal point scan []
+asked None point scan a fresh kept e = e ∙ sym (fresh refl [])
+asked (Some decimal) point scan a fresh kept e = sym (kept decimal point) ∙ ap (λ (b : Ask). as_factor decimal point b) e
+
+pub ended : (decimal : Option Bool) (point : Bool) (scan : NumberScan) (n : ℤ) (back : Bool) → IsFresh decimal scan → ends_with n back ≡ resume scan [] →
+    Done (value.Plain (datum.Factor n (began_with decimal && (point && back)))) back ≡ resume_at decimal point scan []
+ended None point scan n back fresh e = let f : ends_with n back ≡ integer false [] = e ∙ sym (fresh refl []) in cc
+ended (Some decimal) point scan n back fresh e = ap (λ (a : Ask). as_factor decimal point a) e

@@ -1,0 +1,52 @@
+-- What the words of the scanner of the integer before a fraction stand for, and what it keeps.
+use Rattle.std.specs.Prelude.{◌≡◌, Bool, false, List, Option, Some, None}
+use Rattle.rows.specs.declared.words.Datum.TheVariants as datum
+use Rattle.rows.specs.declared.words.Value.TheVariants as value
+use Rattle.rows.specs.declared.words.Kind.TheVariants as kind
+use Rattle.rows.specs.Internal.{IsFetchable}
+use Rattle.rows.specs.Readings as reading
+use Rattle.plain_readings.specs.Integers.{integer, is_digit}
+use Rattle.plain_readings.specs.Factors.{is_point}
+use Rattle.scan_numbers.specs.Sees.{IsInRange}
+use Rattle.scan_numbers.specs.Resumes.{resume}
+use Rattle.scan_numbers.specs.declared.number.NumberScan.{NumberScan}
+use Rattle.scan_numbers.specs.declared.factor.FactorAsk.{FactorAsk}
+use Rattle.scan_numbers.specs.declared.factor.FactorAsk.TheVariants.{More, Begins, Fetches, Tells, Done}
+
+abbrev pub ask_of : FactorAsk → reading.Ask
+ask_of (More want) = reading.More want
+ask_of Begins = reading.Inner kind.Integer false
+ask_of (Fetches l) = reading.Fetches l
+ask_of (Tells report back) = reading.Tells report back
+ask_of (Done n point back) = reading.Done (value.Plain (datum.Factor n point)) back
+
+abbrev pub EndsInRange : FactorAsk → Type 0
+EndsInRange (Done n point back) = IsInRange n
+EndsInRange a = Unit {0}
+
+-- what is fetched stands at a location that is there
+abbrev pub IsFetchedAt : FactorAsk → Type 0
+IsFetchedAt (Fetches l) = IsFetchable l
+IsFetchedAt a = Unit {0}
+
+-- before the first item the scanner of the integer is one that has read nothing
+abbrev pub IsFresh : Option Bool → NumberScan → Type 0
+IsFresh decimal scan = decimal ≡ None → (fed : List reading.Fed) → integer false fed ≡ resume scan fed
+
+-- whether it began with a decimal digit
+abbrev pub began_with : Option Bool → Bool
+began_with None = false
+began_with (Some decimal) = decimal
+
+-- the same once an item came, which is one or not
+abbrev pub decimal_behind : Option Bool → Bool → Bool
+decimal_behind None decimal = decimal
+decimal_behind (Some began) decimal = began
+
+abbrev pub is_decimal_item : reading.Fed → Bool
+is_decimal_item (reading.Tok x) = is_digit 10 x
+is_decimal_item y = false
+
+abbrev pub is_point_item : reading.Fed → Bool
+is_point_item (reading.Tok x) = is_point x
+is_point_item y = false
