@@ -52,6 +52,9 @@ command_passes false n o P h = h
 frame_built : (f : Frame) (n : ℕ) (o : Found) → IfSome o IsBuilt → IfSome (found_at (frame_status f) n o) IsBuilt
 frame_built (frame.Command scan head) n o h = command_passes (reads_under_normal head) n o IsBuilt h
 frame_built (frame.Integer scan) n o h = h
+frame_built (frame.Factor scan) n o h = h
+frame_built (frame.Dimension scan) n o h = h
+frame_built (frame.Glue scan) n o h = h
 frame_built (frame.Keyword scan) n o h = h
 frame_built (frame.Build scan) n o h = built_other scan.defines
 frame_built (frame.Spelling scan) n o h = h
@@ -78,6 +81,9 @@ IsBelow m found = found.2 < m
 frame_held : (f : Frame) (n m : ℕ) (o : Found) → n + list_count f ≤ m → IfSome o (IsBelow m) → IfSome (found_at (frame_status f) n o) (IsBelow m)
 frame_held (frame.Command scan head) n m o le h = command_passes (reads_under_normal head) n o (IsBelow m) h
 frame_held (frame.Integer scan) n m o le h = h
+frame_held (frame.Factor scan) n m o le h = h
+frame_held (frame.Dimension scan) n m o le h = h
+frame_held (frame.Glue scan) n m o le h = h
 frame_held (frame.Keyword scan) n m o le h = h
 frame_held (frame.Build scan) n m o le h = omega (arith, le)
 frame_held (frame.Spelling scan) n m o le h = h

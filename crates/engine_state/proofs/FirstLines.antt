@@ -9,7 +9,7 @@ use Rattle.plain_tokens.specs.Puts.{Put as PutList}
 use Rattle.plain_tokens.specs.Pending.{Pending, settle, with_begun, with_end, ending, all_puts}
 use Rattle.plain_tokens.specs.Tables.{is_put, next_file, refused}
 use Rattle.equivalents.specs.Parameters.{end_of_line}
-use Rattle.plain_machine.specs.States.{Move, Settled, FirstTaken, FileEnds, made}
+use Rattle.plain_machine.specs.States.{Settled, FirstTaken, FileEnds}
 use Rattle.plain_machine.specs.Demands.{refusal}
 use Rattle.plain_machine.specs.Numbers.{pending_of}
 use Rattle.plain_machine.specs.Plan.{ruled}

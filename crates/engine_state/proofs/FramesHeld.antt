@@ -88,6 +88,7 @@ same_with e e' stack held is size kept = record {
     call = ap (λ (x : Engine). x.call) is;
     names = ap (λ (x : Engine). x.names) is;
     after = ap (λ (x : Engine). x.after) is;
+    mag_set = ap (λ (x : Engine). x.mag_set) is;
     naming = ap (λ (x : Engine). x.naming) is;
     in_line = ap (λ (x : Engine). x.in_line) is;
     reports = ap (λ (x : Engine). x.reports) is;

@@ -1,5 +1,5 @@
 -- What becomes of what was pulled.
-use Rattle.std.proofs.Common.{◌≡◌, ℕ, ◌+◌, ◌*◌, ◌<◌, List, [], ◌∷◌, ◌++◌, length, refl, sym, ap, ◌∙◌, subst, Bool, true, false, arith}
+use Rattle.std.proofs.Common.{◌≡◌, ℕ, ◌+◌, ◌<◌, List, [], ◌∷◌, ◌++◌, length, refl, sym, ap, ◌∙◌, subst, Bool, true, false, arith}
 use Rattle.std.specs.Prelude.{Option, Some, None, codes}
 use Rattle.std.proofs.lemmas.List.{append-nil, length-append}
 use Rattle.std.proofs.lemmas.List.Sums.{sum_by-cons, sum_by-append}
@@ -45,8 +45,8 @@ use Rattle.input_state.specs.declared.answer.Pulled as answers
 use Rattle.input_state.specs.declared.answer.Pulled.TheVariants as answer
 use Rattle.line_lexer.specs.declared.Lexed as answered
 use Rattle.reading_frames.specs.Stack.{Stack, asks_in}
-use Rattle.reading_frames.specs.Weights.{stack_weight}
-use Rattle.plain_readings.specs.Weights.{frame_weight}
+use Rattle.reading_frames.specs.Weights.{frames_weight, stack_weight}
+use Rattle.plain_readings.specs.Weights.{act_frame}
 use Rattle.engine_state.specs.declared.broken.Broken.{Broken}
 use Rattle.engine_state.specs.declared.broken.Broken.TheVariants as broken
 use Rattle.engine_state.specs.declared.call.Call.{Call}
@@ -646,7 +646,7 @@ module _ (p : Pulled) (a : answers.Pulled) (old new : Stored) (h : Pulls p a old
 
 weight_by : (e e' : Engine) (c : Option Call) → e'.readings ≡ e.readings → readings_weight c e' ≡ readings_weight c e
 weight_by e e' None same = ap stack_weight same
-weight_by e e' (Some c) same = ap (λ (s : Stack). frame_weight * length s.frames + (frame_weight + call_weight c.ask)) same
+weight_by e e' (Some c) same = ap (λ (s : Stack). frames_weight s.frames + (act_frame + call_weight c.ask)) same
 
 pub same_weight : (e e' : Engine) → e'.readings ≡ e.readings → e'.call ≡ e.call → readings_weight e'.call e' ≡ readings_weight e.call e
 same_weight e e' readings call = ap (λ (c : Option Call). readings_weight c e') call ∙ weight_by e e' e.call readings

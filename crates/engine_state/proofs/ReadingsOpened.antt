@@ -7,7 +7,7 @@ use Rattle.std.proofs.lemmas.Bool.Decides.{nat_tests}
 use Rattle.tex_defs.specs.declared.Sizes.{Sizes}
 use Rattle.tex_defs.specs.declared.Full.{Full}
 use Rattle.tex_defs.specs.declared.Token.{Token}
-use Rattle.rows.specs.declared.words.Kind.TheVariants.{Command, Integer, Keyword, Text, Definition}
+use Rattle.rows.specs.declared.words.Kind.TheVariants.{Command, Integer, Factor, Dimension, Glue, Keyword, Text, Definition}
 use Rattle.plain_tokens.specs.Tables.{list_words, lists_words, memory, refused}
 use Rattle.plain_machine.specs.Demands.{words, depth as depth_demand}
 use Rattle.input_state.specs.Callings.{call_lists}
@@ -38,6 +38,9 @@ use Rattle.engine_state.proofs.TokensTaken.{listed, listed_sound, on_top_same, n
 pub opened_words : (o : Opening) → lists_words (opened_lists o []) ≡ length (opened_lists o [])
 opened_words (Reads (Command c)) = refl
 opened_words (Reads Integer) = refl
+opened_words (Reads Factor) = refl
+opened_words (Reads (Dimension k)) = refl
+opened_words (Reads (Glue mu)) = refl
 opened_words (Reads (Keyword w)) = refl
 opened_words (Behind c x) = refl
 opened_words (Reads (Text name expanded)) = refl
@@ -48,6 +51,9 @@ opened_words (FileName c) = refl
 words_over : (o : Opening) (held : List (List Token)) → lists_words (opened_lists o held) ≡ lists_words held + length (opened_lists o [])
 words_over (Reads (Command c)) held = omega arith
 words_over (Reads Integer) held = omega arith
+words_over (Reads Factor) held = omega arith
+words_over (Reads (Dimension k)) held = omega arith
+words_over (Reads (Glue mu)) held = omega arith
 words_over (Reads (Keyword w)) held = omega arith
 words_over (Behind c x) held = omega arith
 words_over (Reads (Text name expanded)) held = omega (arith, sum_by-cons list_words [] held)

@@ -170,6 +170,7 @@ same_join e e1 e2 a b = record {
     call = b.others.call ∙ a.others.call;
     names = b.others.names ∙ a.others.names;
     after = b.others.after ∙ a.others.after;
+    mag_set = b.others.mag_set ∙ a.others.mag_set;
     naming = b.others.naming ∙ a.others.naming;
     in_line = b.others.in_line ∙ a.others.in_line;
     reports = b.others.reports ∙ a.others.reports;

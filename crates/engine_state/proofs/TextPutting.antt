@@ -233,7 +233,7 @@ module _ (sizes : Sizes) (s s1 : State) (e' : Engine) (book : Book) (w : World) 
 pub in_front : (e : Engine) (j : Stored) (puts : List PutList) (making : Option (List Token)) → j ≡ record e.input { pending = with_puts puts e.input.pending; making = making; lists = j.lists } → SameStore e.input j → IsInFront e (with_input e j)
 in_front e j puts making is store = record {
   frames = record { readings = refl; lists = ap (λ (x : Stored). x.builds) is; call = refl; calling = ap (λ (x : Stored). x.call) is };
-  others = record { depth = refl; call = refl; names = refl; after = refl; last = refl; naming = refl; in_line = refl; reports = refl; flawed = refl; quiet = refl; sizes = refl };
+  others = record { depth = refl; call = refl; names = refl; after = refl; mag_set = refl; last = refl; naming = refl; in_line = refl; reports = refl; flawed = refl; quiet = refl; sizes = refl };
   store = store;
   light = ap (λ (x : Stored). pending_weight x.pending) is;
   page = λ book. ap (λ (x : Stored). page_of (with_input e x) book) is;
@@ -247,6 +247,7 @@ front_join e e1 e2 a b = record {
     call = b.others.call ∙ a.others.call;
     names = b.others.names ∙ a.others.names;
     after = b.others.after ∙ a.others.after;
+    mag_set = b.others.mag_set ∙ a.others.mag_set;
     last = b.others.last ∙ a.others.last;
     naming = b.others.naming ∙ a.others.naming;
     in_line = b.others.in_line ∙ a.others.in_line;

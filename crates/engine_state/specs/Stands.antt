@@ -34,6 +34,7 @@ state_of e book = record {
   strings = e.names.others;
   macros = book.macros;
   after = e.after;
+  mag_set = e.mag_set;
   last = e.last;
   work = book.work;
   gathered = gathered e.input;
@@ -54,6 +55,7 @@ page_of e book = record {
   group = kind_of e.input.groups;
   tokens = tokens_after e.input.groups;
   after = e.after;
+  mag_set = e.mag_set;
   names = e.names.names;
   strings = e.names.others;
   macros = book.macros;
@@ -145,6 +147,7 @@ pub record SameOthers (e e' : Engine) : Type 0 where
   pub call : e'.call ≡ e.call
   pub names : e'.names ≡ e.names
   pub after : e'.after ≡ e.after
+  pub mag_set : e'.mag_set ≡ e.mag_set
   pub last : e'.last ≡ e.last
   pub naming : e'.naming ≡ e.naming
   pub in_line : e'.in_line ≡ e.in_line
@@ -159,6 +162,7 @@ pub record SameElse (e e' : Engine) : Type 0 where
   pub call : e'.call ≡ e.call
   pub names : e'.names ≡ e.names
   pub after : e'.after ≡ e.after
+  pub mag_set : e'.mag_set ≡ e.mag_set
   pub naming : e'.naming ≡ e.naming
   pub in_line : e'.in_line ≡ e.in_line
   pub reports : e'.reports ≡ e.reports

@@ -1,14 +1,14 @@
 -- Whether the next rule needs a step, and how many rules without a step may follow.
-use Rattle.std.specs.Prelude.{◌≡◌, ℕ, ◌+◌, ◌*◌, length, sum_by, List, Bool, true, false, ◌&&◌, Option, Some, None}
+use Rattle.std.specs.Prelude.{◌≡◌, ℕ, ◌+◌, length, sum_by, List, Bool, true, false, ◌&&◌, Option, Some, None}
 use Rattle.tex_syntax.specs.declared.words.Outcome.TheVariants.{AtFatal}
 use Rattle.tex_defs.specs.declared.Fatal.TheVariants.{HundredErrors}
 use Rattle.tex_defs.specs.declared.Seen.{Seen}
 use Rattle.plain_tokens.specs.Pending.{Pending, Source, Progress, Begun, Closed, pulled}
 use Rattle.plain_machine.specs.Extended.{starts}
 use Rattle.rows.specs.Readings as reading
-use Rattle.plain_readings.specs.Weights.{frame_weight, act_weight}
+use Rattle.plain_readings.specs.Weights.{act_frame, act_weight}
 use Rattle.reading_frames.specs.Stack.{asks_in}
-use Rattle.reading_frames.specs.Weights.{stack_weight}
+use Rattle.reading_frames.specs.Weights.{frames_weight, stack_weight}
 use Rattle.input_state.specs.Reads.{gives_step}
 use Rattle.engine_state.specs.declared.call.Call.{Call}
 use Rattle.engine_state.specs.declared.call.CallAsk.{CallAsk}
@@ -71,7 +71,7 @@ outer_weight outer = sum_by (λ s. length s.line + file_weight s.file) outer
 abbrev pub pending_weight : Pending → ℕ
 pending_weight p = (length p.line + file_weight p.file) + outer_weight p.outer
 
--- a call: as much as a reading, and what it asks for
+-- a call: as much as a reading that acts, and what it asks for
 abbrev pub call_weight : CallAsk → ℕ
 call_weight call.More = 0
 call_weight call.ExtraBrace = act_weight + 1
@@ -80,7 +80,7 @@ call_weight a = act_weight
 -- the open readings: a call stands above the frames
 abbrev pub readings_weight : Option Call → Engine → ℕ
 readings_weight None e = stack_weight e.readings
-readings_weight (Some c) e = frame_weight * length e.readings.frames + (frame_weight + call_weight c.ask)
+readings_weight (Some c) e = frames_weight e.readings.frames + (act_frame + call_weight c.ask)
 
 -- a rule without a step makes the engine lighter
 abbrev pub weight : Engine → ℕ

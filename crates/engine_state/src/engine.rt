@@ -31,6 +31,8 @@ pub struct Engine {
     pub call: Option<Call>,
     /// The token that `\\afterassignment` keeps.
     pub after: Option<Token>,
+    /// The magnification that a check has set for good, or 0 before the first: TeX's `mag_set`.
+    pub mag_set: u16,
     /// The token that a reading was fed with last.
     pub last: Seen,
     /// Whether a file's name is being read: TeX's `name_in_progress`.
@@ -51,10 +53,12 @@ pub struct Engine {
 /// `\\csname`, `\\jobname`, `\\input` and `\\endinput`.
 const KNOWN: &[u16] = &[
     1, 2, 3, 4, 5, 6, 8, 9, 10, 11, 15, 16, 23, 24, 25, 26, 27, 28, 29, 30, 31, 32, 33, 34, 35, 36,
-    37, 38, 39, 40, 41, 46, 47, 48, 54, 55, 56, 57, 58, 59, 60, 61, 62, 63, 64, 85, 86, 87, 88, 89,
-    90, 91, 92, 93, 94, 95, 96, 97, 98, 99, 100, 101, 102, 103, 104, 105, 106, 107, 108, 109, 110,
-    111, 112, 113, 114, 115, 116, 117, 118, 119, 120, 121, 122, 123, 124, 125, 126, 127, 128, 129,
-    130, 131, 132, 133, 134, 135, 136, 137, 138, 139,
+    37, 38, 39, 40, 41, 42, 43, 44, 46, 47, 48, 49, 50, 51, 54, 55, 56, 57, 58, 59, 60, 61, 62, 63,
+    64, 85, 86, 87, 88, 89, 90, 91, 92, 93, 94, 95, 96, 97, 98, 99, 100, 101, 102, 103, 104, 105,
+    106, 107, 108, 109, 110, 111, 112, 113, 114, 115, 116, 117, 118, 119, 120, 121, 122, 123, 124,
+    125, 126, 127, 128, 129, 130, 131, 132, 133, 134, 135, 136, 137, 138, 139, 140, 141, 142, 143,
+    144, 145, 146, 147, 148, 149, 150, 151, 152, 153, 154, 155, 156, 157, 158, 159, 160, 161, 162,
+    163, 164, 165, 166, 167, 168, 169, 170, 171, 172, 173, 174, 175, 176, 177, 178,
 ];
 
 /// Before a reading is fed with a token.
@@ -94,6 +98,7 @@ impl Engine {
             readings,
             call: None,
             after: None,
+            mag_set: 0,
             last: NO_TOKEN,
             naming: false,
             in_line: false,
@@ -113,6 +118,7 @@ impl Engine {
             readings: _,
             call: _,
             after: _,
+            mag_set: _,
             last: _,
             naming: _,
             in_line: _,

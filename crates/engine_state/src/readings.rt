@@ -1,5 +1,5 @@
 // The open readings: frames, and the lists that they hold.
-ghost use Rattle.std.specs.Prelude.{◌≡◌, ◌<◌, ◌≤◌, ◌+◌, ◌-◌, List, [], ◌∷◌, length, drop, IfErr, OnOk, OnErr, Some, None, IsSome};
+ghost use Rattle.std.specs.Prelude.{◌≡◌, ◌<◌, ◌≤◌, ◌+◌, List, [], ◌∷◌, length, drop, IfErr, OnOk, OnErr, Some, None, IsSome};
 ghost use Rattle.tex_defs.specs.Places.{World};
 ghost use Rattle.tex_defs.specs.declared.Sizes.{Sizes};
 ghost use Rattle.equivalents.specs.Groups.{IsLocation};
@@ -7,14 +7,14 @@ ghost use Rattle.equivalents.specs.Locations.{value_seen};
 ghost use Rattle.equivalents.specs.Tables.{get};
 ghost use Rattle.rows.specs.Readings.{Tok, Told, Fetched, Val, Done, Fetches};
 ghost use Rattle.plain_readings.specs.Readings.{Reading, fed_with, opened, opened_with, lists};
-ghost use Rattle.plain_readings.specs.Weights.{frame_weight as reading_weight, value_weight, act_weight};
+ghost use Rattle.plain_readings.specs.Weights.{value_frame, act_frame, value_weight, act_weight};
 ghost use Rattle.plain_tokens.specs.Tables.{memory, refused};
 ghost use Rattle.reading_frames.specs.Sees.{kind_of, has_no_token, on_top};
 ghost use Rattle.reading_frames.specs.Resumes.{listed_lists, token_count};
 ghost use Rattle.reading_frames.specs.Stands.{opened_lists};
 ghost use Rattle.input_state.specs.Callings.{NotCalling};
 ghost use Rattle.input_state.specs.Stored.{KeepsMacros, words as stored_words};
-ghost use Rattle.reading_frames.specs.Weights.{innermost_weight, begun_weight, begun_with_weight, IsReported};
+ghost use Rattle.reading_frames.specs.Weights.{frames_weight, opening_frame, innermost_weight, begun_weight, begun_with_weight, IsReported};
 ghost use Rattle.reading_frames.specs.Stack.{asks_in};
 ghost use Rattle.plain_machine.specs.States.{Begun, BegunWith, Closed, Ended, Feeds, made};
 ghost use Rattle.plain_machine.specs.Demands.{refusal};
@@ -92,7 +92,7 @@ impl Engine {
         ensures err { OnErr result (self.new ≡ self.old) }
         ensures same { SameBut self.old self.new }
         ensures weight { OnOk result (innermost_weight self.new.readings.frames ≤ begun_weight opening) }
-        ensures count { OnOk result (length self.new.readings.frames ≡ length self.old.readings.frames + 1) }
+        ensures frames { OnOk result (frames_weight self.new.readings.frames ≡ frames_weight self.old.readings.frames + opening_frame opening) }
         ensures beneath { OnOk result (drop 1 self.new.readings.frames ≡ self.old.readings.frames) }
     {
         if let Some(full) = self.depth_refusal() {
@@ -120,7 +120,7 @@ impl Engine {
         ensures err { OnErr result (self.new ≡ self.old) }
         ensures same { SameBut self.old self.new }
         ensures weight { OnOk result (innermost_weight self.new.readings.frames ≤ begun_with_weight opening) }
-        ensures count { OnOk result (length self.new.readings.frames ≡ length self.old.readings.frames + 1) }
+        ensures frames { OnOk result (frames_weight self.new.readings.frames ≡ frames_weight self.old.readings.frames + opening_frame opening) }
         ensures beneath { OnOk result (drop 1 self.new.readings.frames ≡ self.old.readings.frames) }
     {
         if let Some(full) = self.depth_refusal() {
@@ -165,7 +165,7 @@ impl Engine {
         Ok(())
     }
 
-    /// The innermost frame goes on behind its report.
+    /// The innermost frame goes on behind its report, a token put back, a name that became `\relax`, or the magnification checked.
     ///
     /// # Errors
     /// The main memory is full; as [`Engine::feed`].
@@ -174,7 +174,7 @@ impl Engine {
         ensures did { OnOk result ((sizes : Sizes) (w : World) (book : Book) (r : Reading) (rs : List Reading) → Stands sizes self.old (with_work (r ∷ rs) book) → Did sizes (state_of self.old (with_work (r ∷ rs) book)) (state_of self.new (with_work (fed_with Told (r ∷ rs)) book)) w w (noting r)) }
         ensures refused { IfErr result (λ full. (sizes : Sizes) (w : World) (book : Book) (r : Reading) (rs : List Reading) → Stands sizes self.old (with_work (r ∷ rs) book) → CutsIn sizes (state_of self.old (with_work (r ∷ rs) book)) self.new w w (noting r) (broken.Full full)) }
         ensures weight { OnOk result (IsReported (asks_in self.old.readings.frames []) → innermost_weight self.new.readings.frames < innermost_weight self.old.readings.frames) }
-        ensures count { OnOk result (length self.new.readings.frames ≡ length self.old.readings.frames) }
+        ensures frames { OnOk result (frames_weight self.new.readings.frames ≡ frames_weight self.old.readings.frames) }
         ensures same { OnOk result (SameBut self.old self.new) }
         ensures column { self.new.in_line ≡ self.old.in_line }
         ensures idle { self.new.input.making ≡ self.old.input.making }
@@ -196,7 +196,7 @@ impl Engine {
         ensures state { (sizes : Sizes) (book : Book) → Stands sizes self.old book → made (Feeds (Fetched (value_seen (get (page_of self.old book).now loc)))) (state_of self.old book) ≡ state_of self.new (with_work (fed_with (Fetched (value_seen (get (page_of self.old book).now loc))) book.work) book) }
         ensures same { SameBut self.old self.new }
         ensures weight { asks_in self.old.readings.frames [] ≡ Some (Fetches loc) → innermost_weight self.new.readings.frames < innermost_weight self.old.readings.frames }
-        ensures count { length self.new.readings.frames ≡ length self.old.readings.frames }
+        ensures frames { frames_weight self.new.readings.frames ≡ frames_weight self.old.readings.frames }
     {
         let value = self.input.value(loc);
         self.readings.fetched(value);
@@ -207,9 +207,9 @@ impl Engine {
         ensures stands { (sizes : Sizes) (book : Book) (r : Reading) (rs : List Reading) (back : _) → Stands sizes self.old (with_work (r ∷ rs) book) → asked self.old ≡ Some (Done value back) → Stands sizes self.new (with_work (fed_with (Val value (value_tokens value (lists r.kind r.fed))) rs) book) }
         ensures state { (sizes : Sizes) (book : Book) (r : Reading) (rs : List Reading) (back : _) → Stands sizes self.old (with_work (r ∷ rs) book) → asked self.old ≡ Some (Done value back) → made (Ended value (value_tokens value (lists r.kind r.fed))) (state_of self.old (with_work (r ∷ rs) book)) ≡ state_of self.new (with_work (fed_with (Val value (value_tokens value (lists r.kind r.fed))) rs) book) }
         ensures same { SameBut self.old self.new }
-        ensures weight { innermost_weight self.new.readings.frames < reading_weight + value_weight }
+        ensures weight { innermost_weight self.new.readings.frames < value_frame + value_weight }
         ensures count { self.new.readings.frames ≡ [] → innermost_weight self.new.readings.frames ≡ 0 }
-        ensures frames { length self.new.readings.frames ≡ length self.old.readings.frames - 1 }
+        ensures frames { frames_weight self.new.readings.frames ≡ frames_weight (drop 1 self.old.readings.frames) }
     {
         let listed = self.readings.end();
         let is_empty = self.is_value_empty(value, listed);
@@ -224,8 +224,8 @@ impl Engine {
         ensures stands { (sizes : Sizes) (book : Book) (r : Reading) (rs : List Reading) → Stands sizes self.old (with_work (r ∷ rs) book) → Stands sizes self.new (with_work rs book) }
         ensures state { (sizes : Sizes) (book : Book) (r : Reading) (rs : List Reading) → Stands sizes self.old (with_work (r ∷ rs) book) → made Closed (state_of self.old (with_work (r ∷ rs) book)) ≡ state_of self.new (with_work rs book) }
         ensures same { SameBut self.old self.new }
-        ensures weight { innermost_weight self.new.readings.frames < reading_weight + act_weight }
-        ensures frames { length self.new.readings.frames ≡ length self.old.readings.frames - 1 }
+        ensures weight { innermost_weight self.new.readings.frames < act_frame + act_weight }
+        ensures frames { frames_weight self.new.readings.frames ≡ frames_weight (drop 1 self.old.readings.frames) }
         ensures beneath { self.new.readings.frames ≡ drop 1 self.old.readings.frames }
         ensures buffer { self.new.input.buffer ≡ self.old.input.buffer }
         ensures stopped { self.new.stopped ≡ self.old.stopped }

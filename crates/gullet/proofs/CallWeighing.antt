@@ -1,11 +1,11 @@
 -- What a rule of a call makes lighter, and whether it has a step.
-use Rattle.std.proofs.Common.{◌≡◌, ◌+◌, ◌*◌, ◌<◌, ◌≤◌, ap, ◌∙◌, subst, arith, length, Bool, false}
+use Rattle.std.proofs.Common.{◌≡◌, ◌+◌, ◌<◌, ◌≤◌, ap, ◌∙◌, subst, arith, Bool, false}
 use Rattle.std.specs.Prelude.{Option, Some, None, Result, Ok, Err, IfOk, OnErr, ◌&&◌}
 use Rattle.tex_defs.specs.declared.Name.{Name}
 use Rattle.plain_tokens.specs.Pending.{pulled}
-use Rattle.plain_readings.specs.Weights.{frame_weight, act_weight}
+use Rattle.plain_readings.specs.Weights.{act_frame, act_weight}
 use Rattle.reading_frames.specs.Stack.{Stack}
-use Rattle.reading_frames.specs.Weights.{stack_weight}
+use Rattle.reading_frames.specs.Weights.{frames_weight, stack_weight}
 use Rattle.reading_frames.proofs.Weights.{small as weights_small}
 use Rattle.input_state.specs.Reads.{gives_step}
 use Rattle.input_state.specs.Stored.{Stored}
@@ -36,7 +36,7 @@ frames_join e e1 e2 a b = record { readings = b.readings ∙ a.readings; lists =
 
 readings_same : (e e1 : Engine) (c : Option Call) → e1.readings ≡ e.readings → readings_weight c e1 ≡ readings_weight c e
 readings_same e e1 None same = ap stack_weight same
-readings_same e e1 (Some c) same = ap (λ (s : Stack). frame_weight * length s.frames + (frame_weight + call_weight c.ask)) same
+readings_same e e1 (Some c) same = ap (λ (s : Stack). frames_weight s.frames + (act_frame + call_weight c.ask)) same
 
 pub same_weight : (e e1 : Engine) → SameFrames e e1 → pending_weight e1.input.pending ≡ pending_weight e.input.pending → weight e1 ≡ weight e
 same_weight e e1 same left =

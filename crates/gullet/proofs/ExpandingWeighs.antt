@@ -1,9 +1,11 @@
 -- What the engine weighs behind an expansion: no more than an act above the readings that were open, where the innermost did.
-use Rattle.std.proofs.Common.{◌≡◌, ℕ, ◌+◌, ◌*◌, ◌≤◌, List, length, ap, ◌∙◌, arith}
+use Rattle.std.proofs.Common.{◌≡◌, ℕ, ◌+◌, ◌≤◌, List, ap, ◌∙◌, arith}
 use Rattle.std.specs.Prelude.{Option, Some, None}
 use Rattle.tex_defs.specs.declared.Name.{Name}
-use Rattle.plain_readings.specs.Weights.{frame_weight, act_weight}
-use Rattle.reading_frames.specs.Weights.{innermost_weight, stack_weight}
+use Rattle.plain_readings.specs.Weights.{act_weight}
+use Rattle.reading_frames.specs.Weights.{frames_weight, opening_frame, innermost_weight, stack_weight}
+use Rattle.reading_frames.specs.declared.ask.Opening.{Opening}
+use Rattle.reading_frames.proofs.Rules.{openings}
 use Rattle.reading_frames.specs.declared.frame.Frame.{Frame}
 use Rattle.input_state.specs.Stored.{Stored}
 use Rattle.engine_state.specs.declared.call.Call.{Call}
@@ -16,7 +18,7 @@ use Rattle.engine_state.proofs.Standing.{same_engine}
 
 module _ (e : Engine) (none : e.call ≡ None) (light : innermost_weight e.readings.frames ≤ act_weight) where
   abbrev most : ℕ
-  most = frame_weight * length e.readings.frames + act_weight + pending_weight e.input.pending
+  most = frames_weight e.readings.frames + act_weight + pending_weight e.input.pending
 
   weighs : weight e ≤ most
   weighs = let is : readings_weight e.call e ≡ stack_weight e.readings = ap (λ (c : Option Call). readings_weight c e) none in omega (arith, is, light)
@@ -31,15 +33,15 @@ module _ (e : Engine) (none : e.call ≡ None) (light : innermost_weight e.readi
   pub framed_light : (e' : Engine) → e'.call ≡ e.call → e'.readings.frames ≡ e.readings.frames → pending_weight e'.input.pending ≡ pending_weight e.input.pending → weight e' ≤ most
   framed_light e' call same left =
       let is : readings_weight e'.call e' ≡ stack_weight e'.readings = ap (λ (c : Option Call). readings_weight c e') (call ∙ none) in
-      let frames : stack_weight e'.readings ≡ stack_weight e.readings = ap (λ (fs : List Frame). frame_weight * length fs + innermost_weight fs) same in
+      let frames : stack_weight e'.readings ≡ stack_weight e.readings = ap (λ (fs : List Frame). frames_weight fs + innermost_weight fs) same in
       omega (arith, is, frames, left, light)
 
   -- a reading more
-  pub begun_light : (e' : Engine) (n : ℕ) → e'.call ≡ e.call → length e'.readings.frames ≡ length e.readings.frames + 1 → innermost_weight e'.readings.frames ≤ n → n ≤ 11 → e'.input.pending ≡ e.input.pending → weight e' ≤ most
-  begun_light e' n call count begun few same =
+  pub begun_light : (e' : Engine) (o : Opening) (n : ℕ) → e'.call ≡ e.call → frames_weight e'.readings.frames ≡ frames_weight e.readings.frames + opening_frame o → innermost_weight e'.readings.frames ≤ n → n ≤ 11 → e'.input.pending ≡ e.input.pending → weight e' ≤ most
+  begun_light e' o n call frames begun few same =
       let is : readings_weight e'.call e' ≡ stack_weight e'.readings = ap (λ (c : Option Call). readings_weight c e') (call ∙ none) in
       let left : pending_weight e'.input.pending ≡ pending_weight e.input.pending = ap pending_weight same in
-      omega (arith, is, left, count, begun, few)
+      omega (arith, is, left, frames, openings o, begun, few)
 
   -- a list is put
   pub put_light : (i : Stored) → pending_weight i.pending ≡ pending_weight e.input.pending → weight (record e { input = i }) ≤ most

@@ -12,7 +12,7 @@ use Rattle.rows.specs.declared.command.Effect.{Effect}
 use Rattle.rows.specs.declared.command.Effect.TheVariants as effect
 use Rattle.plain_tokens.specs.Lookup.{token_of, new_name}
 use Rattle.plain_tokens.specs.Pending.{Pending, Pulled, TokenFrom, LexemeFrom, LineTaken, InvalidMet, FileOver, NothingLeft, pulled}
-use Rattle.rows.specs.Readings.{Ask, More, Inner, Done, Acts, ActsOn, Defines, Ends, Calls, Fails, RunsAway, Tells, Inserts, Puts, Relaxes, Fetches}
+use Rattle.rows.specs.Readings.{Ask, More, Inner, Done, Acts, ActsOn, Defines, Ends, Calls, Fails, RunsAway, Tells, Inserts, Puts, Relaxes, Magnifies, Fetches}
 use Rattle.plain_readings.specs.Readings.{Reading, ask}
 use Rattle.plain_readings.specs.Scanning.{Scanning, scanning}
 use Rattle.reading_frames.specs.declared.frame.Frame.{Frame}
@@ -116,6 +116,7 @@ answer_steps e book work r (Tells report back) = answer_free (state_of e book) w
 answer_steps e book work r (Inserts t report back) = answer_free (state_of e book) work r (Inserts t report back) tt
 answer_steps e book work r (Puts t more) = answer_free (state_of e book) work r (Puts t more) tt
 answer_steps e book work r (Relaxes c n) = answer_free (state_of e book) work r (Relaxes c n) tt
+answer_steps e book work r Magnifies = answer_free (state_of e book) work r Magnifies tt
 answer_steps e book work r (Fetches l) = answer_free (state_of e book) work r (Fetches l) tt
 
 steps_of : (e : Engine) (book : Book) (work : List Reading) → steps (plan_of e (with_work work book)) ≡ one_if (frames_want (asked_in work) && gives_step (pulled e.input.groups.now.categories e.input.pending))
@@ -163,6 +164,7 @@ module _ (sizes : Sizes) where
   answer_needs e book work r (Inserts t report back) unopened h g = no g
   answer_needs e book work r (Puts t more) unopened h g = no g
   answer_needs e book work r (Relaxes c n) unopened h g = no g
+  answer_needs e book work r Magnifies unopened h g = no g
   answer_needs e book work r (Fetches l) unopened h g = no g
 
   needs_in : (e : Engine) (book : Book) (work : List Reading) → e.input.pending.next ≡ None → (frames_want (asked_in work) && gives_step (pulled e.input.groups.now.categories e.input.pending)) ≡ true → StepComes sizes (state_of e (with_work work book))

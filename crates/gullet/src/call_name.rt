@@ -1,12 +1,12 @@
 // The name of a macro is expanded.
-ghost use Rattle.std.specs.Prelude.{◌≡◌, ◌≤◌, ◌+◌, ◌*◌, ℕ, length, Bool, Some, None, IfErr, OnOk, OnErr};
+ghost use Rattle.std.specs.Prelude.{◌≡◌, ◌≤◌, ◌+◌, ℕ, Bool, Some, None, IfErr, OnOk, OnErr};
 ghost use Rattle.tex_defs.specs.declared.Sizes.{Sizes};
 ghost use Rattle.tex_defs.specs.declared.Meaning.TheVariants.{Macro};
 ghost use Rattle.tex_defs.specs.Places.{World};
 ghost use Rattle.plain_tokens.specs.Meanings.{name_meaning};
 ghost use Rattle.plain_readings.specs.Readings.{Arguments};
-ghost use Rattle.plain_readings.specs.Weights.{frame_weight, act_weight};
-ghost use Rattle.reading_frames.specs.Weights.{innermost_weight};
+ghost use Rattle.plain_readings.specs.Weights.{act_weight};
+ghost use Rattle.reading_frames.specs.Weights.{frames_weight, innermost_weight};
 ghost use Rattle.plain_machine.specs.States.{Begun};
 ghost use Rattle.plain_machine.specs.Demands.{refusal};
 ghost use Rattle.plain_machine.specs.Plan.{called};
@@ -42,7 +42,7 @@ pub(crate) fn call_name(engine: &mut Engine, token: Token) -> Result<(), Full>
     ensures frames { OnErr result (SameFrames engine.old engine.new) }
     ensures column { engine.new.in_line ≡ engine.old.in_line }
     ensures idle { engine.new.input.making ≡ engine.old.input.making }
-    ensures light { OnOk result (engine.old.call ≡ None → innermost_weight engine.old.readings.frames ≤ act_weight → weight engine.new ≤ frame_weight * length engine.old.readings.frames + act_weight + pending_weight engine.old.input.pending) }
+    ensures light { OnOk result (engine.old.call ≡ None → innermost_weight engine.old.readings.frames ≤ act_weight → weight engine.new ≤ frames_weight engine.old.readings.frames + act_weight + pending_weight engine.old.input.pending) }
 {
     if engine.input.is_calling() {
         return Ok(());

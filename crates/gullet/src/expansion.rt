@@ -1,12 +1,12 @@
 // A token is expanded where it can be.
 // *The TeXbook*, chapter 20; *TeX: The Program*, part 25 (`get_x_token`, `expand`).
-ghost use Rattle.std.specs.Prelude.{◌≡◌, ◌<◌, ◌≤◌, ◌+◌, ◌*◌, length, not, IfOk, IfErr, OnOk, MatchResult, List, None, false, true};
+ghost use Rattle.std.specs.Prelude.{◌≡◌, ◌<◌, ◌≤◌, ◌+◌, not, IfOk, IfErr, OnOk, MatchResult, List, None, false, true};
 ghost use Rattle.tex_defs.specs.declared.Sizes.{Sizes};
 ghost use Rattle.tex_defs.specs.Places.{World};
 ghost use Rattle.plain_tokens.specs.Pending.{pulled};
-ghost use Rattle.plain_readings.specs.Weights.{frame_weight, act_weight};
+ghost use Rattle.plain_readings.specs.Weights.{act_weight};
 ghost use Rattle.reading_frames.specs.Sees.{kind_of};
-ghost use Rattle.reading_frames.specs.Weights.{innermost_weight, begun_weight};
+ghost use Rattle.reading_frames.specs.Weights.{frames_weight, innermost_weight, begun_weight};
 ghost use Rattle.plain_machine.specs.States.{Move};
 ghost use Rattle.plain_machine.specs.Plan.{Page, call_of as plain_call, expanded, expansion as plain_expansion, input_met, is_expandable_primitive};
 ghost use Rattle.world_io.specs.Told.{FilesTold};
@@ -174,7 +174,7 @@ fn begin_input(engine: &mut Engine, token: Token, call: Call) -> Result<(), Brok
         Went sizes (state_of engine.old book) engine.new w w (input_met (page_of engine.old book) token call) 0) }
     ensures err { IfErr result (λ b. (sizes : Sizes) (w : World) (book : Book) → Stands sizes engine.old book →
         CutsIn sizes (state_of engine.old book) engine.new w w (input_met (page_of engine.old book) token call) b) }
-    ensures light { OnOk result (engine.old.call ≡ None → innermost_weight engine.old.readings.frames ≤ act_weight → weight engine.new ≤ frame_weight * length engine.old.readings.frames + act_weight + pending_weight engine.old.input.pending) }
+    ensures light { OnOk result (engine.old.call ≡ None → innermost_weight engine.old.readings.frames ≤ act_weight → weight engine.new ≤ frames_weight engine.old.readings.frames + act_weight + pending_weight engine.old.input.pending) }
     ensures call { OnOk result (engine.new.call ≡ engine.old.call) }
     ensures column { engine.new.in_line ≡ engine.old.in_line }
     ensures idle { OnOk result (engine.new.input.making ≡ None) }
@@ -204,7 +204,7 @@ pub fn expand_once<S: Sink>(engine: &mut Engine, out: &mut S, seen: Seen) -> Res
     ensures halts { IfOk result (λ once. EndsRun once → SameFrames engine.old engine.new) }
     ensures stays { IfOk result (λ once. IsStayed once → engine.new ≡ engine.old) }
     ensures silent { IfOk result (λ once. IsStayed once → S.told out.new ≡ S.told out.old) }
-    ensures light { IfOk result (λ once. IsExpanded once → innermost_weight engine.old.readings.frames ≤ act_weight → weight engine.new ≤ frame_weight * length engine.old.readings.frames + act_weight + pending_weight engine.old.input.pending) }
+    ensures light { IfOk result (λ once. IsExpanded once → innermost_weight engine.old.readings.frames ≤ act_weight → weight engine.new ≤ frames_weight engine.old.readings.frames + act_weight + pending_weight engine.old.input.pending) }
     ensures idle { OnOk result (engine.new.input.making ≡ None) }
 {
     match expansion_of(seen) {

@@ -8,6 +8,7 @@ use Rattle.token_lists.specs.Table.{Entry, entry_at, holders_at, holders_of, one
 use Rattle.token_lists.specs.Accounts.{holds, Moves, Keeps}
 use Rattle.meanings.specs.Holding.{list_holds, without_holder, Lasts}
 use Rattle.equivalents.specs.declared.values.CodeKind.TheVariants as code
+use Rattle.equivalents.specs.declared.values.Glue.{Glue}
 use Rattle.equivalents.specs.declared.values.Loc.{Loc}
 use Rattle.equivalents.specs.declared.values.Loc.TheVariants as loc
 use Rattle.equivalents.specs.declared.values.Val.TheVariants as val
@@ -114,3 +115,26 @@ set_local_number g (loc.Means i) n suits = absurd suits
 pub set_number : (global : Bool) (g : Groups) (l : Loc) (n : ℤ) → Suits l (val.Number n) → (set global g l (val.Number n)).now.meanings ≡ g.now.meanings
 set_number true g l n suits = set_local_number g l n suits
 set_number false g l n suits = set_local_number g l n suits
+
+-- nor is glue
+set_local_glue : (g : Groups) (l : Loc) (x : Glue) → Suits l (val.Skip x) → (set_local g l (val.Skip x)).now.meanings ≡ g.now.meanings
+set_local_glue g (loc.Code code.Category c) x suits = absurd suits
+set_local_glue g (loc.Code code.Lowercase c) x suits = absurd suits
+set_local_glue g (loc.Code code.Uppercase c) x suits = absurd suits
+set_local_glue g (loc.Code code.SpaceFactor c) x suits = absurd suits
+set_local_glue g (loc.Code code.Math c) x suits = absurd suits
+set_local_glue g (loc.Code code.Delimiter c) x suits = absurd suits
+set_local_glue g (loc.Integer i) x suits = absurd suits
+set_local_glue g (loc.Dimension i) x suits = absurd suits
+set_local_glue g (loc.Glue i) x suits = refl
+set_local_glue g (loc.Register register.Count i) x suits = absurd suits
+set_local_glue g (loc.Register register.Dimen i) x suits = absurd suits
+set_local_glue g (loc.Register register.Skip i) x suits = refl
+set_local_glue g (loc.Register register.Muskip i) x suits = refl
+set_local_glue g (loc.Register register.Toks i) x suits = absurd suits
+set_local_glue g (loc.Tokens i) x suits = absurd suits
+set_local_glue g (loc.Means i) x suits = absurd suits
+
+pub set_glue : (global : Bool) (g : Groups) (l : Loc) (x : Glue) → Suits l (val.Skip x) → (set global g l (val.Skip x)).now.meanings ≡ g.now.meanings
+set_glue true g l x suits = set_local_glue g l x suits
+set_glue false g l x suits = set_local_glue g l x suits

@@ -44,7 +44,7 @@ use crate::gathering::{Gathering, begin as begin_call, feed};
 use crate::holders::{give_back, has_parameters, let_go, share};
 use crate::places::behind;
 use crate::{CallKind, CallTold, Pulled};
-use eqtb_save::{Closed, Eqtb, GroupKind, Loc, Val, Value, name_loc};
+use eqtb_save::{Closed, Eqtb, Glue, GroupKind, Loc, Val, Value, name_loc};
 use input_stack::{InputStack, Pulled as Given};
 use line_lexer::{Ahead, Lexed, Line};
 use macro_args::Args;
@@ -750,6 +750,29 @@ impl Held {
             global,
             loc,
             Val::Number(number),
+        );
+        Ok(())
+    }
+
+    /// A glue parameter or register gets this glue.
+    ///
+    /// # Errors
+    /// The save stack is full; nothing has changed.
+    pub fn set_glue(&mut self, loc: Loc, glue: Glue, global: bool) -> Result<(), Full>
+        requires within { IsLocation self.old.groups loc }
+        requires suits { Suits loc (val.Skip glue) }
+        ensures refused { MatchResult result (λ _. refused self.old.sizes (set_demands global self.old.groups loc) ≡ None) (λ full. refused self.old.sizes (set_demands global self.old.groups loc) ≡ Some full) }
+        ensures ok { OnOk result (self.new ≡ record self.old { groups = set global self.old.groups loc (val.Skip glue); lists = self.new.lists }) }
+        ensures err { OnErr result (self.new ≡ self.old) }
+        ensures macros { KeepsHeld self.old self.new }
+    {
+        self.set_room(global, loc)?;
+        assign(
+            &mut self.table,
+            &mut self.lists,
+            global,
+            loc,
+            Val::Skip(glue),
         );
         Ok(())
     }

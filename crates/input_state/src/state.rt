@@ -44,7 +44,7 @@ use crate::lines::{first_line, put_bytes, put_line};
 use crate::lists_held::Held;
 use crate::places::{spell, spelt_length};
 use crate::{CallKind, CallTold, Pulled, Walk};
-use eqtb_save::{GroupKind, Loc, Val};
+use eqtb_save::{Glue, GroupKind, Loc, Val};
 use line_lexer::{Ahead, Line, LineState};
 use std::alloc::{AllocError, Global};
 use std::marker::Model;
@@ -733,6 +733,21 @@ impl Input {
         ensures macros { KeepsMacros self.old self.new }
     {
         self.held.set_number(loc, number, global)
+    }
+
+    /// A glue parameter or register gets this glue. *The TeXbook*, chapter 24; *TeX: The Program*, part 19 (`eq_define`).
+    ///
+    /// # Errors
+    /// The save stack is full; nothing has changed.
+    pub fn set_glue(&mut self, loc: Loc, glue: Glue, global: bool) -> Result<(), Full>
+        requires within { IsLocation self.old.groups loc }
+        requires suits { Suits loc (val.Skip glue) }
+        ensures refused { MatchResult result (λ _. refused self.old.sizes (set_demands global self.old.groups loc) ≡ None) (λ full. refused self.old.sizes (set_demands global self.old.groups loc) ≡ Some full) }
+        ensures ok { OnOk result (self.new ≡ record self.old { groups = set global self.old.groups loc (val.Skip glue); lists = self.new.lists }) }
+        ensures err { OnErr result (self.new ≡ self.old) }
+        ensures macros { KeepsMacros self.old self.new }
+    {
+        self.held.set_glue(loc, glue, global)
     }
 
     /// Opens a group. Nothing is copied. *The TeXbook*, chapter 24; *TeX: The Program*, part 19 (`new_save_level`).

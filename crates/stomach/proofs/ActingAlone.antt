@@ -11,10 +11,11 @@ use Rattle.plain_tokens.specs.Meanings.{is_listed}
 use Rattle.plain_tokens.specs.Tables.{refused}
 use Rattle.equivalents.specs.declared.values.CodeKind.TheVariants as code
 use Rattle.tex_defs.specs.declared.RegisterKind.TheVariants as register
+use Rattle.equivalents.specs.declared.values.Glue.{Glue}
 use Rattle.equivalents.specs.declared.values.Loc.{Loc}
 use Rattle.equivalents.specs.declared.values.Loc.TheVariants as loc
 use Rattle.equivalents.specs.declared.values.Val.TheVariants as val
-use Rattle.equivalents.specs.Locations.{IsInRow, Suits, meaning_of}
+use Rattle.equivalents.specs.Locations.{V, IsInRow, Suits, meaning_of}
 use Rattle.equivalents.specs.Groups.{Groups, IsLocation, set, set_demands}
 use Rattle.equivalents.specs.Holding.{lists_held}
 use Rattle.equivalents.specs.Tables.{Tables, put}
@@ -25,6 +26,7 @@ use Rattle.rows.specs.declared.command.Effect.TheVariants as effect
 use Rattle.plain_machine.specs.States.{State, Move, Set}
 use Rattle.plain_machine.specs.Plan.{Page, behind_assignment}
 use Rattle.plain_machine.specs.Does.{Did}
+use Rattle.plain_machine.specs.Numbers.{groups_of, value_of}
 use Rattle.plain_machine.proofs.Doing.{did_join}
 use Rattle.plain_machine.proofs.GroupNumbers.{set_of, set_demands_of}
 use Rattle.plain_machine.proofs.Holders.{set_cases}
@@ -51,49 +53,68 @@ did_still sizes s s' e e' f t ms column h = subst (λ (b : Bool). Did sizes s s'
 pub cuts_still : (sizes : Sizes) (s : State) (e e' : Engine) (book : Book) (f : FilesTold) (t : SinkTold) (ms : List Move) (b : Broken) → e'.in_line ≡ e.in_line → Cuts sizes s e' book (world_of f t e) (world_of f t e) ms b → Cuts sizes s e' book (world_of f t e) (world_of f t e') ms b
 cuts_still sizes s e e' book f t ms b column h = subst (λ (c : Bool). Cuts sizes s e' book (world_of f t e) (world f t c) ms b) (sym column) h
 
--- A NUMBER AT A LOCATION
+-- A NUMBER OR GLUE AT A LOCATION
 
--- a number is no list
-number_held : (n : ℕ) (global : Bool) (g : Groups) (l : Loc) (z : ℤ) → is_listed (lists_held (set global g l (val.Number z))) n ≡ true → is_listed (lists_held g) n ≡ true
-number_held n global g l z held = ⊎_elim (λ none. cc) (λ was. was) (set_cases n global g l (val.Number z) held)
+-- which is no list
+abbrev pub IsPlain : V → Type 0
+IsPlain (val.Number z) = Unit {0}
+IsPlain (val.Skip h) = Unit {0}
+IsPlain v = ⊥
 
-put_length : (m : Tables) (l : Loc) (z : ℤ) → length (put m l (val.Number z)).meanings ≡ length m.meanings
-put_length m (loc.Code code.Category c) z = refl
-put_length m (loc.Code kind c) z = refl
-put_length m (loc.Register register.Count n) z = refl
-put_length m (loc.Register kind n) z = refl
-put_length m (loc.Means n) z = length-set m.meanings n (meaning_of (val.Number z))
-put_length m l z = refl
+value_held : (n : ℕ) (global : Bool) (g : Groups) (l : Loc) (v : V) → IsPlain v → is_listed (lists_held (set global g l v)) n ≡ true → is_listed (lists_held g) n ≡ true
+value_held n global g l (val.Number z) plain held = ⊎_elim (λ none. cc) (λ was. was) (set_cases n global g l (val.Number z) held)
+value_held n global g l (val.Skip h) plain held = ⊎_elim (λ none. cc) (λ was. was) (set_cases n global g l (val.Skip h) held)
+value_held n global g l v plain held = absurd plain
 
-number_length : (global : Bool) (g : Groups) (l : Loc) (z : ℤ) → length (set global g l (val.Number z)).now.meanings ≡ length g.now.meanings
-number_length true g l z = put_length g.now l z
-number_length false g l z = put_length g.now l z
+put_length : (m : Tables) (l : Loc) (v : V) → length (put m l v).meanings ≡ length m.meanings
+put_length m (loc.Code code.Category c) v = refl
+put_length m (loc.Code kind c) v = refl
+put_length m (loc.Register register.Count n) v = refl
+put_length m (loc.Register kind n) v = refl
+put_length m (loc.Means n) v = length-set m.meanings n (meaning_of v)
+put_length m l v = refl
 
-module _ (e : Engine) (i : Stored) (global : Bool) (l : Loc) (z : ℤ) (is : i ≡ record e.input { groups = set global e.input.groups l (val.Number z); lists = i.lists }) where
+value_length : (global : Bool) (g : Groups) (l : Loc) (v : V) → length (set global g l v).now.meanings ≡ length g.now.meanings
+value_length true g l v = put_length g.now l v
+value_length false g l v = put_length g.now l v
+
+-- whatever lists are called
+same_value : (number : ℕ → ℕ) (v : V) → IsPlain v → v ≡ value_of number v
+same_value number (val.Number z) plain = refl
+same_value number (val.Skip h) plain = refl
+same_value number v plain = absurd plain
+
+module _ (e : Engine) (i : Stored) (global : Bool) (l : Loc) (v : V) (plain : IsPlain v) (is : i ≡ record e.input { groups = set global e.input.groups l v; lists = i.lists }) where
   abbrev given : Groups
-  given = set global e.input.groups l (val.Number z)
+  given = set global e.input.groups l v
 
-  pub number_did : (sizes : Sizes) (w : World) (book : Book) → Stands sizes e book → refused e.input.sizes (set_demands global e.input.groups l) ≡ None →
-      Did sizes (state_of e book) (state_of (record e { input = i }) book) w w (Set global l (val.Number z) ∷ [])
-  number_did sizes w book st fits =
-      regrouped_did e given i is sizes w book (Set global l (val.Number z)) tt
+  pub value_did : (sizes : Sizes) (w : World) (book : Book) → Stands sizes e book → refused e.input.sizes (set_demands global e.input.groups l) ≡ None →
+      Did sizes (state_of e book) (state_of (record e { input = i }) book) w w (Set global l v ∷ [])
+  value_did sizes w book st fits =
+      regrouped_did e given i is sizes w book (Set global l v) tt
       (asks_same sizes e book None st.sound _ _ (set_demands_of book.number global e.input.groups l) fits)
-      (ap (λ (g : Groups). record (state_of e book) { groups = g }) (set_of book.number global e.input.groups l (val.Number z)))
+      (ap (λ (x : V). record (state_of e book) { groups = set global (groups_of book.number e.input.groups) l x }) (same_value book.number v plain)
+      ∙ ap (λ (g : Groups). record (state_of e book) { groups = g }) (set_of book.number global e.input.groups l v))
 
-  pub number_stands : KeepsMacros e.input i → (sizes : Sizes) (book : Book) → Stands sizes e book → Stands sizes (record e { input = i }) book
-  number_stands kept sizes book st =
-      regrouped_stands e given i is (number_length global e.input.groups l z) (λ n held. number_held n global e.input.groups l z held) kept sizes book st
+  pub value_stands : KeepsMacros e.input i → (sizes : Sizes) (book : Book) → Stands sizes e book → Stands sizes (record e { input = i }) book
+  value_stands kept sizes book st =
+      regrouped_stands e given i is (value_length global e.input.groups l v) (λ n held. value_held n global e.input.groups l v plain held) kept sizes book st
 
 -- there is no room for the value that it had
-pub number_cuts : (sizes : Sizes) (e : Engine) (i : Stored) (book : Book) (w : World) (global : Bool) (l : Loc) (z : ℤ) (more : List Move) (full : Full) → i ≡ e.input → Stands sizes e book → refused e.input.sizes (set_demands global e.input.groups l) ≡ Some full →
-    Cuts sizes (state_of e book) (record e { input = i }) book w w (Set global l (val.Number z) ∷ more) (broken.Full full)
-number_cuts sizes e i book w global l z more full same st refuses =
-    unchanged_cuts sizes e i book w (Set global l (val.Number z)) more full same (asks_same sizes e book (Some full) st.sound _ _ (set_demands_of book.number global e.input.groups l) refuses)
+pub value_cuts : (sizes : Sizes) (e : Engine) (i : Stored) (book : Book) (w : World) (global : Bool) (l : Loc) (v : V) (more : List Move) (full : Full) → i ≡ e.input → Stands sizes e book → refused e.input.sizes (set_demands global e.input.groups l) ≡ Some full →
+    Cuts sizes (state_of e book) (record e { input = i }) book w w (Set global l v ∷ more) (broken.Full full)
+value_cuts sizes e i book w global l v more full same st refuses =
+    unchanged_cuts sizes e i book w (Set global l v) more full same (asks_same sizes e book (Some full) st.sound _ _ (set_demands_of book.number global e.input.groups l) refuses)
 
 -- where a number may stand there is a location
 pub number_location : (g : Groups) (l : Loc) (z : ℤ) → IsInRow l → Suits l (val.Number z) → IsLocation g l
 number_location g (loc.Means n) z row suits = absurd suits
 number_location g l z row suits = row
+
+-- and where glue may
+pub glue_location : (g : Groups) (l : Loc) (h : Glue) → IsInRow l → Suits l (val.Skip h) → IsLocation g l
+glue_location g (loc.Means n) h row suits = absurd suits
+glue_location g l h row suits = row
 
 -- BEHIND AN ASSIGNMENT
 
@@ -158,14 +179,15 @@ front_stands sizes e e' book front idle st = name_stands sizes e e' book front.f
 
 -- another effect is what is put in front
 pub put_alone : (page : Page) (c : Call) (x : Effect) → ((s : Seen) → x ≡ effect.Show s → ⊥) → ((n : Name) (s : Seen) → x ≡ effect.Let n s → ⊥) → ((n : Name) (s t : Seen) → x ≡ effect.FutureLet n s t → ⊥) →
-    ((l : Loc) (value : ℤ) → x ≡ effect.SetNumber l value → ⊥) → ((n : Name) (h : Shorthand) → x ≡ effect.Shorthand n h → ⊥) → (x ≡ effect.Unassigned → ⊥) → ((s : Seen) → x ≡ effect.AfterGroup s → ⊥) → ((s : Seen) → x ≡ effect.AfterAssignment s → ⊥) →
+    ((l : Loc) (value : ℤ) → x ≡ effect.SetNumber l value → ⊥) → ((l : Loc) (g : Glue) → x ≡ effect.SetGlue l g → ⊥) → ((n : Name) (h : Shorthand) → x ≡ effect.Shorthand n h → ⊥) → (x ≡ effect.Unassigned → ⊥) → ((s : Seen) → x ≡ effect.AfterGroup s → ⊥) → ((s : Seen) → x ≡ effect.AfterAssignment s → ⊥) →
     done_alone page c x ≡ put_by page x
-put_alone page c (effect.Show s) shows lets later numbers shorts ends groups behind = absurd (shows s refl)
-put_alone page c (effect.Let n s) shows lets later numbers shorts ends groups behind = absurd (lets n s refl)
-put_alone page c (effect.FutureLet n s t) shows lets later numbers shorts ends groups behind = absurd (later n s t refl)
-put_alone page c (effect.SetNumber l value) shows lets later numbers shorts ends groups behind = absurd (numbers l value refl)
-put_alone page c (effect.Shorthand n h) shows lets later numbers shorts ends groups behind = absurd (shorts n h refl)
-put_alone page c effect.Unassigned shows lets later numbers shorts ends groups behind = absurd (ends refl)
-put_alone page c (effect.AfterGroup s) shows lets later numbers shorts ends groups behind = absurd (groups s refl)
-put_alone page c (effect.AfterAssignment s) shows lets later numbers shorts ends groups behind = absurd (behind s refl)
-put_alone page c x shows lets later numbers shorts ends groups behind = refl
+put_alone page c (effect.Show s) shows lets later numbers glues shorts ends groups behind = absurd (shows s refl)
+put_alone page c (effect.Let n s) shows lets later numbers glues shorts ends groups behind = absurd (lets n s refl)
+put_alone page c (effect.FutureLet n s t) shows lets later numbers glues shorts ends groups behind = absurd (later n s t refl)
+put_alone page c (effect.SetNumber l value) shows lets later numbers glues shorts ends groups behind = absurd (numbers l value refl)
+put_alone page c (effect.SetGlue l g) shows lets later numbers glues shorts ends groups behind = absurd (glues l g refl)
+put_alone page c (effect.Shorthand n h) shows lets later numbers glues shorts ends groups behind = absurd (shorts n h refl)
+put_alone page c effect.Unassigned shows lets later numbers glues shorts ends groups behind = absurd (ends refl)
+put_alone page c (effect.AfterGroup s) shows lets later numbers glues shorts ends groups behind = absurd (groups s refl)
+put_alone page c (effect.AfterAssignment s) shows lets later numbers glues shorts ends groups behind = absurd (behind s refl)
+put_alone page c x shows lets later numbers glues shorts ends groups behind = refl

@@ -1,18 +1,24 @@
 -- A command does what it does, and its reading ends.
 use Rattle.std.proofs.Common.{◌≡◌, ℤ, List, [], ◌∷◌, ◌++◌, refl, sym, ap, subst, ◌∙◌, arith}
 use Rattle.std.proofs.lemmas.List.{append-nil}
-use Rattle.std.specs.Prelude.{Bool, Option, Some, None}
+use Rattle.std.specs.Prelude.{Bool, true, false, Option, Some, None, if◌then◌else◌}
 use Rattle.tex_syntax.specs.declared.words.Outcome.{Outcome}
 use Rattle.tex_syntax.specs.declared.words.Report.TheVariants.{ArithmeticOverflow}
 use Rattle.plain_state.specs.Reports.{report_bytes}
-use Rattle.rows.specs.Arithmetic.{computed}
+use Rattle.rows.specs.Arithmetic.{as_glue, as_number, value_computed}
+use Rattle.rows.specs.Internal.{is_glue}
+use Rattle.rows.specs.declared.words.Datum.{Datum}
 use Rattle.tex_defs.specs.declared.Full.{Full}
 use Rattle.tex_defs.specs.declared.Seen.{Seen}
 use Rattle.tex_defs.specs.declared.Sizes.{Sizes}
 use Rattle.tex_defs.specs.declared.Token.{Token}
 use Rattle.tex_defs.specs.Places.{World, Transcript}
 use Rattle.world_io.specs.Told.{FilesTold, SinkTold, world}
+use Rattle.equivalents.specs.declared.values.Glue.{Glue}
 use Rattle.equivalents.specs.declared.values.Loc.{Loc}
+use Rattle.equivalents.specs.declared.values.Val.TheVariants as val
+use Rattle.equivalents.specs.Locations.{SeenValue, value_seen}
+use Rattle.equivalents.specs.Tables.{get}
 use Rattle.rows.specs.declared.arithmetic.Operation.{Operation}
 use Rattle.rows.specs.declared.command.Call.{Call}
 use Rattle.rows.specs.declared.command.Effect.{Effect}
@@ -53,7 +59,7 @@ use Rattle.engine_state.proofs.CuttingReadings.{later_in, stands_in, in_by}
 use Rattle.engine_state.proofs.Reporting.{full_out}
 use Rattle.engine_state.proofs.Standing.{same_engine}
 use Rattle.gullet.proofs.Stepping.{free_of}
-use Rattle.stomach.specs.Effects.{done_alone, integer_at, IsAlone, IsSmall}
+use Rattle.stomach.specs.Effects.{done_alone, assignment_of, IsAlone, IsSmall, IsThere, IsVariable, TakesAll}
 use Rattle.stomach.specs.Halting.{DoesRuleIn}
 use Rattle.stomach.proofs.Codes.{SetsSmall, sets_small}
 
@@ -63,13 +69,13 @@ use Rattle.stomach.proofs.Codes.{SetsSmall, sets_small}
 pub alone_acts : (page : Page) (c : Call) (e : Effect) → IsAlone e → acts page c e ≡ done_alone page c e ++ Closed ∷ []
 alone_acts page c (effect.Obey x) h = absurd h
 alone_acts page c (effect.ExpandBehind x y) h = absurd h
-alone_acts page c (effect.Compute operation l n) h = absurd h
+alone_acts page c (effect.Compute operation l d) h = absurd h
 alone_acts page c e h = refl
 
-pub is_alone : (e : Effect) → ((x : Seen) → e ≡ effect.Obey x → ⊥) → ((x y : Seen) → e ≡ effect.ExpandBehind x y → ⊥) → ((operation : Operation) (l : Loc) (n : ℤ) → e ≡ effect.Compute operation l n → ⊥) → IsAlone e
+pub is_alone : (e : Effect) → ((x : Seen) → e ≡ effect.Obey x → ⊥) → ((x y : Seen) → e ≡ effect.ExpandBehind x y → ⊥) → ((operation : Operation) (l : Loc) (d : Datum) → e ≡ effect.Compute operation l d → ⊥) → IsAlone e
 is_alone (effect.Obey x) obeys expands computes = obeys x refl
 is_alone (effect.ExpandBehind x y) obeys expands computes = expands x y refl
-is_alone (effect.Compute operation l n) obeys expands computes = computes operation l n refl
+is_alone (effect.Compute operation l d) obeys expands computes = computes operation l d refl
 is_alone e obeys expands computes = tt
 
 asks_as : (fs : List Frame) (held : List (List Token)) (r : Reading) (rs : List Reading) (a : Ask) → frames.FramesStand fs held (r ∷ rs) → asks_in fs held ≡ Some a → ask r.kind r.fed ≡ a
@@ -301,6 +307,38 @@ module _ (sizes : Sizes) (e e1 e2 : Engine) (book : Book) (r : Reading) (rs : Li
 
 -- WHAT ARITHMETIC COMES TO
 
-pub computed_moves : (e : Engine) (book : Book) (c : Call) (operation : Operation) (l : Loc) (value n : ℤ) (o : Option ℤ) → value ≡ integer_at (page_of e book).now l → computed operation value n ≡ o →
-    acts (page_of e book) c (effect.Compute operation l n) ≡ computed_to (page_of e book) c l o
-computed_moves e book c operation l value n o at is = ap (computed_to (page_of e book) c l) (ap (λ (v : ℤ). computed operation v n) (sym at) ∙ is)
+pub computed_moves : (e : Engine) (book : Book) (c : Call) (operation : Operation) (l : Loc) (value : SeenValue) (d : Datum) (o : Option SeenValue) → value ≡ value_seen (get (page_of e book).now l) → value_computed operation l value d ≡ o →
+    acts (page_of e book) c (effect.Compute operation l d) ≡ computed_to (page_of e book) c l o
+computed_moves e book c operation l value d o at is = ap (computed_to (page_of e book) c l) (ap (λ (v : SeenValue). value_computed operation l v d) (sym at) ∙ is)
+
+-- it is assigned
+assigned_moves : (page : Page) (c : Call) (l : Loc) (v : SeenValue) → computed_to page c l (Some v) ≡ acts page c (assignment_of l v)
+assigned_moves page c l (val.Number n) = refl
+assigned_moves page c l (val.Skip g) = refl
+assigned_moves page c l (val.Meant m) = refl
+assigned_moves page c l (val.Tokens ts) = refl
+
+pub assigned_alone : (l : Loc) (v : SeenValue) → IsAlone (assignment_of l v)
+assigned_alone l (val.Number n) = tt
+assigned_alone l (val.Skip g) = tt
+assigned_alone l v = tt
+
+-- to a location that such values suit
+number_small : (l : Loc) (v : SeenValue) (o : Option ℤ) → IsThere l → TakesAll false l → as_number o ≡ Some v → IsSmall (assignment_of l v)
+number_small l v None there takes is = absurd cc
+number_small l v (Some n) there takes is = let same : val.Number n ≡ v = cc in subst (λ (x : SeenValue). IsSmall (assignment_of l x)) same (there, takes n)
+
+glue_small : (l : Loc) (v : SeenValue) (o : Option Glue) → IsThere l → TakesAll true l → as_glue o ≡ Some v → IsSmall (assignment_of l v)
+glue_small l v None there takes is = absurd cc
+glue_small l v (Some g) there takes is = let same : val.Skip g ≡ v = cc in subst (λ (x : SeenValue). IsSmall (assignment_of l x)) same (there, takes g)
+
+value_small : (b : Bool) (l : Loc) (v : SeenValue) (o : Option Glue) (p : Option ℤ) → IsThere l → TakesAll b l → (if b then as_glue o else as_number p) ≡ Some v → IsSmall (assignment_of l v)
+value_small true l v o p there takes is = glue_small l v o there takes is
+value_small false l v o p there takes is = number_small l v p there takes is
+
+pub assigned_small : (operation : Operation) (l : Loc) (value v : SeenValue) (d : Datum) → IsVariable l → value_computed operation l value d ≡ Some v → IsSmall (assignment_of l v)
+assigned_small operation l value v d h is = value_small (is_glue l) l v _ _ h.0 h.1 is
+
+pub set_moves : (e : Engine) (book : Book) (c : Call) (operation : Operation) (l : Loc) (value v : SeenValue) (d : Datum) → value ≡ value_seen (get (page_of e book).now l) → value_computed operation l value d ≡ Some v →
+    acts (page_of e book) c (effect.Compute operation l d) ≡ acts (page_of e book) c (assignment_of l v)
+set_moves e book c operation l value v d at is = computed_moves e book c operation l value d (Some v) at is ∙ assigned_moves (page_of e book) c l v

@@ -1,5 +1,5 @@
--- A number that a command sets stands at a location that is there, and that has such numbers: a category code was read in its range. So does what is
--- computed, and what is shown as a text stands at a location that is there.
+-- A number or glue that a command sets stands at a location that is there, and that such a value suits: a category code was read in its range. So does
+-- what is computed, and what is shown as a text stands at a location that is there.
 use Rattle.std.proofs.Common.{◌≡◌, ℕ, ℤ, pos, negsuc, ◌-◌, Bool, true, false, List, [], ◌∷◌, ◌++◌, refl, arith}
 use Rattle.std.specs.Prelude.{Option, None, Some, nat_le, nat_lt, ◌==◌, ◌&&◌, if◌then◌else◌}
 use Rattle.std.proofs.lemmas.Bool.Decides.{nat_tests}
@@ -8,7 +8,6 @@ use Rattle.tex_defs.specs.declared.Seen.{Seen}
 use Rattle.tex_defs.specs.declared.Name.{Name}
 use Rattle.tex_syntax.specs.declared.words.Want.{Want}
 use Rattle.tex_syntax.specs.declared.words.Want.TheVariants.{Expanded, Nonblank}
-use Rattle.plain_state.specs.Definitions as build
 use Rattle.plain_tokens.specs.Arguments as call
 use Rattle.tex_defs.specs.declared.RegisterKind.{RegisterKind}
 use Rattle.tex_defs.specs.declared.RegisterKind.TheVariants as register
@@ -21,9 +20,9 @@ use Rattle.rows.specs.declared.words.Datum.TheVariants as datum
 use Rattle.rows.specs.declared.words.Value.{Value}
 use Rattle.rows.specs.declared.words.Value.TheVariants as value
 use Rattle.rows.specs.declared.words.Kind.{Kind as Begun}
-use Rattle.rows.specs.declared.words.Kind.TheVariants.{Command, Integer, Keyword, Text, Definition}
+use Rattle.rows.specs.declared.words.Kind.TheVariants.{Command, Integer, Factor, Dimension, Glue, Keyword, Text, Definition}
 use Rattle.rows.specs.declared.stage.Stage.{Stage}
-use Rattle.rows.specs.declared.stage.Stage.TheVariants.{Number, NumberTo, NumberUpTo, Equals, Internal, MacroText, Variable}
+use Rattle.rows.specs.declared.stage.Stage.TheVariants.{NumberTo, NumberUpTo, Equals, InternalValue, MacroText, Variable}
 use Rattle.rows.specs.declared.stage.Start.{Start}
 use Rattle.rows.specs.declared.stage.Start.TheVariants.{Looks, Begins}
 use Rattle.rows.specs.declared.stage.Met.{Met}
@@ -41,28 +40,29 @@ use Rattle.rows.specs.declared.command.Call.{Call}
 use Rattle.rows.specs.declared.command.Head.{Head}
 use Rattle.rows.specs.declared.command.Head.TheVariants.{Primitive, Register}
 use Rattle.rows.specs.declared.command.Row.{Row}
-use Rattle.rows.specs.declared.command.Row.TheVariants.{Two}
 use Rattle.rows.specs.declared.command.TheConstants.{SYNTAX}
 use Rattle.rows.specs.declared.internal.Bank.{Bank}
 use Rattle.rows.specs.declared.internal.Internal.{Internal as Stands}
 use Rattle.rows.specs.declared.internal.Internal.TheVariants as internal
-use Rattle.rows.specs.Effects.{comes_to, value_made}
-use Rattle.rows.specs.Internal.{byte_of, first_integer, last_integer, first_dimension, last_dimension, first_glue, last_glue, location_in, internal_of, internal_parameter, internal_primitive, variable_of, variable_primitive}
+use Rattle.rows.specs.declared.command.Effect.TheVariants as effect
+use Rattle.rows.specs.Arithmetic.{number_in, glue_in}
+use Rattle.rows.specs.Effects.{comes_to, set_to, value_made}
+use Rattle.rows.specs.Internal.{byte_of, first_integer, last_integer, first_dimension, last_dimension, first_glue, last_glue, location_in, internal_of, internal_parameter, internal_primitive, is_glue, variable_of, variable_primitive}
 use Rattle.tex_defs.specs.declared.Meaning.{Meaning}
 use Rattle.tex_defs.specs.declared.Meaning.TheVariants as means
 use Rattle.plain_tokens.specs.Categories.{is_between}
 use Rattle.rows.specs.Readings.{Fed, Tok, Val, Told, Ask, Acts}
 use Rattle.rows.specs.Run.{Outcome, Asks, Takes, Passes, Gathers, Makes, Turns, comes, due, noted, valued, inner, begins, numbers, met_with, looks, again, started, behind, run, no_turn, turned, row}
-use Rattle.rows.specs.Stages.{number, number_in, location_read, start, standing, numbered_by, on_token, on_value, on_datum, on_list}
-use Rattle.rows.specs.Table.{stages_in, stages_of, find_row, row_among, row_or_token, action_of}
+use Rattle.rows.specs.Stages.{datum_at, number, location_read, start, standing, numbered_by, on_token, on_value, on_datum, on_list}
+use Rattle.rows.specs.Table.{stages_in, stages_of, find_row, parameter_row, row_among, row_or_token, action_of}
 use Rattle.rows.specs.Tokens.{is_at_most, is_up_to, is_equals}
 use Rattle.plain_readings.specs.FileNames.{character_meant, is_blank, opens, named_on, file_naming}
-use Rattle.plain_readings.specs.Readings.{Kind, Reads, Spelling, FileName, Behind, Arguments, ask}
+use Rattle.plain_readings.specs.Readings.{Kind, Reads, Spelling, FileName, Behind, Arguments, ask, lists}
 use Rattle.plain_readings.specs.Calls.{call_ask, gathered}
-use Rattle.plain_readings.specs.Lists.{build_ask, text, definition}
-use Rattle.plain_readings.proofs.Keywords.{keyword_holds}
-use Rattle.plain_readings.proofs.Steps.{integer_holds, spelling_holds}
-use Rattle.stomach.specs.Effects.{HasNumbers, IsSmall}
+use Rattle.plain_readings.specs.Laws.{GivesValue}
+use Rattle.plain_readings.proofs.Steps.{spelling_holds}
+use Rattle.plain_readings.proofs.Values.{values}
+use Rattle.stomach.specs.Effects.{IsVariable, IsSmall, TakesAll}
 
 -- what a command is to set may stand where it is set
 abbrev pub SetsSmall : Ask → Type 0
@@ -71,11 +71,11 @@ SetsSmall a = Unit {0}
 
 -- STAGES
 
--- what a stage may have read: a number in its range; the location of an integer; a number, or a location that is there; an `=` isn't kept
+-- what a stage may have read: a number in its range; the location of a variable; a number, or a location that is there; an `=` isn't kept
 abbrev IsRead : Stage → Datum → Type 0
 IsRead (NumberTo greatest complaint) d = is_at_most greatest (number_in d) ≡ true
-IsRead Variable d = HasNumbers (location_read d)
-IsRead Internal d = IsSmall (value_made d)
+IsRead Variable d = IsVariable (location_read d)
+IsRead InternalValue d = IsSmall (value_made d)
 IsRead Equals d = ⊥
 IsRead s d = Unit {0}
 
@@ -83,7 +83,7 @@ IsRead s d = Unit {0}
 abbrev MayPass : Stage → Type 0
 MayPass (NumberTo greatest complaint) = ⊥
 MayPass Variable = ⊥
-MayPass Internal = ⊥
+MayPass InternalValue = ⊥
 MayPass s = Unit {0}
 
 abbrev MayLook : Stage → Type 0
@@ -93,7 +93,7 @@ MayLook s = Unit {0}
 abbrev MayBegin : Stage → Type 0
 MayBegin Equals = ⊥
 MayBegin Variable = ⊥
-MayBegin Internal = ⊥
+MayBegin InternalValue = ⊥
 MayBegin s = Unit {0}
 
 abbrev StartFits : Stage → Start → Type 0
@@ -161,36 +161,58 @@ stands_if s true l o h i = h refl
 stands_if s false l o h i = i
 
 -- the parameters are as many as there are locations of their kind
+parameter_varies : (n : ℕ) → StandingFits Variable (internal_parameter n)
+parameter_varies n =
+    stands_if Variable (is_between first_integer last_integer n) _ _ (λ is. (grind (arith, nat_tests, is), λ m. tt))
+    (stands_if Variable (is_between first_dimension last_dimension n) _ _ (λ is. (grind (arith, nat_tests, is), λ m. tt))
+    (stands_if Variable (is_between first_glue last_glue n) _ _ (λ is. (grind (arith, nat_tests, is), λ g. tt)) tt))
+
+-- the registers are variables, and no codes
+numbered_varies : (n : ℕ) → is_between 41 44 n ≡ true → StandingFits Variable (internal_primitive n)
+numbered_varies n among =
+    stands_if Variable (n == 35) _ _ (λ is. absurd (grind (arith, nat_tests, is, among)))
+    (stands_if Variable (n == 36) _ _ (λ is. absurd (grind (arith, nat_tests, is, among)))
+    (stands_if Variable (n == 37) _ _ (λ is. absurd (grind (arith, nat_tests, is, among)))
+    (stands_if Variable (n == 38) _ _ (λ is. absurd (grind (arith, nat_tests, is, among)))
+    (stands_if Variable (n == 39) _ _ (λ is. absurd (grind (arith, nat_tests, is, among)))
+    (stands_if Variable (n == 40) _ _ (λ is. absurd (grind (arith, nat_tests, is, among)))
+    (stands_if Variable (n == 41) _ _ (λ is. λ k. (tt, λ m. tt))
+    (stands_if Variable (n == 42) _ _ (λ is. λ k. (tt, λ m. tt))
+    (stands_if Variable (n == 43) _ _ (λ is. λ k. (tt, λ g. tt))
+    (stands_if Variable (n == 44) _ _ (λ is. λ k. (tt, λ g. tt)) (parameter_varies n))))))))))
+
 variable_primitive_fits : (n : ℕ) → StandingFits Variable (variable_primitive n)
-variable_primitive_fits n =
-    stands_if Variable (n == 41) _ _ (λ is. λ k. (tt, λ m. tt))
-    (stands_if Variable (is_between first_integer last_integer n) _ _ (λ is. (grind (arith, nat_tests, is), λ m. tt)) tt)
+variable_primitive_fits n = stands_if Variable (is_between 41 44 n) (internal_primitive n) (internal_parameter n) (numbered_varies n) (parameter_varies n)
 
 variable_fits : (m : Meaning Unit) → StandingFits Variable (variable_of m)
 variable_fits (means.Register register.Count n) = (tt, λ m. tt)
+variable_fits (means.Register register.Dimen n) = (tt, λ m. tt)
+variable_fits (means.Register register.Skip n) = (tt, λ g. tt)
+variable_fits (means.Register register.Muskip n) = (tt, λ g. tt)
+variable_fits (means.Register register.Toks n) = tt
 variable_fits (means.Prim n) = variable_primitive_fits n
 variable_fits m = tt
 
-parameter_fits : (n : ℕ) → StandingFits Internal (internal_parameter n)
+parameter_fits : (n : ℕ) → StandingFits InternalValue (internal_parameter n)
 parameter_fits n =
-    stands_if Internal (is_between first_integer last_integer n) _ _ (λ is. grind (arith, nat_tests, is))
-    (stands_if Internal (is_between first_dimension last_dimension n) _ _ (λ is. grind (arith, nat_tests, is))
-    (stands_if Internal (is_between first_glue last_glue n) _ _ (λ is. grind (arith, nat_tests, is)) tt))
+    stands_if InternalValue (is_between first_integer last_integer n) _ _ (λ is. grind (arith, nat_tests, is))
+    (stands_if InternalValue (is_between first_dimension last_dimension n) _ _ (λ is. grind (arith, nat_tests, is))
+    (stands_if InternalValue (is_between first_glue last_glue n) _ _ (λ is. grind (arith, nat_tests, is)) tt))
 
-internal_primitive_fits : (n : ℕ) → StandingFits Internal (internal_primitive n)
+internal_primitive_fits : (n : ℕ) → StandingFits InternalValue (internal_primitive n)
 internal_primitive_fits n =
-    stands_if Internal (n == 35) _ _ (λ is. λ k. tt)
-    (stands_if Internal (n == 36) _ _ (λ is. λ k. tt)
-    (stands_if Internal (n == 37) _ _ (λ is. λ k. tt)
-    (stands_if Internal (n == 38) _ _ (λ is. λ k. tt)
-    (stands_if Internal (n == 39) _ _ (λ is. λ k. tt)
-    (stands_if Internal (n == 40) _ _ (λ is. λ k. tt)
-    (stands_if Internal (n == 41) _ _ (λ is. λ k. tt)
-    (stands_if Internal (n == 42) _ _ (λ is. λ k. tt)
-    (stands_if Internal (n == 43) _ _ (λ is. λ k. tt)
-    (stands_if Internal (n == 44) _ _ (λ is. λ k. tt) (parameter_fits n))))))))))
+    stands_if InternalValue (n == 35) _ _ (λ is. λ k. tt)
+    (stands_if InternalValue (n == 36) _ _ (λ is. λ k. tt)
+    (stands_if InternalValue (n == 37) _ _ (λ is. λ k. tt)
+    (stands_if InternalValue (n == 38) _ _ (λ is. λ k. tt)
+    (stands_if InternalValue (n == 39) _ _ (λ is. λ k. tt)
+    (stands_if InternalValue (n == 40) _ _ (λ is. λ k. tt)
+    (stands_if InternalValue (n == 41) _ _ (λ is. λ k. tt)
+    (stands_if InternalValue (n == 42) _ _ (λ is. λ k. tt)
+    (stands_if InternalValue (n == 43) _ _ (λ is. λ k. tt)
+    (stands_if InternalValue (n == 44) _ _ (λ is. λ k. tt) (parameter_fits n))))))))))
 
-internal_fits : (m : Meaning Unit) → StandingFits Internal (internal_of m)
+internal_fits : (m : Meaning Unit) → StandingFits InternalValue (internal_of m)
 internal_fits (means.CharGiven c) = tt
 internal_fits (means.MathGiven c) = tt
 internal_fits (means.Register register.Toks n) = tt
@@ -201,7 +223,7 @@ internal_fits m = tt
 token_fits : (s : Stage) → MayLook s → (c : Call) (x : Seen) → MetFits s (on_token s c x)
 token_fits (NumberTo greatest complaint) look c x = absurd look
 token_fits Variable look c x = standing_fits Variable _ (variable_of x.meaning) tt (variable_fits x.meaning)
-token_fits Internal look c x = standing_fits Internal _ (internal_of x.meaning) tt (internal_fits x.meaning)
+token_fits InternalValue look c x = standing_fits InternalValue _ (internal_of x.meaning) tt (internal_fits x.meaning)
 token_fits Equals look c x = met_if Equals (is_equals x) met.Passes met.Leaves tt tt
 token_fits s look c x = any_met s tt (λ d. tt) (on_token s c x)
 
@@ -214,13 +236,12 @@ zero_is_read : (greatest : ℕ) → is_at_most greatest (pos 0) ≡ true
 zero_is_read greatest = grind (arith, nat_tests)
 
 datum_fits : (s : Stage) → MayBegin s → (d : Datum) → GotFits s (on_datum s d)
-datum_fits (NumberTo greatest complaint) h (datum.Number n) = range_fits (is_at_most greatest n) (NumberTo greatest complaint) n _ _ (λ h. h) (zero_is_read greatest)
-datum_fits (NumberTo greatest complaint) h d = zero_is_read greatest
-datum_fits (NumberUpTo greatest) h (datum.Number n) = range_fits (is_up_to greatest n) (NumberUpTo greatest) n _ _ (λ is. tt) tt
-datum_fits (NumberUpTo greatest) h d = tt
+datum_fits (NumberTo greatest complaint) h d =
+    range_fits (is_at_most greatest (number_in d)) (NumberTo greatest complaint) (number_in d) _ _ (λ h. h) (zero_is_read greatest)
+datum_fits (NumberUpTo greatest) h d = range_fits (is_up_to greatest (number_in d)) (NumberUpTo greatest) (number_in d) _ _ (λ is. tt) tt
 datum_fits Equals h d = absurd h
 datum_fits Variable h d = absurd h
-datum_fits Internal h d = absurd h
+datum_fits InternalValue h d = absurd h
 datum_fits s h d = tt
 
 list_fits : (s : Stage) → GotFits s (on_list s)
@@ -243,7 +264,7 @@ due_sets (note.Relaxes c n) = tt
 comes_fits : (s : Stage) (m : Next) → NextFits s m → (fed : List Fed) → Fits s (comes m fed)
 comes_fits s (next.Takes d) h fed = h
 comes_fits s next.Stops h fed = tt
-comes_fits s (next.Fails c) h fed = tt
+comes_fits s (next.Unassigned c) h fed = tt
 comes_fits s (next.Turns c) h fed = tt
 
 noted_fits : (s : Stage) (n : Note) (m : Next) → NextFits s m → (fed : List Fed) → Fits s (noted n m fed)
@@ -335,25 +356,26 @@ is_variable_row (Variable ∷ ss) = true
 is_variable_row ss = false
 
 abbrev is_internal_row : List Stage → Bool
-is_internal_row (Internal ∷ ss) = true
+is_internal_row (InternalValue ∷ ss) = true
 is_internal_row ss = false
 
--- an integer's location
-abbrev is_integer : Loc → Bool
-is_integer (loc.Integer i) = nat_lt i 55
-is_integer (loc.Register register.Count n) = true
-is_integer l = false
+-- a register or a parameter that arithmetic changes
+abbrev is_variable : Loc → Bool
+is_variable (loc.Integer i) = nat_lt i 55
+is_variable (loc.Dimension i) = nat_lt i 21
+is_variable (loc.Glue i) = nat_lt i 18
+is_variable (loc.Register register.Toks n) = false
+is_variable (loc.Register kind n) = true
+is_variable l = false
 
--- registers of numbers
-abbrev is_numbers : RegisterKind → Bool
-is_numbers register.Count = true
-is_numbers register.Dimen = true
-is_numbers kind = false
+abbrev is_variable_kind : RegisterKind → Bool
+is_variable_kind register.Toks = false
+is_variable_kind kind = true
 
 abbrev reads_if_set : Action → List Stage → Bool
 reads_if_set (action.SetCode code.Category) ss = is_category_row ss
-reads_if_set (action.SetAt l) ss = is_integer l
-reads_if_set (action.SetRegister kind) ss = is_numbers kind
+reads_if_set (action.SetAt l) ss = is_variable l
+reads_if_set (action.SetRegister kind) ss = is_variable_kind kind
 reads_if_set (action.Compute operation) ss = is_variable_row ss
 reads_if_set action.MakeValue ss = is_internal_row ss
 reads_if_set a ss = true
@@ -389,18 +411,39 @@ variable_reads operation (Variable ∷ ss) h = (λ d read. first_reads (action.C
 variable_reads operation ss h = absurd cc
 
 internal_reads : (ss : List Stage) → is_internal_row ss ≡ true → ReadsSmall action.MakeValue ss []
-internal_reads (Internal ∷ ss) h = (λ d read. first_reads action.MakeValue d (λ es. read) ss [], λ no. absurd no)
+internal_reads (InternalValue ∷ ss) h = (λ d read. first_reads action.MakeValue d (λ es. read) ss [], λ no. absurd no)
 internal_reads ss h = absurd cc
+
+-- what a variable gets suits it
+set_small : (l : Loc) → IsVariable l → (d : Datum) → IsSmall (set_to l d)
+set_small l h d = by (is_glue l) h.1 where
+  by : (b : Bool) → TakesAll b l → IsSmall (if b then effect.SetGlue l (glue_in d) else effect.SetNumber l (number_in d))
+  by true takes = (h.0, takes (glue_in d))
+  by false takes = (h.0, takes (number_in d))
+
+varies : (l : Loc) → is_variable l ≡ true → IsVariable l
+varies (loc.Integer i) h = (grind (arith, nat_tests, h), λ m. tt)
+varies (loc.Dimension i) h = (grind (arith, nat_tests, h), λ m. tt)
+varies (loc.Glue i) h = (grind (arith, nat_tests, h), λ g. tt)
+varies (loc.Register register.Count n) h = (tt, λ m. tt)
+varies (loc.Register register.Dimen n) h = (tt, λ m. tt)
+varies (loc.Register register.Skip n) h = (tt, λ g. tt)
+varies (loc.Register register.Muskip n) h = (tt, λ g. tt)
+varies l h = absurd cc
+
+register_varies : (kind : RegisterKind) → is_variable_kind kind ≡ true → (n : ℕ) → IsVariable (loc.Register kind n)
+register_varies register.Count h n = (tt, λ m. tt)
+register_varies register.Dimen h n = (tt, λ m. tt)
+register_varies register.Skip h n = (tt, λ g. tt)
+register_varies register.Muskip h n = (tt, λ g. tt)
+register_varies register.Toks h n = absurd cc
 
 row_reads : (a : Action) (ss : List Stage) → reads_if_set a ss ≡ true → ReadsSmall a ss []
 row_reads (action.SetCode code.Category) ss h = category_reads ss h
 row_reads (action.SetCode kind) ss h = any_reads (action.SetCode kind) (λ ds. (tt, tt)) ss []
-row_reads (action.SetAt (loc.Integer i)) ss h = any_reads (action.SetAt (loc.Integer i)) (λ ds. (grind (arith, nat_tests, h), tt)) ss []
-row_reads (action.SetAt (loc.Register register.Count n)) ss h = any_reads (action.SetAt (loc.Register register.Count n)) (λ ds. (tt, tt)) ss []
-row_reads (action.SetAt l) ss h = absurd cc
-row_reads (action.SetRegister register.Count) ss h = any_reads (action.SetRegister register.Count) (λ ds. (tt, tt)) ss []
-row_reads (action.SetRegister register.Dimen) ss h = any_reads (action.SetRegister register.Dimen) (λ ds. (tt, tt)) ss []
-row_reads (action.SetRegister kind) ss h = absurd cc
+row_reads (action.SetAt l) ss h = any_reads (action.SetAt l) (λ ds. set_small l (varies l h) (datum_at 0 ds)) ss []
+row_reads (action.SetRegister kind) ss h =
+    any_reads (action.SetRegister kind) (λ ds. set_small (loc.Register kind (byte_of (number 0 ds))) (register_varies kind h (byte_of (number 0 ds))) (datum_at 1 ds)) ss []
 row_reads (action.Compute operation) ss h = variable_reads operation ss h
 row_reads action.MakeValue ss h = internal_reads ss h
 row_reads a ss h = any_reads a (λ ds. tt) ss []
@@ -416,19 +459,37 @@ among_reads : (n : ℕ) (rows : List (ℕ × Row × Action)) → all_read rows �
 among_reads n [] h = refl
 among_reads n (first ∷ rows) h = found_if (first.0 == n) (all_read rows) (first.1, first.2) (row_among n rows) h (among_reads n rows)
 
--- an integer parameter is one of the 55
-parameter_reads : (b : Bool) (n : ℕ) (o : Option (Row × Action)) → is_between first_integer last_integer n ≡ b → found_reads o ≡ true →
-    found_reads (if b then Some (Two Equals Number, action.SetAt (loc.Integer (n - first_integer))) else o) ≡ true
-parameter_reads true n o is h = grind (arith, nat_tests, is)
-parameter_reads false n o is h = h
+-- a parameter is one of those that there are
+abbrev StandsVaries : Option Stands → Type 0
+StandsVaries (Some (internal.At l)) = is_variable l ≡ true
+StandsVaries o = Unit {0}
+
+varies_if : (b : Bool) (l o : Option Stands) → (b ≡ true → StandsVaries l) → StandsVaries o → StandsVaries (if b then l else o)
+varies_if true l o h i = h refl
+varies_if false l o h i = i
+
+parameter_is_variable : (n : ℕ) → StandsVaries (internal_parameter n)
+parameter_is_variable n =
+    varies_if (is_between first_integer last_integer n) _ _ (λ is. grind (arith, nat_tests, is))
+    (varies_if (is_between first_dimension last_dimension n) _ _ (λ is. grind (arith, nat_tests, is))
+    (varies_if (is_between first_glue last_glue n) _ _ (λ is. grind (arith, nat_tests, is)) tt))
+
+parameter_among : (n : ℕ) (o : Option Stands) → StandsVaries o → found_reads (parameter_row n o) ≡ true
+parameter_among n (Some (internal.At l)) h = h
+parameter_among n (Some (internal.Given k)) h = among_reads n SYNTAX.now table_reads
+parameter_among n (Some (internal.Numbered b)) h = among_reads n SYNTAX.now table_reads
+parameter_among n None h = among_reads n SYNTAX.now table_reads
 
 -- so is a register's name, where it has a row
 head_reads : (h : Head) → found_reads (find_row h) ≡ true
-head_reads (Primitive n) = parameter_reads (is_between first_integer last_integer n) n (row_among n SYNTAX.now) refl (among_reads n SYNTAX.now table_reads)
+head_reads (Primitive n) = parameter_among n (internal_parameter n) (parameter_is_variable n)
 head_reads (Register kind n) = register_reads kind where
   register_reads : (k : RegisterKind) → found_reads (find_row (Register k n)) ≡ true
   register_reads register.Count = refl
-  register_reads k = refl
+  register_reads register.Dimen = refl
+  register_reads register.Skip = refl
+  register_reads register.Muskip = refl
+  register_reads register.Toks = refl
 
 reads_small : (h : Head) → ReadsSmall (action_of h) (stages_of h) []
 reads_small h = row_reads (action_of h) (stages_of h) (head_reads h)
@@ -439,10 +500,10 @@ row_sets c fed =
 
 -- ALL READINGS
 
-build_sets : (a : build.Answer) → SetsSmall (build_ask a)
-build_sets (build.More want list) = tt
-build_sets (build.Tells report back list) = tt
-build_sets (build.Done list) = tt
+-- what has a value asks to do nothing
+valued_sets : (k : Begun) (held : List (List Token)) (a : Ask) → GivesValue k held a → SetsSmall a
+valued_sets k held (Acts c e) h = absurd h
+valued_sets k held a h = tt
 
 call_sets : (name : Name) (a : call.Answer) → SetsSmall (call_ask name a)
 call_sets name (call.More args work) = tt
@@ -466,10 +527,14 @@ file_sets c want ts (y ∷ fed) = tt
 
 pub sets_small : (k : Kind) (fed : List Fed) → SetsSmall (ask k fed)
 sets_small (Reads (Command c)) fed = row_sets c fed
-sets_small (Reads Integer) fed = integer_holds (λ b a. SetsSmall a) (λ b want. tt) (λ report back. tt) (λ b n back. tt) (λ b. tt) (λ b l. tt) false false fed
-sets_small (Reads (Keyword w)) fed = keyword_holds (λ b a. SetsSmall a) (λ b want. tt) (λ b found. tt) (λ b t n few. tt) w false fed
-sets_small (Reads (Text name expanded)) fed = build_sets (text name expanded fed)
-sets_small (Reads (Definition name expanded)) fed = build_sets (definition name expanded fed)
+sets_small (Reads Integer) fed = valued_sets Integer [] (ask (Reads Integer) fed) (values (Reads Integer) fed)
+sets_small (Reads Factor) fed = valued_sets Factor [] (ask (Reads Factor) fed) (values (Reads Factor) fed)
+sets_small (Reads (Dimension k)) fed = valued_sets (Dimension k) [] (ask (Reads (Dimension k)) fed) (values (Reads (Dimension k)) fed)
+sets_small (Reads (Glue mu)) fed = valued_sets (Glue mu) [] (ask (Reads (Glue mu)) fed) (values (Reads (Glue mu)) fed)
+sets_small (Reads (Keyword w)) fed = valued_sets (Keyword w) [] (ask (Reads (Keyword w)) fed) (values (Reads (Keyword w)) fed)
+sets_small (Reads (Text name expanded)) fed = valued_sets (Text name expanded) (lists (Reads (Text name expanded)) fed) (ask (Reads (Text name expanded)) fed) (values (Reads (Text name expanded)) fed)
+sets_small (Reads (Definition name expanded)) fed =
+    valued_sets (Definition name expanded) (lists (Reads (Definition name expanded)) fed) (ask (Reads (Definition name expanded)) fed) (values (Reads (Definition name expanded)) fed)
 sets_small (Spelling c) fed = spelling_holds (λ b a. SetsSmall a) (λ b want. tt) (λ report back. tt) (λ b. tt) (λ b c ts. tt) c [] false fed
 sets_small (FileName c) fed = file_sets c Nonblank [] fed
 sets_small (Behind c x) fed = tt

@@ -15,8 +15,8 @@ use Rattle.rows.specs.declared.command.Call.{Call}
 use Rattle.rows.specs.declared.command.Effect.{Effect}
 use Rattle.rows.specs.Readings.{ActsOn}
 use Rattle.reading_frames.specs.Stack.{asks_in}
-use Rattle.reading_frames.specs.Weights.{innermost_weight, stack_weight}
-use Rattle.plain_readings.specs.Weights.{frame_weight, act_weight}
+use Rattle.reading_frames.specs.Weights.{frames_weight, innermost_weight, stack_weight}
+use Rattle.plain_readings.specs.Weights.{act_frame, act_weight}
 use Rattle.engine_state.specs.declared.call.Call.{Call as OpenCall}
 use Rattle.stomach.proofs.RuleCloses.{closed_lighter_behind}
 use Rattle.plain_machine.specs.States.{Move, Spelt, Closed, NameInProgress, Settled, made}
@@ -111,7 +111,7 @@ module _ (sizes : Sizes) (e : Engine) (i : Stored) (book : Book) (is : i ≡ rec
   pub settled_stands : KeepsMacros e.input i → Stands sizes e book → Stands sizes (record e { input = i }) book
   settled_stands kept st =
       name_stands sizes e (record e { input = i }) book (record { readings = refl; lists = ap (λ (x : Stored). x.builds) is; call = refl; calling = ap (λ (x : Stored). x.call) is })
-      (record { depth = refl; call = refl; names = refl; after = refl; last = refl; naming = refl; in_line = refl; reports = refl; flawed = refl; quiet = refl; sizes = refl })
+      (record { depth = refl; call = refl; names = refl; after = refl; mag_set = refl; last = refl; naming = refl; in_line = refl; reports = refl; flawed = refl; quiet = refl; sizes = refl })
       (store_settled e.input i is kept) (ap (λ (x : Stored). x.making) is ∙ st.idle) st
 
   pub settled_did : (w : World) → Did sizes (state_of e book) (state_of (record e { input = i }) book) w w (Settled ∷ [])
@@ -190,6 +190,6 @@ module _ (e2 e3 : Engine) (i : Stored) (same : SameBut e2 e3) (is : i ≡ record
       ∙ (ap (λ (x : Stored). stack_weight e3.readings + pending_weight x.pending) is ∙ ap (λ (c : Option OpenCall). readings_weight c e3 + pending_weight e3.input.pending) (sym none))
 
   pub sought_lighter : (e : Engine) (c : Call) (x : Effect) → e.call ≡ None → SameFrames e e2 → pending_weight e2.input.pending ≡ pending_weight e.input.pending → asks_in e.readings.frames [] ≡ Some (ActsOn c x []) →
-      length e3.readings.frames ≡ length e2.readings.frames - 1 → innermost_weight e3.readings.frames < frame_weight + act_weight → weight (record e3 { naming = false; input = i }) < weight e
+      frames_weight e3.readings.frames ≡ frames_weight (drop 1 e2.readings.frames) → innermost_weight e3.readings.frames < act_frame + act_weight → weight (record e3 { naming = false; input = i }) < weight e
   sought_lighter e c x none frames left asks count light =
       omega (arith, settled_weight (same.others.call ∙ (frames.call ∙ none)), closed_lighter_behind e e2 e3 (ActsOn c x []) none asks tt frames left same count light)

@@ -1,11 +1,15 @@
--- What a frame asks for now: no command is begun within it, and it defines a macro only with the list that it owns.
-use Rattle.std.proofs.Common.{◌≡◌, ◌≤◌, ℕ, Bool, true, false, List, [], ◌∷◌, length, drop, refl, subst, arith}
-use Rattle.std.specs.Prelude.{◌≢◌, Some}
+-- What a frame asks for now: a command is begun within it only with a token, and only where it is a command itself; and it defines a macro only with the
+-- list that it owns.
+use Rattle.std.proofs.Common.{◌≡◌, ◌+◌, ℕ, Bool, true, false, List, [], ◌∷◌, drop, refl, ap, subst}
+use Rattle.std.specs.Prelude.{◌≢◌, Option, None, Some}
 use Rattle.tex_defs.specs.declared.Name.{Name}
 use Rattle.tex_defs.specs.declared.Token.{Token}
 use Rattle.tex_syntax.specs.declared.words.Want.{Want}
 use Rattle.plain_state.specs.Definitions as build
 use Rattle.rows.specs.declared.words.Datum.{Datum}
+use Rattle.rows.specs.declared.words.Datum.TheVariants as datum
+use Rattle.rows.specs.declared.words.Value.{Value}
+use Rattle.rows.specs.declared.words.Value.TheVariants as value
 use Rattle.rows.specs.declared.words.Keyword.{Keyword}
 use Rattle.rows.specs.declared.words.Kind.{Kind}
 use Rattle.rows.specs.declared.words.Kind.TheVariants as kind
@@ -14,10 +18,10 @@ use Rattle.rows.specs.declared.stage.Stage.TheVariants as stage
 use Rattle.rows.specs.declared.stage.Note.{Note}
 use Rattle.rows.specs.declared.stage.Note.TheVariants as note
 use Rattle.rows.specs.declared.command.Call.{Call}
-use Rattle.rows.specs.Readings.{Fed, Ask, Inner, Defines}
+use Rattle.rows.specs.Readings.{Fed, Ask, Inner, Done, Defines}
 use Rattle.rows.specs.Run.{due, started, behind, run}
-use Rattle.rows.specs.Stages.{start}
-use Rattle.rows.specs.Table.{stages_left}
+use Rattle.rows.specs.Stages.{start, location, value_kind}
+use Rattle.rows.specs.Table.{stages_left, value_stage}
 use Rattle.row_frames.specs.declared.turn.Kept.{Kept}
 use Rattle.row_frames.specs.declared.turn.Kept.TheVariants as kept
 use Rattle.row_frames.specs.Data.{values}
@@ -25,12 +29,21 @@ use Rattle.row_frames.specs.Resumes.{within, resume_row, turn_of}
 use Rattle.scan_numbers.specs.declared.number.Place.{Place}
 use Rattle.scan_numbers.specs.declared.number.Place.TheVariants as number
 use Rattle.scan_numbers.specs.Resumes.{resume_at}
+use Rattle.scan_numbers.specs.FactorResumes as factor
+use Rattle.scan_numbers.specs.declared.number.NumberScan.{NumberScan}
+use Rattle.plain_readings.specs.Dimens as dimens
+use Rattle.plain_readings.specs.Factors.{as_factor}
+use Rattle.plain_readings.specs.Glues as glues
 use Rattle.plain_readings.specs.Keywords.{letters, giving_back, keyword_from}
 use Rattle.plain_readings.specs.Lists.{build_ask}
+use Rattle.plain_readings.specs.Measures.{dimen_ask, glue_ask}
+use Rattle.plain_readings.specs.Weights.{act_frame}
 use Rattle.scan_dimens.specs.Resumes.{resume_at as keyword_at}
+use Rattle.scan_dimens.specs.DimenResumes as dimen
+use Rattle.scan_glue.specs.GlueResumes as glue
 use Rattle.scan_dimens.specs.Sees.{kept as kept_tokens, want_behind}
-use Rattle.scan_dimens.specs.declared.keyword.Place.{Place as Letters}
-use Rattle.scan_dimens.specs.declared.keyword.Place.TheVariants as keyword
+use Rattle.scan_dimens.specs.declared.keyword.KeywordPlace.{KeywordPlace}
+use Rattle.scan_dimens.specs.declared.keyword.KeywordPlace.TheVariants as keyword
 use Rattle.reading_frames.specs.Sees.{Lists, top_list, kept_list_of}
 use Rattle.reading_frames.specs.Resumes.{resume, resume_build, name_at, file_at, list_count, listed_count}
 use Rattle.reading_frames.specs.Stack.{asks_in, innermost_count}
@@ -38,7 +51,8 @@ use Rattle.reading_frames.specs.declared.command.CommandScan.TheVariants as comm
 use Rattle.reading_frames.specs.declared.file_name.FilePlace.{FilePlace}
 use Rattle.reading_frames.specs.declared.file_name.FilePlace.TheVariants as file
 use Rattle.reading_frames.specs.declared.frame.Frame.{Frame}
-use Rattle.reading_frames.specs.declared.frame.Frame.TheVariants.{Command, Integer, Keyword as Word, Build, Spelling, FileName, Behind}
+use Rattle.reading_frames.specs.declared.frame.Frame.TheVariants.{Command, Integer, Factor, Dimension, Glue, Keyword as Word, Build, Spelling, FileName, Behind}
+use Rattle.reading_frames.specs.Weights.{own_weight, frames_weight}
 use Rattle.reading_frames.specs.declared.spelling.SpellPlace.{SpellPlace}
 use Rattle.reading_frames.specs.declared.spelling.SpellPlace.TheVariants as spell
 
@@ -48,6 +62,12 @@ IsModest (Inner (kind.Command c) false) = ⊥
 IsModest (Defines c n ts) = ⊥
 IsModest a = Unit {0}
 
+-- it begins no command at all
+abbrev IsMeek : Ask → Type 0
+IsMeek (Inner (kind.Command c) begins) = ⊥
+IsMeek (Defines c n ts) = ⊥
+IsMeek a = Unit {0}
+
 due_modest : (n : Note) → IsModest (due n)
 due_modest (note.Tells report back) = tt
 due_modest (note.Inserts t report back) = tt
@@ -56,20 +76,31 @@ due_modest (note.Relaxes c n) = tt
 with_modest : (k : Kind) → IsModest (Inner k true)
 with_modest (kind.Command c) = tt
 with_modest kind.Integer = tt
+with_modest kind.Factor = tt
+with_modest (kind.Dimension k) = tt
+with_modest (kind.Glue mu) = tt
 with_modest (kind.Keyword w) = tt
 with_modest (kind.Text name expanded) = tt
 with_modest (kind.Definition name expanded) = tt
+
+value_modest : (s : Stage) → IsModest (Inner (value_kind s) false)
+value_modest stage.Dimension = tt
+value_modest (stage.Glue mu) = tt
+value_modest s = tt
 
 module _ (turn : Call → List Fed → Ask) (c : Call) (ds : List Datum) (onward : List Datum → List Fed → Ask) where
   started_modest : (s : Stage) → IsModest (behind turn c ds onward (started s c (start s c ds) []))
   started_modest stage.Number = tt
   started_modest (stage.NumberTo greatest complaint) = tt
   started_modest (stage.NumberUpTo greatest) = tt
+  started_modest stage.Dimension = tt
+  started_modest (stage.Glue mu) = tt
+  started_modest stage.Amount = value_modest (value_stage (location 0 ds))
   started_modest stage.Equals = tt
   started_modest stage.ControlSequence = tt
   started_modest stage.NewName = tt
   started_modest stage.Variable = tt
-  started_modest stage.Internal = tt
+  started_modest stage.InternalValue = tt
   started_modest (stage.Keyword w) = tt
   started_modest stage.LetEquals = tt
   started_modest stage.Space = tt
@@ -91,39 +122,67 @@ row_modest : (turn : Call → List Fed → Ask) (c : Call) (ss : List Stage) (ds
 row_modest turn c [] ds k = tt
 row_modest turn c (s ∷ ss) ds k = within_modest turn c ds (λ es more. run turn c ss es more) s k
 
-number_modest : (negative : Bool) (p : Place) → IsModest (resume_at negative p [])
-number_modest negative number.Signs = tt
-number_modest negative number.Quote = tt
-number_modest negative (number.First radix) = tt
-number_modest negative (number.Digits radix n) = tt
-number_modest negative (number.TooBig radix) = tt
-number_modest negative (number.Dropped radix) = tt
-number_modest negative (number.Behind code) = tt
-number_modest negative number.NoNumber = tt
-number_modest negative number.NoCode = tt
-number_modest negative (number.Numbered b) = tt
-number_modest negative (number.BadNumber b n) = tt
-number_modest negative (number.Fetching l) = tt
-number_modest negative (number.MuFound n) = tt
-number_modest negative (number.Ended n back) = tt
+number_meek : (negative : Bool) (p : Place) → IsMeek (resume_at negative p [])
+number_meek negative number.Signs = tt
+number_meek negative number.Quote = tt
+number_meek negative (number.First radix) = tt
+number_meek negative (number.Digits radix n) = tt
+number_meek negative (number.TooBig radix) = tt
+number_meek negative (number.Dropped radix) = tt
+number_meek negative (number.Behind code) = tt
+number_meek negative number.NoNumber = tt
+number_meek negative number.NoCode = tt
+number_meek negative (number.Numbered b) = tt
+number_meek negative (number.BadNumber b n) = tt
+number_meek negative (number.Fetching l) = tt
+number_meek negative (number.MuFound n) = tt
+number_meek negative (number.Ended n back) = tt
 
-letters_modest : (cs : List ℕ) (ts : List Token) (want : Want) → IsModest (keyword_from cs ts want [])
-letters_modest [] ts want = tt
-letters_modest (c ∷ cs) ts want = tt
+as_factor_meek : (decimal point : Bool) (a : Ask) → IsMeek a → IsMeek (as_factor decimal point a)
+as_factor_meek decimal point (Done (value.Plain (datum.Number n)) back) h = tt
+as_factor_meek decimal point (Done v back) h = tt
+as_factor_meek decimal point a h = h
 
-back_modest : (ts : List Token) → IsModest (giving_back ts [])
-back_modest [] = tt
-back_modest (t ∷ ts) = tt
+factor_meek : (decimal : Option Bool) (point : Bool) (scan : NumberScan) → IsMeek (factor.resume_at decimal point scan [])
+factor_meek None point scan = tt
+factor_meek (Some decimal) point scan = as_factor_meek decimal point (resume_at scan.negative scan.place []) (number_meek scan.negative scan.place)
 
-keyword_modest : (w : Keyword) (ts : List Token) (p : Letters) → IsModest (keyword_at w ts p [])
-keyword_modest w ts (keyword.Letters n) = letters_modest (drop n (letters w)) (kept_tokens n ts) (want_behind n)
-keyword_modest w ts (keyword.PutsBack n) = back_modest (kept_tokens n ts)
-keyword_modest w ts (keyword.Ended found) = tt
+dimen_meek : (a : dimens.Answer) → IsMeek (dimen_ask a)
+dimen_meek (dimens.More want) = tt
+dimen_meek (dimens.Begins dimens.Factor begins) = tt
+dimen_meek (dimens.Begins dimens.Number begins) = tt
+dimen_meek (dimens.Begins (dimens.Key w) begins) = tt
+dimen_meek (dimens.Fetches l) = tt
+dimen_meek dimens.Magnifies = tt
+dimen_meek (dimens.Tells report back) = tt
+dimen_meek (dimens.Done n order back) = tt
 
-build_modest : (a : build.Answer) → IsModest (build_ask a)
-build_modest (build.More want list) = tt
-build_modest (build.Tells report back list) = tt
-build_modest (build.Done list) = tt
+glue_meek : (a : glues.Answer) → IsMeek (glue_ask a)
+glue_meek (glues.More want) = tt
+glue_meek (glues.Begins (glues.Dimension k) begins) = tt
+glue_meek (glues.Begins glues.Number begins) = tt
+glue_meek (glues.Begins (glues.Key w) begins) = tt
+glue_meek (glues.Fetches l) = tt
+glue_meek (glues.Tells report) = tt
+glue_meek (glues.Done g) = tt
+
+letters_meek : (cs : List ℕ) (ts : List Token) (want : Want) → IsMeek (keyword_from cs ts want [])
+letters_meek [] ts want = tt
+letters_meek (c ∷ cs) ts want = tt
+
+back_meek : (ts : List Token) → IsMeek (giving_back ts [])
+back_meek [] = tt
+back_meek (t ∷ ts) = tt
+
+keyword_meek : (w : Keyword) (ts : List Token) (p : KeywordPlace) → IsMeek (keyword_at w ts p [])
+keyword_meek w ts (keyword.Letters n) = letters_meek (drop n (letters w)) (kept_tokens n ts) (want_behind n)
+keyword_meek w ts (keyword.PutsBack n) = back_meek (kept_tokens n ts)
+keyword_meek w ts (keyword.Ended found) = tt
+
+build_meek : (a : build.Answer) → IsMeek (build_ask a)
+build_meek (build.More want list) = tt
+build_meek (build.Tells report back list) = tt
+build_meek (build.Done list) = tt
 
 name_modest : (c : Call) (p : SpellPlace) (list : List Token) → IsModest (name_at c p list [])
 name_modest c spell.Inside list = tt
@@ -140,6 +199,9 @@ file_modest c file.Stopped list = tt
 not_so : (a b : Ask) → a ≡ b → IsModest a → IsModest b
 not_so a b is h = subst IsModest is h
 
+not_meek : (a b : Ask) → a ≡ b → IsMeek a → IsMeek b
+not_meek a b is h = subst IsMeek is h
+
 -- WITHIN A FRAME no command is begun without a token
 begins_none : (f : Frame) (held : Lists) (c : Call) → resume f held [] ≡ Inner (kind.Command c) false → ⊥
 begins_none (Command (command.Reads f) p) held c is = not_so _ _ is (row_modest (λ d more. turn_of f.is_turned d more) f.call (stages_left f.left) (values f.read) f.kept)
@@ -147,12 +209,25 @@ begins_none (Command (command.Acts d e) p) held c is = cc
 begins_none (Command (command.ActsOn d e listed) p) held c is = cc
 begins_none (Command (command.Defines d n listed) p) held c is = cc
 begins_none (Command command.Ended p) held c is = cc
-begins_none (Integer scan) held c is = not_so _ _ is (number_modest scan.negative scan.place)
-begins_none (Word scan) held c is = not_so _ _ is (keyword_modest scan.keyword scan.tokens scan.place)
-begins_none (Build scan) held c is = not_so _ _ is (build_modest (resume_build scan (top_list held) []))
+begins_none (Integer scan) held c is = not_meek _ _ is (number_meek scan.negative scan.place)
+begins_none (Factor scan) held c is = not_meek _ _ is (factor_meek scan.decimal scan.point scan.scan)
+begins_none (Dimension scan) held c is = not_meek _ _ is (dimen_meek (dimen.resume scan []))
+begins_none (Glue scan) held c is = not_meek _ _ is (glue_meek (glue.resume scan []))
+begins_none (Word scan) held c is = not_meek _ _ is (keyword_meek scan.keyword scan.tokens scan.place)
+begins_none (Build scan) held c is = not_meek _ _ is (build_meek (resume_build scan (top_list held) []))
 begins_none (Spelling scan) held c is = not_so _ _ is (name_modest scan.call scan.place (top_list held))
 begins_none (FileName scan) held c is = not_so _ _ is (file_modest scan.call scan.place (top_list held))
 begins_none (Behind d x) held c is = cc
+
+-- what begins one is no reading that ends with a value
+begins_heavy : (f : Frame) (held : Lists) (c : Call) (begins : Bool) → resume f held [] ≡ Inner (kind.Command c) begins → own_weight f ≡ act_frame
+begins_heavy (Integer scan) held c begins is = absurd (not_meek _ _ is (number_meek scan.negative scan.place))
+begins_heavy (Factor scan) held c begins is = absurd (not_meek _ _ is (factor_meek scan.decimal scan.point scan.scan))
+begins_heavy (Dimension scan) held c begins is = absurd (not_meek _ _ is (dimen_meek (dimen.resume scan [])))
+begins_heavy (Glue scan) held c begins is = absurd (not_meek _ _ is (glue_meek (glue.resume scan [])))
+begins_heavy (Word scan) held c begins is = absurd (not_meek _ _ is (keyword_meek scan.keyword scan.tokens scan.place))
+begins_heavy (Build scan) held c begins is = absurd (not_meek _ _ is (build_meek (resume_build scan (top_list held) [])))
+begins_heavy f held c begins is = refl
 
 -- A MACRO is defined with the frame's own list, where that has a token
 owned : (listed : Bool) (d c : Call) (m n : Name) (held : Lists) (ts : List Token) → Defines d m (kept_list_of listed held) ≡ Defines c n ts → ts ≢ [] → listed_count listed ≡ 1
@@ -165,8 +240,11 @@ defines_own (Command (command.Acts d e) p) held c n ts is some = absurd cc
 defines_own (Command (command.ActsOn d e listed) p) held c n ts is some = absurd cc
 defines_own (Command (command.Defines d m listed) p) held c n ts is some = owned listed d c m n held ts is some
 defines_own (Command command.Ended p) held c n ts is some = absurd cc
-defines_own (Integer scan) held c n ts is some = absurd (not_so _ _ is (number_modest scan.negative scan.place))
-defines_own (Word scan) held c n ts is some = absurd (not_so _ _ is (keyword_modest scan.keyword scan.tokens scan.place))
+defines_own (Integer scan) held c n ts is some = absurd (not_meek _ _ is (number_meek scan.negative scan.place))
+defines_own (Factor scan) held c n ts is some = absurd (not_meek _ _ is (factor_meek scan.decimal scan.point scan.scan))
+defines_own (Dimension scan) held c n ts is some = absurd (not_meek _ _ is (dimen_meek (dimen.resume scan [])))
+defines_own (Glue scan) held c n ts is some = absurd (not_meek _ _ is (glue_meek (glue.resume scan [])))
+defines_own (Word scan) held c n ts is some = absurd (not_meek _ _ is (keyword_meek scan.keyword scan.tokens scan.place))
 defines_own (Build scan) held c n ts is some = refl
 defines_own (Spelling scan) held c n ts is some = refl
 defines_own (FileName scan) held c n ts is some = refl
@@ -174,14 +252,14 @@ defines_own (Behind d x) held c n ts is some = absurd cc
 
 -- the innermost
 
-pub asks_least : (fs : List Frame) (held : Lists) (a : Ask) → asks_in fs held ≡ Some a → 1 ≤ length fs
-asks_least [] held a is = absurd cc
-asks_least (f ∷ fs) held a is = omega arith
-
 pub innermost_begins_none : (fs : List Frame) (held : Lists) (c : Call) → asks_in fs held ≡ Some (Inner (kind.Command c) false) → ⊥
 innermost_begins_none [] held c is = cc
 innermost_begins_none (f ∷ fs) held c is = begins_none f held c cc
 
+pub innermost_heavy : (fs : List Frame) (held : Lists) (c : Call) (begins : Bool) → asks_in fs held ≡ Some (Inner (kind.Command c) begins) → frames_weight fs ≡ act_frame + frames_weight (drop 1 fs)
+innermost_heavy [] held c begins is = cc
+innermost_heavy (f ∷ fs) held c begins is = ap (λ (n : ℕ). n + frames_weight fs) (begins_heavy f held c begins cc)
+
 pub innermost_own : (fs : List Frame) (held : Lists) (c : Call) (n : Name) (ts : List Token) → asks_in fs held ≡ Some (Defines c n ts) → ts ≢ [] → innermost_count fs ≡ 1
-innermost_own [] held c n ts is some = absurd cc
+innermost_own [] held c n ts is some = cc
 innermost_own (f ∷ fs) held c n ts is some = defines_own f held c n ts (cc) some

@@ -1,5 +1,5 @@
 -- A reading that begins within another, or ends with a value.
-use Rattle.std.proofs.Common.{◌≡◌, ◌≤◌, ◌<◌, ◌+◌, ◌-◌, Bool, true, false, List, [], ◌∷◌, length, arith, refl, sym, ap, ◌∙◌}
+use Rattle.std.proofs.Common.{◌≡◌, ◌≤◌, ◌<◌, ◌+◌, Bool, true, false, List, [], ◌∷◌, drop, arith, refl, sym, ap, ◌∙◌}
 use Rattle.std.proofs.lemmas.List.{append-nil}
 use Rattle.std.specs.Prelude.{Some, None}
 use Rattle.tex_defs.specs.declared.Full.{Full}
@@ -8,16 +8,16 @@ use Rattle.tex_defs.specs.declared.Token.{Token}
 use Rattle.tex_defs.specs.Places.{World}
 use Rattle.rows.specs.declared.command.Call.{Call}
 use Rattle.rows.specs.declared.words.Kind.{Kind as Begun}
-use Rattle.rows.specs.declared.words.Kind.TheVariants.{Command, Integer, Keyword, Text, Definition}
+use Rattle.rows.specs.declared.words.Kind.TheVariants.{Command}
 use Rattle.rows.specs.declared.words.Value.{Value}
 use Rattle.rows.specs.Readings.{Tok, Val, Inner, Done}
 use Rattle.plain_readings.specs.Readings.{Kind, Reading, ask, lists, fed_with, opened, opened_with}
-use Rattle.plain_readings.specs.Weights.{frame_weight, act_weight, value_weight}
+use Rattle.plain_readings.specs.Weights.{value_frame, act_frame, act_weight, value_weight, begins_with}
 use Rattle.plain_readings.proofs.Lower.{no_command as begins_no_command}
 use Rattle.reading_frames.specs.Resumes.{resume}
 use Rattle.reading_frames.specs.Stack.{Stack, asks_in}
 use Rattle.reading_frames.specs.Stands as frames
-use Rattle.reading_frames.specs.Weights.{innermost_weight, innermost_end, asked_weight, begun_weight, begun_with_weight}
+use Rattle.reading_frames.specs.Weights.{frames_weight, opening_frame, innermost_weight, innermost_end, asked_weight, begun_weight, begun_with_weight, IsInner}
 use Rattle.reading_frames.specs.declared.ask.Opening.TheVariants as opening
 use Rattle.reading_frames.specs.declared.frame.Frame.{Frame}
 use Rattle.reading_frames.proofs.Rules.{falls}
@@ -41,7 +41,7 @@ use Rattle.engine_state.proofs.Joining.{quiet_here, went_by}
 use Rattle.engine_state.proofs.CuttingReadings.{in_by}
 use Rattle.engine_state.proofs.Putting.{back_none}
 use Rattle.engine_state.proofs.Weighing.{lighter, valued_lighter}
-use Rattle.stomach.proofs.FrameAsks.{asks_least, innermost_begins_none}
+use Rattle.stomach.proofs.FrameAsks.{innermost_begins_none, innermost_heavy}
 
 -- NO COMMAND BEGINS WITHIN A FRAME that stands for a reading
 
@@ -97,38 +97,29 @@ module _ (sizes : Sizes) (e e' : Engine) (book : Book) (w : World) (k : Kind) (b
 
 -- THE WEIGHT
 
-begun_least : (k : Begun) → ((c : Call) → k ≡ Command c → ⊥) → begun_weight (opening.Reads k) ≡ 0
-begun_least (Command c) h = absurd (h c refl)
-begun_least Integer h = refl
-begun_least (Keyword w) h = refl
-begun_least (Text name expanded) h = refl
-begun_least (Definition name expanded) h = refl
-
-with_least : (k : Begun) → ((c : Call) → k ≡ Command c → ⊥) → begun_with_weight (opening.Reads k) ≡ 19
-with_least (Command c) h = absurd (h c refl)
-with_least Integer h = refl
-with_least (Keyword w) h = refl
-with_least (Text name expanded) h = refl
-with_least (Definition name expanded) h = refl
+no_row : (k : Begun) → ((c : Call) → k ≡ Command c → ⊥) → IsInner k
+no_row (Command c) h = h c refl
+no_row k h = tt
 
 module _ (e e' : Engine) (none : e.call ≡ None) (none' : e'.call ≡ None) (same : e'.input.pending ≡ e.input.pending) (k : Begun) (begins : Bool) (asks : asks_in e.readings.frames [] ≡ Some (Inner k begins)) where
   asks_so : (b : Bool) → begins ≡ b → asks_in e.readings.frames [] ≡ Some (Inner k b)
   asks_so b is = asks ∙ ap (λ (x : Bool). Some (Inner k x)) is
 
-  pub begun_light : ((c : Call) → k ≡ Command c → ⊥) → begins ≡ false → length e'.readings.frames ≡ length e.readings.frames + 1 → innermost_weight e'.readings.frames ≤ begun_weight (opening.Reads k) → weight e' < weight e
-  begun_light low is count light = lighter e e' none none' same ((falls e.readings e'.readings).begun k (asks_so false is) count (omega (arith, light, begun_least k low)))
+  pub begun_light : ((c : Call) → k ≡ Command c → ⊥) → begins ≡ false → frames_weight e'.readings.frames ≡ frames_weight e.readings.frames + opening_frame (opening.Reads k) → innermost_weight e'.readings.frames ≤ begun_weight (opening.Reads k) → weight e' < weight e
+  begun_light low is frames light = lighter e e' none none' same ((falls e.readings e'.readings).begun k (no_row k low) (asks_so false is) (omega (arith, frames)) light)
 
-  pub begun_with_light : ((c : Call) → k ≡ Command c → ⊥) → begins ≡ true → length e'.readings.frames ≡ length e.readings.frames + 1 → innermost_weight e'.readings.frames ≤ begun_with_weight (opening.Reads k) → weight e' < weight e
-  begun_with_light low is count light = lighter e e' none none' same ((falls e.readings e'.readings).begun_with k (asks_so true is) count (omega (arith, light, with_least k low)))
+  pub begun_with_light : ((c : Call) → k ≡ Command c → ⊥) → begins ≡ true → frames_weight e'.readings.frames ≡ frames_weight e.readings.frames + opening_frame (opening.Reads k) → innermost_weight e'.readings.frames ≤ begun_with_weight (opening.Reads k) → weight e' < weight e
+  begun_with_light low is frames light = lighter e e' none none' same ((falls e.readings e'.readings).begun_with k (no_row k low) (asks_so true is) (omega (arith, frames)) light)
 
   -- what asks for a command ends
-  heavy_by : (c : Call) (b : Bool) → asks_in e.readings.frames [] ≡ Some (Inner (Command c) b) → act_weight ≤ innermost_weight e.readings.frames
+  heavy_by : (c : Call) (b : Bool) → asks_in e.readings.frames [] ≡ Some (Inner (Command c) b) → begins_with (Command c) ≤ innermost_weight e.readings.frames
   heavy_by c true is = omega (arith, ap (asked_weight (innermost_end e.readings.frames)) is)
   heavy_by c false is = absurd (innermost_begins_none e.readings.frames [] c is)
 
-  pub refused_light : (c : Call) → k ≡ Command c → length e'.readings.frames ≡ length e.readings.frames - 1 → innermost_weight e'.readings.frames < frame_weight + act_weight → weight e' < weight e
-  refused_light c is count light =
-      lighter e e' none none' same ((falls e.readings e'.readings).acted (heavy_by c begins (asks ∙ ap (λ (x : Begun). Some (Inner x begins)) is)) (asks_least e.readings.frames [] (Inner k begins) asks) count light)
+  pub refused_light : (c : Call) → k ≡ Command c → frames_weight e'.readings.frames ≡ frames_weight (drop 1 e.readings.frames) → innermost_weight e'.readings.frames < act_frame + act_weight → weight e' < weight e
+  refused_light c is frames light =
+      let so : asks_in e.readings.frames [] ≡ Some (Inner (Command c) begins) = asks ∙ ap (λ (x : Begun). Some (Inner x begins)) is in
+      lighter e e' none none' same (omega (arith, heavy_by c begins so, innermost_heavy e.readings.frames [] c begins so, frames, light))
 
 -- ONE ENDS WITH A VALUE
 
@@ -157,8 +148,8 @@ module _ (sizes : Sizes) (e e1 e2 : Engine) (book : Book) (w : World) (r : Readi
   }
 
 pub done_light : (e e1 e2 : Engine) (v : Value) (back : Bool) → e.call ≡ None → SameFrames e e1 → pending_weight e1.input.pending ≡ pending_weight e.input.pending → e2.call ≡ e1.call → e2.input.pending ≡ e1.input.pending → asks_in e.readings.frames [] ≡ Some (Done v back) →
-    length e2.readings.frames ≡ length e1.readings.frames - 1 → innermost_weight e2.readings.frames < frame_weight + value_weight → weight e2 < weight e
-done_light e e1 e2 v back none same left call pending asks count light =
+    frames_weight e2.readings.frames ≡ frames_weight (drop 1 e1.readings.frames) → innermost_weight e2.readings.frames < value_frame + value_weight → weight e2 < weight e
+done_light e e1 e2 v back none same left call pending asks frames light =
     let none1 : e1.call ≡ None = same.call ∙ none in
     let asks1 : asks_in e1.readings.frames [] ≡ Some (Done v back) = ap (λ (s : Stack). asks_in s.frames []) same.readings ∙ asks in
-    lighter_by e e1 e2 same left (valued_lighter e1 e2 none1 (call ∙ none1) pending v back asks1 (asks_least e1.readings.frames [] (Done v back) asks1) count light)
+    lighter_by e e1 e2 same left (valued_lighter e1 e2 none1 (call ∙ none1) pending v back asks1 frames light)

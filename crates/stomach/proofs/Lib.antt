@@ -30,3 +30,5 @@ pub mod Known
 pub mod Knowing
 pub mod OneRule
 pub mod Opening
+pub mod Magnifying
+pub mod Lighter

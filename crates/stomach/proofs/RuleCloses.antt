@@ -1,5 +1,5 @@
 -- A rule behind whose moves the innermost reading ends without a value.
-use Rattle.std.proofs.Common.{◌≡◌, ℕ, ◌+◌, List, [], ◌∷◌, ◌++◌, refl, sym, ap, ◌∙◌, subst, arith, Bool, true, false, ◌<◌, ◌≤◌, ◌-◌, length}
+use Rattle.std.proofs.Common.{◌≡◌, ℕ, ◌+◌, List, [], ◌∷◌, ◌++◌, refl, sym, ap, ◌∙◌, subst, arith, Bool, true, false, ◌<◌, drop}
 use Rattle.std.specs.Prelude.{Option, Some, None, if◌then◌else◌}
 use Rattle.tex_syntax.specs.declared.words.Outcome.{Outcome}
 use Rattle.tex_defs.specs.Places.{World}
@@ -11,14 +11,13 @@ use Rattle.tex_defs.specs.declared.Token.{Token}
 use Rattle.tex_defs.specs.declared.Token.TheVariants as token
 use Rattle.plain_tokens.specs.Names.{relax_primitive}
 use Rattle.plain_readings.specs.Readings.{Reading}
-use Rattle.plain_readings.specs.Weights.{frame_weight, act_weight}
+use Rattle.plain_readings.specs.Weights.{act_frame, act_weight}
 use Rattle.rows.specs.declared.command.Call.{Call}
 use Rattle.rows.specs.declared.command.Effect.{Effect}
 use Rattle.rows.specs.declared.command.Effect.TheVariants as effect
 use Rattle.rows.specs.Readings.{Ask}
 use Rattle.reading_frames.specs.Stack.{Stack, asks_in}
-use Rattle.reading_frames.specs.Weights.{innermost_weight, IsEnd}
-use Rattle.reading_frames.specs.declared.frame.Frame.{Frame}
+use Rattle.reading_frames.specs.Weights.{frames_weight, innermost_weight, IsEnd}
 use Rattle.plain_machine.specs.States.{State, Move, Assigned, Closed, Spelt, made}
 use Rattle.plain_machine.specs.Plan.{Page, acts_on, entered, name_made, newly_spelt, put_one, relax_if_undefined, reported_as, spelt}
 use Rattle.plain_machine.specs.Runs.{steps}
@@ -128,17 +127,11 @@ name_free page characters =
 
 -- WHAT BECOMES LIGHTER
 
--- something is open
-pub least_open : (fs : List Frame) (a : Ask) → asks_in fs [] ≡ Some a → 1 ≤ length fs
-least_open [] a is = absurd cc
-least_open (f ∷ fs) a is = omega arith
-
-pub closed_lighter : (e e' : Engine) (a : Ask) → e.call ≡ None → asks_in e.readings.frames [] ≡ Some a → IsEnd a → SameBut e e' → length e'.readings.frames ≡ length e.readings.frames - 1 → innermost_weight e'.readings.frames < frame_weight + act_weight → weight e' < weight e
-closed_lighter e e' a none asks end same count light =
-    acted_lighter e e' none (same.others.call ∙ none) same.pending a asks end (least_open e.readings.frames a asks) count light
+pub closed_lighter : (e e' : Engine) (a : Ask) → e.call ≡ None → asks_in e.readings.frames [] ≡ Some a → IsEnd a → SameBut e e' → frames_weight e'.readings.frames ≡ frames_weight (drop 1 e.readings.frames) → innermost_weight e'.readings.frames < act_frame + act_weight → weight e' < weight e
+closed_lighter e e' a none asks end same frames light = acted_lighter e e' none (same.others.call ∙ none) same.pending a asks end frames light
 
 -- behind what leaves the frames as they were
 pub closed_lighter_behind : (e e1 e' : Engine) (a : Ask) → e.call ≡ None → asks_in e.readings.frames [] ≡ Some a → IsEnd a → SameFrames e e1 → pending_weight e1.input.pending ≡ pending_weight e.input.pending →
-    SameBut e1 e' → length e'.readings.frames ≡ length e1.readings.frames - 1 → innermost_weight e'.readings.frames < frame_weight + act_weight → weight e' < weight e
-closed_lighter_behind e e1 e' a none asks end same left but count light =
-    lighter_by e e1 e' same left (closed_lighter e1 e' a (same.call ∙ none) (ap (λ (s : Stack). asks_in s.frames []) same.readings ∙ asks) end but count light)
+    SameBut e1 e' → frames_weight e'.readings.frames ≡ frames_weight (drop 1 e1.readings.frames) → innermost_weight e'.readings.frames < act_frame + act_weight → weight e' < weight e
+closed_lighter_behind e e1 e' a none asks end same left but frames light =
+    lighter_by e e1 e' same left (closed_lighter e1 e' a (same.call ∙ none) (ap (λ (s : Stack). asks_in s.frames []) same.readings ∙ asks) end but frames light)

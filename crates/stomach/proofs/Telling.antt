@@ -1,5 +1,5 @@
 -- The innermost reading reports.
-use Rattle.std.proofs.Common.{◌≡◌, ◌<◌, ℕ, List, [], ◌∷◌, ◌++◌, length, Bool, sym, ap, ◌∙◌, subst, append_assoc}
+use Rattle.std.proofs.Common.{◌≡◌, ◌<◌, ℕ, List, [], ◌∷◌, ◌++◌, Bool, sym, ap, ◌∙◌, subst, append_assoc}
 use Rattle.std.specs.Prelude.{Option, None}
 use Rattle.tex_defs.specs.declared.Meaning.TheVariants as means
 use Rattle.tex_defs.specs.declared.Name.{Name}
@@ -14,7 +14,7 @@ use Rattle.tex_defs.specs.Places.{World, Transcript}
 use Rattle.plain_state.specs.Reports.{report_bytes}
 use Rattle.plain_readings.specs.Readings.{Reading, fed_with}
 use Rattle.reading_frames.specs.Stack.{Stack, asks_in}
-use Rattle.reading_frames.specs.Weights.{innermost_weight, IsReported}
+use Rattle.reading_frames.specs.Weights.{frames_weight, innermost_weight, IsReported}
 use Rattle.plain_machine.specs.States.{State, Move, Assigned, Written, Reported}
 use Rattle.plain_machine.specs.Plan as plan
 use Rattle.plain_machine.specs.Runs.{steps}
@@ -78,7 +78,7 @@ module _ (sizes : Sizes) (e : Engine) (f : FilesTold) (s0 : SinkTold) (book : Bo
 
 -- WHAT BECOMES LIGHTER
 pub told_light : (e e1 e2 : Engine) → e.call ≡ None → SameFrames e e1 → pending_weight e1.input.pending ≡ pending_weight e.input.pending → e2.call ≡ e1.call → e2.input.pending ≡ e1.input.pending →
-    (IsReported (asks_in e1.readings.frames []) → innermost_weight e2.readings.frames < innermost_weight e1.readings.frames) → length e2.readings.frames ≡ length e1.readings.frames →
+    (IsReported (asks_in e1.readings.frames []) → innermost_weight e2.readings.frames < innermost_weight e1.readings.frames) → frames_weight e2.readings.frames ≡ frames_weight e1.readings.frames →
     IsReported (asks_in e.readings.frames []) → weight e2 < weight e
 told_light e e1 e2 none same left call pending light count reported =
     let none1 : e1.call ≡ None = same.call ∙ none in

@@ -1,14 +1,15 @@
 -- What a command does before its reading ends.
-use Rattle.std.specs.Prelude.{◌<◌, ℤ, List, [], ◌∷◌, ◌++◌, Some}
+use Rattle.std.specs.Prelude.{◌<◌, ℤ, pos, Bool, true, false, List, [], ◌∷◌, ◌++◌, Some}
 use Rattle.plain_tokens.specs.Meanings.{meaning_to_let}
 use Rattle.plain_tokens.specs.Numerals.{whole_number, roman}
 use Rattle.plain_state.specs.Reports.{string_text}
+use Rattle.equivalents.specs.declared.values.Glue.{Glue}
 use Rattle.equivalents.specs.declared.values.Loc.{Loc}
 use Rattle.equivalents.specs.declared.values.Loc.TheVariants as loc
 use Rattle.equivalents.specs.declared.values.Val.TheVariants as val
-use Rattle.equivalents.specs.Locations.{Suits, value_seen}
-use Rattle.equivalents.specs.Tables.{Tables, get}
-use Rattle.rows.specs.Internal.{integer_of, value_text}
+use Rattle.equivalents.specs.Locations.{SeenValue, Suits, value_seen}
+use Rattle.equivalents.specs.Tables.{get}
+use Rattle.rows.specs.Internal.{is_glue, value_text}
 use Rattle.rows.specs.declared.command.Call.{Call}
 use Rattle.rows.specs.declared.command.Effect.{Effect}
 use Rattle.rows.specs.declared.command.Effect.TheVariants as effect
@@ -32,6 +33,7 @@ done_alone page c (effect.Show x) = shown page x
 done_alone page c (effect.Let n x) = assigned page (Assigned (is_global page c) n (meaning_to_let page.now.meanings x))
 done_alone page c (effect.FutureLet n x y) = put_one y.token ++ (put_one x.token ++ assigned page (Assigned (is_global page c) n (meaning_to_let page.now.meanings y)))
 done_alone page c (effect.SetNumber l value) = assigned page (Set (is_global page c) l (val.Number value))
+done_alone page c (effect.SetGlue l g) = assigned page (Set (is_global page c) l (val.Skip g))
 done_alone page c (effect.Shorthand n s) = assigned page (Assigned (is_global page c) n (short_meaning s))
 done_alone page c effect.Unassigned = behind_assignment page.after
 done_alone page c (effect.AfterGroup x) = kept_for_group page.group x.token
@@ -42,7 +44,7 @@ done_alone page c e = put_by page e
 abbrev pub IsAlone : Effect → Type 0
 IsAlone (effect.Obey x) = ⊥
 IsAlone (effect.ExpandBehind x y) = ⊥
-IsAlone (effect.Compute operation l n) = ⊥
+IsAlone (effect.Compute operation l d) = ⊥
 IsAlone e = Unit {0}
 
 -- a location that is there, and no name's: each byte is the number of a register and of a character
@@ -54,18 +56,26 @@ IsThere (loc.Tokens i) = i < 8
 IsThere (loc.Means n) = ⊥
 IsThere l = Unit {0}
 
--- and which has all numbers
-abbrev pub HasNumbers : Loc → Type 0
-HasNumbers l = IsThere l × ((n : ℤ) → Suits l (val.Number n))
+-- all glue may stand there, or all numbers
+abbrev pub TakesAll : (glue : Bool) → Loc → Type 0
+TakesAll true l = (g : Glue) → Suits l (val.Skip g)
+TakesAll false l = (n : ℤ) → Suits l (val.Number n)
 
--- the integer that stands at a location
-abbrev pub integer_at : Tables → Loc → ℤ
-integer_at m l = integer_of (value_seen (get m l))
+-- which arithmetic changes
+abbrev pub IsVariable : Loc → Type 0
+IsVariable l = IsThere l × TakesAll (is_glue l) l
 
--- A number is set at a location that is there and has such numbers; what is computed is at one that has all; the text of a value is that of one that
--- is there.
+-- the assignment of what arithmetic comes to; a value that is no number and no glue counts as the number 0
+abbrev pub assignment_of : Loc → SeenValue → Effect
+assignment_of l (val.Number n) = effect.SetNumber l n
+assignment_of l (val.Skip g) = effect.SetGlue l g
+assignment_of l v = effect.SetNumber l (pos 0)
+
+-- A number or glue is set at a location that is there and that such a value suits; what is computed is at one that takes all numbers, or all glue; the
+-- text of a value is that of one that is there.
 abbrev pub IsSmall : Effect → Type 0
 IsSmall (effect.SetNumber l value) = IsThere l × Suits l (val.Number value)
-IsSmall (effect.Compute operation l n) = HasNumbers l
+IsSmall (effect.SetGlue l g) = IsThere l × Suits l (val.Skip g)
+IsSmall (effect.Compute operation l d) = IsVariable l
 IsSmall (effect.MakeValue l) = IsThere l
 IsSmall e = Unit {0}

@@ -5,7 +5,9 @@ ghost use Rattle.tex_defs.specs.declared.Sizes.{Sizes};
 ghost use Rattle.plain_tokens.specs.Meanings.{meaning_to_let};
 ghost use Rattle.equivalents.specs.declared.values.Loc.TheVariants as loc;
 ghost use Rattle.equivalents.specs.declared.values.Val.TheVariants as val;
-ghost use Rattle.equivalents.specs.Locations.{IsInRow, Suits};
+ghost use Rattle.equivalents.specs.declared.values.Glue.{Glue as PlainGlue};
+ghost use Rattle.equivalents.specs.Locations.{IsInRow, Suits, value_seen};
+ghost use Rattle.equivalents.specs.Tables.{get};
 ghost use Rattle.meanings.specs.Kept.{without_list};
 ghost use Rattle.plain_readings.specs.Readings.{Reading};
 ghost use Rattle.rows.specs.Internal.{IsFetchable};
@@ -23,16 +25,15 @@ ghost use Rattle.engine_state.specs.CutReadings.{CutsIn};
 ghost use Rattle.engine_state.specs.Stands.{Stands, Counts, SameFrames, state_of, page_of};
 ghost use Rattle.engine_state.specs.Rules.{world_of, Cuts, Went};
 ghost use Rattle.engine_state.specs.Steps.{asked, pending_weight, freed, weight, IsFree, IsStep};
-ghost use Rattle.stomach.specs.Effects.{put_by, done_alone, integer_at as plain_integer, HasNumbers, IsAlone, IsSmall, IsThere};
+ghost use Rattle.stomach.specs.Effects.{put_by, done_alone, assignment_of, IsVariable, IsAlone, IsSmall, IsThere};
 ghost use Rattle.stomach.specs.Halting.{DoesRuleIn};
 
 use crate::obeying::obey;
 use engine_state::{Broken, Engine, Made, Ruled};
-use equivalents::{CodeKind, Loc};
+use equivalents::{CodeKind, Glue, Loc, Val};
 use gullet::{Once, expand_once};
 use reading_frames::Opening;
-use rows::{Call, Effect, Operation, Shorthand, computed};
-use scan_numbers::integer_of;
+use rows::{Call, Datum, Effect, Operation, Shorthand, value_computed};
 use tex_defs::{Fatal, Meaning, Name, RegisterKind, Seen, Token};
 use tex_syntax::{Outcome, Report};
 use world_io::Sink;
@@ -220,7 +221,12 @@ fn takes_number(loc: Loc, value: i32) -> bool
 ///
 /// # Errors
 /// The save stack is full; nothing has changed.
-fn set_number(engine: &mut Engine, loc: Loc, value: i32, global: bool) -> Result<(), Broken>
+pub(crate) fn set_number(
+    engine: &mut Engine,
+    loc: Loc,
+    value: i32,
+    global: bool,
+) -> Result<(), Broken>
     ensures did { OnOk result (IsThere loc → Suits loc (val.Number value) → (sizes : Sizes) (w : World) (book : Book) → Stands sizes engine.old book → Did sizes (state_of engine.old book) (state_of engine.new book) w w (Set global loc (val.Number value) ∷ [])) }
     ensures err { IfErr result (λ b. (sizes : Sizes) (w : World) (book : Book) (more : List Move) → Stands sizes engine.old book → Cuts sizes (state_of engine.old book) engine.new book w w (Set global loc (val.Number value) ∷ more) b) }
     ensures stands { OnOk result ((sizes : Sizes) (book : Book) → Stands sizes engine.old book → Stands sizes engine.new book) }
@@ -233,14 +239,56 @@ fn set_number(engine: &mut Engine, loc: Loc, value: i32, global: bool) -> Result
     Ok(())
 }
 
-/// The integer that stands at a location.
-fn integer_at(engine: &Engine, loc: Loc) -> i32
-    ensures { HasNumbers loc → (book : Book) → result ≡ plain_integer (page_of engine.now book).now loc }
+/// Whether glue may stand at a location, which is there.
+fn takes_glue(loc: Loc) -> bool
+    ensures { MatchBool result ((IsInRow loc) × ((g : PlainGlue) → Suits loc (val.Skip g))) (IsThere loc → (g : PlainGlue) → Suits loc (val.Skip g) → ⊥) }
 {
-    if takes_number(loc, 0) {
-        return integer_of(engine.input.value(loc));
+    match loc {
+        Loc::Glue(i) => i < GLUE_PARAMETERS,
+        Loc::Register {
+            kind: RegisterKind::Skip | RegisterKind::Muskip,
+            no: _,
+        } => true,
+        _ => false,
     }
-    0
+}
+
+/// The location gets this glue, if it may stand there.
+///
+/// # Errors
+/// The save stack is full; nothing has changed.
+fn set_glue(engine: &mut Engine, loc: Loc, glue: Glue, global: bool) -> Result<(), Broken>
+    ensures did { OnOk result (IsThere loc → Suits loc (val.Skip glue) → (sizes : Sizes) (w : World) (book : Book) → Stands sizes engine.old book → Did sizes (state_of engine.old book) (state_of engine.new book) w w (Set global loc (val.Skip glue) ∷ [])) }
+    ensures err { IfErr result (λ b. (sizes : Sizes) (w : World) (book : Book) (more : List Move) → Stands sizes engine.old book → Cuts sizes (state_of engine.old book) engine.new book w w (Set global loc (val.Skip glue) ∷ more) b) }
+    ensures stands { OnOk result ((sizes : Sizes) (book : Book) → Stands sizes engine.old book → Stands sizes engine.new book) }
+    ensures frames { SameFrames engine.old engine.new }
+    ensures only { engine.new ≡ record engine.old { input = record engine.old.input { groups = engine.new.input.groups; lists = engine.new.input.lists } } }
+{
+    if takes_glue(loc) {
+        engine.input.set_glue(loc, glue, global)?;
+    }
+    Ok(())
+}
+
+/// What stands at a location, if it is there.
+fn value_at(engine: &Engine, loc: Loc) -> Val<()>
+    ensures { IsThere loc → (book : Book) → result ≡ value_seen (get (page_of engine.now book).now loc) }
+{
+    if is_there(loc) {
+        return engine.input.value(loc);
+    }
+    Val::Number(0)
+}
+
+/// The assignment of a number or of glue; another value counts as the number 0.
+fn assignment(loc: Loc, value: Val<()>) -> Effect
+    ensures { result ≡ assignment_of loc value }
+{
+    match value {
+        Val::Number(n) => Effect::SetNumber(loc, n),
+        Val::Skip(glue) => Effect::SetGlue(loc, glue),
+        _ => Effect::SetNumber(loc, 0),
+    }
 }
 
 /// Does what a command says, where no token is obeyed and none expanded, and nothing is computed.
@@ -278,6 +326,11 @@ fn act_alone<S: Sink>(
         Effect::SetNumber(loc, value) => {
             let global = is_global(engine, call);
             set_number(engine, loc, value, global)?;
+            engine.put_after()
+        }
+        Effect::SetGlue(loc, glue) => {
+            let global = is_global(engine, call);
+            set_glue(engine, loc, glue, global)?;
             engine.put_after()
         }
         Effect::Shorthand(name, shorthand) => {
@@ -421,21 +474,21 @@ fn compute<S: Sink>(
     call: Call,
     operation: Operation,
     loc: Loc,
-    number: i32,
+    datum: Datum,
 ) -> Result<Ruled, Broken>
     requires idle { engine.old.input.making ≡ None }
     requires uncalled { engine.old.call ≡ None }
-    ensures rule { IfOk result (λ ruled. HasNumbers loc → (sizes : Sizes) (f : FilesTold) (book : Book) (r : Reading) (rs : List Reading) → Stands sizes engine.old (with_work (r ∷ rs) book) →
-        DoesRuleIn sizes (state_of engine.old (with_work (r ∷ rs) book)) engine.new (world_of f (S.told out.old) engine.old) (world_of f (S.told out.new) engine.new) (acts (page_of engine.old book) call (effects.Compute operation loc number)) ruled) }
-    ensures err { IfErr result (λ b. HasNumbers loc → (sizes : Sizes) (f : FilesTold) (book : Book) (r : Reading) (rs : List Reading) → Stands sizes engine.old (with_work (r ∷ rs) book) →
-        CutsIn sizes (state_of engine.old (with_work (r ∷ rs) book)) engine.new (world_of f (S.told out.old) engine.old) (world_of f (S.told out.new) engine.new) (acts (page_of engine.old book) call (effects.Compute operation loc number)) b) }
+    ensures rule { IfOk result (λ ruled. IsVariable loc → (sizes : Sizes) (f : FilesTold) (book : Book) (r : Reading) (rs : List Reading) → Stands sizes engine.old (with_work (r ∷ rs) book) →
+        DoesRuleIn sizes (state_of engine.old (with_work (r ∷ rs) book)) engine.new (world_of f (S.told out.old) engine.old) (world_of f (S.told out.new) engine.new) (acts (page_of engine.old book) call (effects.Compute operation loc datum)) ruled) }
+    ensures err { IfErr result (λ b. IsVariable loc → (sizes : Sizes) (f : FilesTold) (book : Book) (r : Reading) (rs : List Reading) → Stands sizes engine.old (with_work (r ∷ rs) book) →
+        CutsIn sizes (state_of engine.old (with_work (r ∷ rs) book)) engine.new (world_of f (S.told out.old) engine.old) (world_of f (S.told out.new) engine.new) (acts (page_of engine.old book) call (effects.Compute operation loc datum)) b) }
     ensures step { IfOk result (λ ruled. IsStep ruled → ⊥) }
     ensures light { IfOk result (λ ruled. IsFree ruled → (a : Ask) → asks_in engine.old.readings.frames [] ≡ Some a → IsEnd a → weight engine.new < weight engine.old) }
     ensures idle { OnOk result (engine.new.input.making ≡ None) }
 {
-    match computed(operation, integer_at(engine, loc), number) {
-        Some(n) => {
-            end_alone(engine, out, call, Effect::SetNumber(loc, n))?;
+    match value_computed(operation, loc, value_at(engine, loc), datum) {
+        Some(value) => {
+            end_alone(engine, out, call, assignment(loc, value))?;
             Ok(Ruled::Free)
         }
         None => report_overflow(engine, out, call),
@@ -465,7 +518,9 @@ pub(crate) fn act<S: Sink>(
     match effect {
         Effect::Obey(x) => obey_behind(engine, out, call, x),
         Effect::ExpandBehind(x, y) => expand_behind(engine, out, call, x, y),
-        Effect::Compute(operation, loc, n) => compute(engine, out, call, operation, loc, n),
+        Effect::Compute(operation, loc, datum) => {
+            compute(engine, out, call, operation, loc, datum)
+        }
         _ => {
             end_alone(engine, out, call, effect)?;
             Ok(Ruled::Free)

@@ -1,4 +1,5 @@
-// Readings that begin within another, end with a value, or report; those that put a token in front, or make a name `\relax`.
+// Readings that begin within another, end with a value, or report; those that put a token in front, make a name `\relax`, or have the
+// magnification checked.
 ghost use Rattle.std.specs.Prelude.{◌≡◌, ◌<◌, List, [], ◌∷◌, ◌++◌, IfOk, IfErr, OnOk, Some, None};
 ghost use Rattle.tex_defs.specs.Places.{World};
 ghost use Rattle.tex_defs.specs.declared.Meaning.TheVariants as means;
@@ -8,8 +9,8 @@ ghost use Rattle.plain_readings.specs.Readings.{Reading, Reads};
 ghost use Rattle.rows.specs.Readings.{Inner, Done};
 ghost use Rattle.reading_frames.specs.Stack.{asks_in};
 ghost use Rattle.reading_frames.specs.Weights.{IsReported};
-ghost use Rattle.plain_machine.specs.States.{Assigned};
-ghost use Rattle.plain_machine.specs.Plan.{inner_begun, done as plan_done, is_global as plain_global, noting, put_one, told};
+ghost use Rattle.plain_machine.specs.States.{Assigned, MagnificationSet};
+ghost use Rattle.plain_machine.specs.Plan.{inner_begun, done as plan_done, is_global as plain_global, is_magnification as plain_magnification, magnification_checked, magnification_set, noting, put_one, reported, told};
 ghost use Rattle.world_io.specs.Told.{FilesTold};
 ghost use Rattle.engine_state.specs.Book.{Book, with_work};
 ghost use Rattle.engine_state.specs.CutReadings.{CutsIn};
@@ -18,8 +19,9 @@ ghost use Rattle.engine_state.specs.Rules.{world_of, Went};
 ghost use Rattle.engine_state.specs.Steps.{asked, weight, IsFree, IsStep};
 ghost use Rattle.stomach.specs.Halting.{DoesRuleIn};
 
-use crate::effects::{give_meaning, is_global};
+use crate::effects::{give_meaning, is_global, set_number};
 use engine_state::{Broken, Engine, Ruled};
+use equivalents::Loc;
 use reading_frames::Opening;
 use rows::{Call, Kind, Value};
 use tex_defs::{Fatal, Meaning, Name, Token};
@@ -28,6 +30,12 @@ use world_io::Sink;
 
 /// The number of `\relax`.
 const RELAX: u16 = 1;
+
+/// The place of `\mag` among the integer parameters.
+const MAGNIFICATION: u8 = 17;
+
+/// The magnification that takes the place of one that is out of its range.
+const TRUE_SIZE: u16 = 1000;
 
 /// Begins a reading within the innermost one, with the last token or without one. No command is begun so.
 ///
@@ -146,4 +154,114 @@ pub(crate) fn relax(engine: &mut Engine, call: Call, name: Name) -> Result<(), B
     give_meaning(engine, name, Meaning::Prim(RELAX), global)?;
     engine.note()?;
     Ok(())
+}
+
+/// Whether a dimension may be magnified so.
+fn is_magnification(n: i32) -> bool
+    ensures { result ≡ plain_magnification n }
+{
+    1 <= n && n <= 32768
+}
+
+/// The magnification is reported, this one stands again in all groups and is set for good, and the innermost reading goes on.
+///
+/// # Errors
+/// There is no room for what the note brings, or a write failed: the engine stands for the moment before.
+fn correct_magnification<S: Sink>(
+    engine: &mut Engine,
+    out: &mut S,
+    report: Report,
+    mag: u16,
+) -> Result<Ruled, Broken>
+    requires idle { engine.old.input.making ≡ None }
+    requires uncalled { engine.old.call ≡ None }
+    ensures rule { IfOk result (λ ruled. (sizes : Sizes) (f : FilesTold) (book : Book) (r : Reading) (rs : List Reading) → Stands sizes engine.old (with_work (r ∷ rs) book) →
+        DoesRuleIn sizes (state_of engine.old (with_work (r ∷ rs) book)) engine.new (world_of f (S.told out.old) engine.old) (world_of f (S.told out.new) engine.new) (reported (page_of engine.old book) report (magnification_set mag (noting r))) ruled) }
+    ensures err { IfErr result (λ b. (sizes : Sizes) (f : FilesTold) (book : Book) (r : Reading) (rs : List Reading) → Stands sizes engine.old (with_work (r ∷ rs) book) →
+        CutsIn sizes (state_of engine.old (with_work (r ∷ rs) book)) engine.new (world_of f (S.told out.old) engine.old) (world_of f (S.told out.new) engine.new) (reported (page_of engine.old book) report (magnification_set mag (noting r))) b) }
+    ensures step { IfOk result (λ ruled. IsStep ruled → ⊥) }
+    ensures light { IfOk result (λ ruled. IsFree ruled → IsReported (asks_in engine.old.readings.frames []) → weight engine.new < weight engine.old) }
+    ensures idle { OnOk result (engine.new.input.making ≡ None) }
+{
+    if engine.report(out, report)? {
+        set_number(engine, Loc::Integer(MAGNIFICATION), i32::from(mag), true)?;
+        engine.mag_set = mag;
+        engine.note()?;
+        return Ok(Ruled::Free);
+    }
+    Ok(Ruled::Halted(Outcome::AtFatal(Fatal::HundredErrors)))
+}
+
+/// The magnification is set for good, and the innermost reading goes on.
+///
+/// # Errors
+/// There is no room for what the note brings: the engine stands for the moment before.
+fn set_magnification(engine: &mut Engine, mag: u16) -> Result<(), Broken>
+    requires uncalled { engine.old.call ≡ None }
+    ensures rule { OnOk result ((sizes : Sizes) (w : World) (book : Book) (r : Reading) (rs : List Reading) → Stands sizes engine.old (with_work (r ∷ rs) book) →
+        Went sizes (state_of engine.old (with_work (r ∷ rs) book)) engine.new w w (MagnificationSet mag ∷ noting r) 0) }
+    ensures err { IfErr result (λ b. (sizes : Sizes) (w : World) (book : Book) (r : Reading) (rs : List Reading) → Stands sizes engine.old (with_work (r ∷ rs) book) →
+        CutsIn sizes (state_of engine.old (with_work (r ∷ rs) book)) engine.new w w (MagnificationSet mag ∷ noting r) b) }
+    ensures light { OnOk result (IsReported (asks_in engine.old.readings.frames []) → weight engine.new < weight engine.old) }
+    ensures column { engine.new.in_line ≡ engine.old.in_line }
+    ensures idle { engine.new.input.making ≡ engine.old.input.making }
+{
+    engine.mag_set = mag;
+    engine.note()?;
+    Ok(())
+}
+
+/// The innermost reading goes on, with the note that what it asked for was done.
+///
+/// # Errors
+/// There is no room for what the note brings: the engine stands for the moment before.
+fn go_on(engine: &mut Engine) -> Result<(), Broken>
+    requires uncalled { engine.old.call ≡ None }
+    ensures rule { OnOk result ((sizes : Sizes) (w : World) (book : Book) (r : Reading) (rs : List Reading) → Stands sizes engine.old (with_work (r ∷ rs) book) →
+        Went sizes (state_of engine.old (with_work (r ∷ rs) book)) engine.new w w (noting r) 0) }
+    ensures err { IfErr result (λ b. (sizes : Sizes) (w : World) (book : Book) (r : Reading) (rs : List Reading) → Stands sizes engine.old (with_work (r ∷ rs) book) →
+        CutsIn sizes (state_of engine.old (with_work (r ∷ rs) book)) engine.new w w (noting r) b) }
+    ensures light { OnOk result (IsReported (asks_in engine.old.readings.frames []) → weight engine.new < weight engine.old) }
+    ensures column { engine.new.in_line ≡ engine.old.in_line }
+    ensures idle { engine.new.input.making ≡ engine.old.input.making }
+{
+    engine.note()?;
+    Ok(())
+}
+
+/// The magnification is checked, and the innermost reading goes on: where it isn't what was set for good, that stands again; one that is
+/// out of its range is reported, and 1000 taken. *TeX: The Program*, part 19 (`prepare_mag`).
+///
+/// # Errors
+/// There is no room for what the note brings, or a write failed: the engine stands for the moment before.
+pub(crate) fn magnify<S: Sink>(engine: &mut Engine, out: &mut S) -> Result<Ruled, Broken>
+    requires idle { engine.old.input.making ≡ None }
+    requires uncalled { engine.old.call ≡ None }
+    ensures rule { IfOk result (λ ruled. (sizes : Sizes) (f : FilesTold) (book : Book) (r : Reading) (rs : List Reading) → Stands sizes engine.old (with_work (r ∷ rs) book) →
+        DoesRuleIn sizes (state_of engine.old (with_work (r ∷ rs) book)) engine.new (world_of f (S.told out.old) engine.old) (world_of f (S.told out.new) engine.new) (magnification_checked (page_of engine.old book) (noting r)) ruled) }
+    ensures err { IfErr result (λ b. (sizes : Sizes) (f : FilesTold) (book : Book) (r : Reading) (rs : List Reading) → Stands sizes engine.old (with_work (r ∷ rs) book) →
+        CutsIn sizes (state_of engine.old (with_work (r ∷ rs) book)) engine.new (world_of f (S.told out.old) engine.old) (world_of f (S.told out.new) engine.new) (magnification_checked (page_of engine.old book) (noting r)) b) }
+    ensures step { IfOk result (λ ruled. IsStep ruled → ⊥) }
+    ensures light { IfOk result (λ ruled. IsFree ruled → IsReported (asks_in engine.old.readings.frames []) → weight engine.new < weight engine.old) }
+    ensures idle { OnOk result (engine.new.input.making ≡ None) }
+{
+    let n = engine.input.integer(MAGNIFICATION);
+    let mag_set = engine.mag_set;
+    if mag_set == 0 {
+        if is_magnification(n) {
+            set_magnification(engine, n as u16)?;
+            return Ok(Ruled::Free);
+        }
+        return correct_magnification(engine, out, Report::IllegalMagnification(n), TRUE_SIZE);
+    }
+    if n == i32::from(mag_set) {
+        go_on(engine)?;
+        return Ok(Ruled::Free);
+    }
+    correct_magnification(
+        engine,
+        out,
+        Report::IncompatibleMagnification(n, mag_set),
+        mag_set,
+    )
 }

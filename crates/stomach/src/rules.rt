@@ -20,7 +20,7 @@ ghost use Rattle.stomach.specs.Halting.{DoesRuleIn, DoesPlanIn, CutsPlanIn};
 
 use crate::define::define;
 use crate::effects::act;
-use crate::ends::{begin_inner, done, put, relax, tell};
+use crate::ends::{begin_inner, done, magnify, put, relax, tell};
 use crate::naming::make_name;
 use crate::obeying::hand_on;
 use engine_state::{Broken, Engine, Ruled, stops};
@@ -157,6 +157,7 @@ fn ask_rule<S: Sink>(engine: &mut Engine, out: &mut S, ask: Ask) -> Result<Ruled
             relax(engine, call, name)?;
             Ok(Ruled::Free)
         }
+        Ask::Magnifies => magnify(engine, out),
         Ask::Fetches(loc) => {
             engine.fetch(loc);
             Ok(Ruled::Free)

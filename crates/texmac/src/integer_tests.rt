@@ -269,12 +269,12 @@ fn numbers_out_of_range_are_reported(rt: HostRuntime) {
 /// Names of commands and numbers that are not built.
 const UNDEFINED: [Row; 2] = [
     (
-        b"\\showbox\\dimen\\skip\\muskip\\toks\\hsize\\baselineskip\\everypar\\end",
-        b"! Undefined control sequence.\nl.2\n! Undefined control sequence.\nl.2\n! Undefined control sequence.\nl.2\n! Undefined control sequence.\nl.2\n! Undefined control sequence.\nl.2\n! Undefined control sequence.\nl.2\n! Undefined control sequence.\nl.2\n! Undefined control sequence.\nl.2\n",
+        b"\\showbox\\toks\\toksdef\\everypar\\end",
+        b"! Undefined control sequence.\nl.2\n! Undefined control sequence.\nl.2\n! Undefined control sequence.\nl.2\n! Undefined control sequence.\nl.2\n",
         1,
     ),
     (
-        b"\\message{\\number\\hsize 7 ,\\number\\dimen\\count0 }\\end",
+        b"\\message{\\number\\toks 7 ,\\number\\everypar\\count0 }\\end",
         b"! Undefined control sequence.\nl.2\n! Undefined control sequence.\nl.2\n7,0\n",
         1,
     ),

@@ -17,6 +17,8 @@ mod integer_tests;
 #[cfg(test)]
 mod macro_tests;
 #[cfg(test)]
+mod measure_tests;
+#[cfg(test)]
 mod size_tests;
 #[cfg(test)]
 mod tests;

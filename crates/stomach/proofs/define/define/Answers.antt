@@ -1,10 +1,12 @@
-use Rattle.std.proofs.Common.{◌≡◌, ◌∙◌}
+use Rattle.std.proofs.Common.{◌≡◌, ◌∙◌, []}
+use Rattle.rows.specs.Readings.{Defines}
 use Rattle.reading_frames.specs.Sees.{kept_list_of}
 use Rattle.reading_frames.specs.Stack.{innermost_count}
 use Rattle.engine_state.specs.declared.broken.Broken.TheVariants as broken
 use Rattle.engine_state.proofs.Joining.{same_err, err_to, on_both}
 use Rattle.stomach.proofs.Defining.{kept_top, none_went, unpassed_in, unput_in, behind_went}
 use Rattle.stomach.proofs.FrameAsks.{innermost_own}
+use Rattle.stomach.proofs.RuleCloses.{closed_lighter}
 use Rattle.stomach.proofs.define.define.Goals as goal
 
 pub returns-in_err-pass_list-clause-err : goal.returns-in_err-pass_list-clause-err
@@ -31,3 +33,7 @@ pub returns-else-has_token-clause-rule : goal.returns-else-has_token-clause-rule
 returns-else-has_token-clause-rule c = let e = c.args.engine.now in let e1 = c.close_reading.new.self in let l = c.close_reading.ensures in
     λ sizes w book r rs st asks.
     none_went sizes e e1 book w r rs c.args.call c.args.name (l.stands sizes book r rs st) (l.state sizes book r rs st) (kept_list_of c.args.listed e.input.builds) c.if-has_token.ensures
+
+pub returns-else-has_token-clause-light : goal.returns-else-has_token-clause-light
+returns-else-has_token-clause-light c = let l = c.close_reading.ensures in
+    λ none asks. closed_lighter c.args.engine.now c.close_reading.new.self (Defines c.args.call c.args.name []) none asks tt l.same l.frames l.weight

@@ -1,5 +1,4 @@
-use Rattle.std.proofs.Common.{◌∷◌, subst, sym, rules, w32, FitsSigned}
-use Rattle.std.proofs.lemmas.Int.{to_z-of_z}
+use Rattle.std.proofs.Common.{◌∷◌, subst, sym}
 use Rattle.rows.specs.declared.command.Effect.{Effect}
 use Rattle.rows.specs.Readings.{Acts}
 use Rattle.plain_machine.specs.Plan.{acts}
@@ -42,18 +41,18 @@ returns-in-ExpandBehind-clause-err g c = let e = c.args.engine.now in let e2 = c
     (h sizes f book r rs st)) c.expand_behind.ensures.err
 
 pub returns-in-Compute-clause-rule : goal.returns-in-Compute-clause-rule
-returns-in-Compute-clause-rule g c = let e = c.args.engine.now in let e2 = c.compute.new.engine in let is = c.in-Compute.is in let value : FitsSigned w32 c.in-Compute.n = search rules in
+returns-in-Compute-clause-rule g c = let e = c.args.engine.now in let e2 = c.compute.new.engine in let is = c.in-Compute.is in
     ok_to c.compute.result
     (λ ruled h sizes f book r rs st asks.
     subst (λ (does : Effect). DoesRuleIn sizes (state_of e (with_work (r ∷ rs) book)) e2 (world_of f (g.S.Sink.told c.args.out.now) e) (world_of f (g.S.Sink.told c.compute.new.out) e2) (acts (page_of e book) c.args.call does) ruled) (sym is)
-    (h (subst IsSmall is (small_effect sizes e book r rs c.args.call c.args.effect st asks)) sizes f book r rs st)) (rw (to_z-of_z w32 c.in-Compute.n value) at c.compute.ensures.rule)
+    (h (subst IsSmall is (small_effect sizes e book r rs c.args.call c.args.effect st asks)) sizes f book r rs st)) c.compute.ensures.rule
 
 pub returns-in-Compute-clause-err : goal.returns-in-Compute-clause-err
-returns-in-Compute-clause-err g c = let e = c.args.engine.now in let e2 = c.compute.new.engine in let is = c.in-Compute.is in let value : FitsSigned w32 c.in-Compute.n = search rules in
+returns-in-Compute-clause-err g c = let e = c.args.engine.now in let e2 = c.compute.new.engine in let is = c.in-Compute.is in
     err_to c.compute.result
     (λ b h sizes f book r rs st asks.
     subst (λ (does : Effect). CutsIn sizes (state_of e (with_work (r ∷ rs) book)) e2 (world_of f (g.S.Sink.told c.args.out.now) e) (world_of f (g.S.Sink.told c.compute.new.out) e2) (acts (page_of e book) c.args.call does) b) (sym is)
-    (h (subst IsSmall is (small_effect sizes e book r rs c.args.call c.args.effect st asks)) sizes f book r rs st)) (rw (to_z-of_z w32 c.in-Compute.n value) at c.compute.ensures.err)
+    (h (subst IsSmall is (small_effect sizes e book r rs c.args.call c.args.effect st asks)) sizes f book r rs st)) c.compute.ensures.err
 
 pub returns-in-Compute-clause-light : goal.returns-in-Compute-clause-light
 returns-in-Compute-clause-light g c = ok_to c.compute.result (λ ruled h free asks. h free (Acts c.args.call c.args.effect) asks tt) c.compute.ensures.light

@@ -146,6 +146,47 @@ pub returns-in_ok-set_number-in-SetNumber-clause-stands : goal.returns-in_ok-set
 returns-in_ok-set_number-in-SetNumber-clause-stands g c = let n = c.in_ok-set_number-in-SetNumber.ensures in let p = c.put_after-in-SetNumber in let s = p.ensures in
     on_ok p.result (λ idle sizes book st. behind_stands sizes c.set_number.new.engine p.new.self book s.frames s.others s.store idle (n.stands sizes book st)) s.idle
 
+pub returns-in_err-set_glue-in-SetGlue-clause-err : goal.returns-in_err-set_glue-in-SetGlue-clause-err
+returns-in_err-set_glue-in-SetGlue-clause-err g c =
+    let e = c.args.engine.now in let e1 = c.set_glue.new.engine in let t = g.S.Sink.told c.args.out.now in let d = c.in-SetGlue in let is = c.is_global-global-in-SetGlue in
+    let n = c.in_err-set_glue-in-SetGlue in let r = c.from_residual-in_err-set_glue-in-SetGlue in
+    let column : e1.in_line ≡ e.in_line = search (rules, c.set_glue.ensures.only) in
+    rw d.is
+    (same_err r.result n.field-0.0 _ r.ensures.1 (λ small sizes f book more st.
+    set_cuts sizes e e1 book f t (λ (b : Bool). Set b d.loc (val.Skip d.glue) ∷ [])
+    is.result (is_global (page_of e book) c.args.call) (is.ensures book) column
+    n.field-0.0 more (n.ensures.err sizes (world_of f t e) book (behind_assignment e.after ++ more) st)))
+
+pub returns-in_ok-set_glue-in-SetGlue-clause-did : goal.returns-in_ok-set_glue-in-SetGlue-clause-did
+returns-in_ok-set_glue-in-SetGlue-clause-did g c =
+    let e = c.args.engine.now in let e1 = c.set_glue.new.engine in let t = g.S.Sink.told c.args.out.now in let d = c.in-SetGlue in let is = c.is_global-global-in-SetGlue in
+    let n = c.in_ok-set_glue-in-SetGlue.ensures in let p = c.put_after-in-SetGlue in
+    let column : e1.in_line ≡ e.in_line = search (rules, c.set_glue.ensures.only) in
+    let after : e1.after ≡ e.after = search (rules, c.set_glue.ensures.only) in
+    rw d.is
+    (on_ok p.result (λ h small sizes f book st.
+    behind_did sizes e e1 book f t (λ (b : Bool). Set b d.loc (val.Skip d.glue) ∷ [])
+    is.result (is_global (page_of e book) c.args.call) (is.ensures book) column
+    p.new.self p.ensures.others after (n.did small.0 small.1 sizes (world_of f t e) book st)
+    (h sizes (world_of f t e) book (counts_of sizes e1 book (n.stands sizes book st)))) p.ensures.did)
+
+pub returns-in_ok-set_glue-in-SetGlue-clause-err : goal.returns-in_ok-set_glue-in-SetGlue-clause-err
+returns-in_ok-set_glue-in-SetGlue-clause-err g c =
+    let e = c.args.engine.now in let e1 = c.set_glue.new.engine in let t = g.S.Sink.told c.args.out.now in let d = c.in-SetGlue in let is = c.is_global-global-in-SetGlue in
+    let n = c.in_ok-set_glue-in-SetGlue.ensures in let p = c.put_after-in-SetGlue in
+    let column : e1.in_line ≡ e.in_line = search (rules, c.set_glue.ensures.only) in
+    let after : e1.after ≡ e.after = search (rules, c.set_glue.ensures.only) in
+    rw d.is
+    (err_to p.result (λ b h small sizes f book more st.
+    behind_cuts sizes e e1 book f t (λ (b : Bool). Set b d.loc (val.Skip d.glue) ∷ [])
+    is.result (is_global (page_of e book) c.args.call) (is.ensures book) column
+    p.new.self p.ensures.others after (n.did small.0 small.1 sizes (world_of f t e) book st) b more
+    (h sizes (world_of f t e) book more (counts_of sizes e1 book (n.stands sizes book st)))) p.ensures.err)
+
+pub returns-in_ok-set_glue-in-SetGlue-clause-stands : goal.returns-in_ok-set_glue-in-SetGlue-clause-stands
+returns-in_ok-set_glue-in-SetGlue-clause-stands g c = let n = c.in_ok-set_glue-in-SetGlue.ensures in let p = c.put_after-in-SetGlue in let s = p.ensures in
+    on_ok p.result (λ idle sizes book st. behind_stands sizes c.set_glue.new.engine p.new.self book s.frames s.others s.store idle (n.stands sizes book st)) s.idle
+
 pub returns-in_err-give_meaning-in-Shorthand-clause-err : goal.returns-in_err-give_meaning-in-Shorthand-clause-err
 returns-in_err-give_meaning-in-Shorthand-clause-err g c =
     let e = c.args.engine.now in let e1 = c.give_meaning.new.engine in let t = g.S.Sink.told c.args.out.now in let d = c.in-Shorthand in let is = c.is_global-global-in-Shorthand in
@@ -217,7 +258,7 @@ pub returns-in_default-clause-did : goal.returns-in_default-clause-did
 returns-in_default-clause-did g c = let e = c.args.engine.now in let e1 = c.put_effect.new.engine in let t = g.S.Sink.told c.args.out.now in let o = c.in_default in
     on_ok c.put_effect.result (λ h small sizes f book st.
     did_still sizes (state_of e book) (state_of e1 book) e e1 f t (done_alone (page_of e book) c.args.call c.args.effect) c.put_effect.ensures.front.others.in_line
-    (subst (λ (ms : List Move). Did sizes (state_of e book) (state_of e1 book) (world_of f t e) (world_of f t e) ms) (sym (put_alone (page_of e book) c.args.call c.args.effect o.not-Show o.not-Let o.not-FutureLet o.not-SetNumber o.not-Shorthand o.not-Unassigned o.not-AfterGroup o.not-AfterAssignment))
+    (subst (λ (ms : List Move). Did sizes (state_of e book) (state_of e1 book) (world_of f t e) (world_of f t e) ms) (sym (put_alone (page_of e book) c.args.call c.args.effect o.not-Show o.not-Let o.not-FutureLet o.not-SetNumber o.not-SetGlue o.not-Shorthand o.not-Unassigned o.not-AfterGroup o.not-AfterAssignment))
     (h small sizes (world_of f t e) book (counts_of sizes e book st)))) c.put_effect.ensures.did
 
 pub returns-in_default-clause-err : goal.returns-in_default-clause-err
@@ -225,7 +266,7 @@ returns-in_default-clause-err g c = let e = c.args.engine.now in let e1 = c.put_
     err_to c.put_effect.result (λ b h small sizes f book more st.
     cuts_still sizes (state_of e book) e e1 book f t (done_alone (page_of e book) c.args.call c.args.effect ++ more) b c.put_effect.ensures.front.others.in_line
     (cuts_by sizes (state_of e book) e1 book (world_of f t e) (world_of f t e) (put_by (page_of e book) c.args.effect ++ more) (done_alone (page_of e book) c.args.call c.args.effect ++ more) b
-    (ap (λ (ms : List Move). ms ++ more) (put_alone (page_of e book) c.args.call c.args.effect o.not-Show o.not-Let o.not-FutureLet o.not-SetNumber o.not-Shorthand o.not-Unassigned o.not-AfterGroup o.not-AfterAssignment))
+    (ap (λ (ms : List Move). ms ++ more) (put_alone (page_of e book) c.args.call c.args.effect o.not-Show o.not-Let o.not-FutureLet o.not-SetNumber o.not-SetGlue o.not-Shorthand o.not-Unassigned o.not-AfterGroup o.not-AfterAssignment))
     (h sizes (world_of f t e) book more (counts_of sizes e book st)))) c.put_effect.ensures.err
 
 pub returns-in_default-clause-stands : goal.returns-in_default-clause-stands

@@ -7,6 +7,7 @@ use Rattle.engine_state.proofs.Counting.{counts_of}
 use Rattle.gullet.proofs.Expanding.{stayed}
 use Rattle.engine_state.proofs.Joining.{same_err}
 use Rattle.stomach.proofs.ActsEnding.{begun_cut, expanded_cut, expanded_rule, once_went, once_stays, once_halts, once_over, stayed_cut, stayed_rule, stayed_stands}
+use Rattle.stomach.proofs.Lighter.{expanded_lighter, once_expanded, stayed_lighter}
 use Rattle.stomach.proofs.effects.expand_behind.Goals as goal
 
 pub returns-in_err-begin-clause-err : goal.returns-in_err-begin-clause-err
@@ -56,3 +57,13 @@ returns-in_ok-put_one-in-Stays-clause-rule g c = let e = c.args.engine.now in le
     let st3 = stayed_stands sizes e e1 book r rs f (g.S.Sink.told c.args.out.now) is l.same.others.in_line e2 c.args.call c.args.x c.args.y begun fits b.same.others.in_line e3 (g.S.Sink.told c.expand_once.new.out) same silent stays now in
     stayed_rule sizes e e1 book r rs f (g.S.Sink.told c.args.out.now) is l.same.others.in_line e2 c.args.call c.args.x c.args.y begun fits b.same.others.in_line e3 (g.S.Sink.told c.expand_once.new.out) same silent stays now c.put_one.new.self p.ensures.frames p.ensures.others
     p.ensures.store p.ensures.idle (p.ensures.did sizes _ _ (counts_of sizes e3 _ st3) st3.idle)
+
+pub returns-in-Expanded-clause-light : goal.returns-in-Expanded-clause-light
+returns-in-Expanded-clause-light g c = let e = c.args.engine.now in let e1 = c.close_reading.new.self in let e2 = c.begin.new.self in let l = c.close_reading.ensures in let b = c.in_ok-begin.ensures in let n = c.in_ok-expand_once in
+    λ free asks. expanded_lighter e e1 e2 c.args.call c.args.x c.args.y c.requires.uncalled asks l.same l.frames b.same b.frames b.weight c.expand_once.new.engine
+    (n.ensures.light (once_expanded n.field-0 c.in-Expanded.is) b.weight)
+
+pub returns-in_ok-put_one-in-Stays-clause-light : goal.returns-in_ok-put_one-in-Stays-clause-light
+returns-in_ok-put_one-in-Stays-clause-light g c = let e = c.args.engine.now in let e1 = c.close_reading.new.self in let e2 = c.begin.new.self in let l = c.close_reading.ensures in let b = c.in_ok-begin.ensures in let n = c.in_ok-expand_once in let p = c.in_ok-put_one-in-Stays.ensures in
+    λ free asks. stayed_lighter e e1 e2 c.args.call c.args.x c.args.y c.requires.uncalled asks l.same l.frames b.same b.frames b.weight c.expand_once.new.engine c.put_one.new.self
+    (n.ensures.stays (stayed n.field-0 c.in-Stays.is)) p.frames p.light

@@ -79,4 +79,4 @@ returns-clause-rule g c = let e = c.args.engine.now in let e1 = c.put_back.new.s
 pub returns-then-branch-clause-light : goal.returns-then-branch-clause-light
 returns-then-branch-clause-light g c = let e = c.args.engine.now in let e1 = c.put_back.new.self in let e2 = c.insert.new.self in let e3 = c.report.new.self in let n = c.in_ok-note.ensures in
     λ free reported. told_light e e3 c.note.new.self c.requires.uncalled (frames_join e e1 e3 c.put_back.ensures.frames (frames_join e1 e2 e3 c.insert.ensures.frames c.report.ensures.frames))
-    (ap (λ (x : Stored). pending_weight x.pending) c.report.ensures.input ∙ (c.insert.ensures.light ∙ c.put_back.ensures.light)) c.note.ensures.call n.same.pending n.weight n.count reported
+    (ap (λ (x : Stored). pending_weight x.pending) c.report.ensures.input ∙ (c.insert.ensures.light ∙ c.put_back.ensures.light)) c.note.ensures.call n.same.pending n.weight n.frames reported

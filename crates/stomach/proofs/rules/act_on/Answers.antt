@@ -1,16 +1,20 @@
 use Rattle.std.proofs.Common.{[], ◌∷◌, refl, ap}
 use Rattle.rows.specs.declared.command.Effect.{Effect}
 use Rattle.plain_tokens.specs.Tokens.{character_codes}
+use Rattle.rows.specs.Readings.{ActsOn}
 use Rattle.reading_frames.specs.Sees.{kept_list_of}
 use Rattle.plain_machine.specs.Plan.{acts_on}
 use Rattle.plain_machine.specs.States.{Closed}
 use Rattle.plain_machine.proofs.Doing.{did_none}
 use Rattle.engine_state.specs.Book.{with_work}
 use Rattle.engine_state.specs.Stands.{page_of, state_of}
+use Rattle.engine_state.specs.declared.engine.Engine.{Engine}
+use Rattle.engine_state.specs.Steps.{pending_weight}
 use Rattle.engine_state.proofs.Joining.{same_err, ok_to, err_to}
 use Rattle.engine_state.proofs.CuttingReadings.{column_in, in_by, stands_in}
 use Rattle.engine_state.proofs.Standing.{only_frames}
 use Rattle.stomach.proofs.RuleCloses.{acts_else, closed_as, column_did, column_stands, name_free}
+use Rattle.stomach.proofs.Lighter.{closed_lighter_as}
 use Rattle.stomach.proofs.RuleHalts.{rules_by}
 use Rattle.stomach.proofs.rules.act_on.Goals.{in-Message+in_ok-write_message-in-Message, in-MakeName+in_ok-make_name-in-MakeName, in_default}
 use Rattle.stomach.proofs.rules.act_on.Goals as goal
@@ -50,4 +54,18 @@ returns-clause-rule g c = let e = c.args.engine.now in let e1 = c.match-effect.e
       | in_default w ↦ rw w.out-is (λ sizes f book r rs st.
           closed_as e1 e2 e w.engine-is k.stands k.state k.same sizes _ book r rs f _ _ [] _ (acts_else (page_of e book) c.args.call c.args.effect (kept_list_of c.args.listed e.input.builds) w.in_default.not-Message w.in_default.not-ErrorMessage w.in_default.not-MakeName)
           (did_none sizes (state_of e (with_work (r ∷ rs) book)) _) refl st)
+    ]
+
+pub returns-clause-light : goal.returns-clause-light
+returns-clause-light g c = let e = c.args.engine.now in let e1 = c.match-effect.engine in let e2 = c.close_reading.new.self in let k = c.close_reading.ensures in
+    λ free asks. elim c.match-effect.branch [
+      | in-Message+in_ok-write_message-in-Message w ↦
+          let n = w.write_message.new.self in
+          closed_lighter_as e e1 e2 n (ActsOn c.args.call c.args.effect []) w.engine-is c.requires.uncalled asks tt (only_frames e n w.write_message.ensures.only)
+          (ap (λ (x : Engine). pending_weight x.input.pending) w.write_message.ensures.only.same) k.same k.frames k.weight
+      | in-MakeName+in_ok-make_name-in-MakeName w ↦
+          closed_lighter_as e e1 e2 w.make_name.new.engine (ActsOn c.args.call c.args.effect []) w.engine-is c.requires.uncalled asks tt w.make_name.ensures.frames
+          w.in_ok-make_name-in-MakeName.ensures.light k.same k.frames k.weight
+      | in_default w ↦
+          closed_lighter_as e e1 e2 e (ActsOn c.args.call c.args.effect []) w.engine-is c.requires.uncalled asks tt (record { readings = refl; lists = refl; call = refl; calling = refl }) refl k.same k.frames k.weight
     ]

@@ -3,7 +3,7 @@ use Rattle.std.specs.Prelude.{Some}
 use Rattle.tex_defs.specs.declared.Token.{Token}
 use Rattle.rows.specs.Readings as reading
 use Rattle.reading_frames.specs.Weights.{IsReported}
-use Rattle.reading_frames.specs.declared.ask.Ask.TheVariants.{More, Inner, Done, Acts, ActsOn, Defines, Ends, Tells, Inserts, Puts, Relaxes, Fetches}
+use Rattle.reading_frames.specs.declared.ask.Ask.TheVariants.{More, Inner, Done, Acts, ActsOn, Defines, Ends, Tells, Inserts, Puts, Relaxes, Magnifies, Fetches}
 use Rattle.reading_frames.specs.Sees.{IsFetchedAt, kept_list_of}
 use Rattle.plain_machine.specs.States.{no_files}
 use Rattle.engine_state.specs.Book.{with_work}
@@ -146,7 +146,7 @@ returns-in-Fetches-clause-rule g c = let e = c.args.engine.now in let e' = c.fet
 
 pub returns-in-Fetches-clause-light : goal.returns-in-Fetches-clause-light
 returns-in-Fetches-clause-light g c free = let e = c.args.engine.now in let i = c.in-Fetches in let n = c.fetch.ensures in
-    noted_lighter e c.fetch.new.self c.requires.uncalled (n.same.others.call ∙ c.requires.uncalled) n.same.pending (n.weight (asked_bare e c.args.ask (Fetches i.loc) i.is c.requires.asks)) n.count
+    noted_lighter e c.fetch.new.self c.requires.uncalled (n.same.others.call ∙ c.requires.uncalled) n.same.pending (n.weight (asked_bare e c.args.ask (Fetches i.loc) i.is c.requires.asks)) n.frames
 
 pub returns-in-Fetches-clause-step : goal.returns-in-Fetches-clause-step
 returns-in-Fetches-clause-step g c = let e = c.args.engine.now in let i = c.in-Fetches in asked_steps e _ c.requires.uncalled (asked_here e c.args.ask (Fetches i.loc) i.is c.requires.asks)
@@ -226,6 +226,24 @@ pub returns-in-Inserts-clause-step : goal.returns-in-Inserts-clause-step
 returns-in-Inserts-clause-step g c = let e = c.args.engine.now in let n = c.tell-in-Inserts in let i = c.in-Inserts in
     free_steps n.result _ (asked_steps e _ c.requires.uncalled (asked_here e c.args.ask (Inserts i.token i.report i.back) i.is c.requires.asks)) n.ensures.step
 
+-- THE MAGNIFICATION IS CHECKED
+
+pub returns-in-Magnifies-clause-rule : goal.returns-in-Magnifies-clause-rule
+returns-in-Magnifies-clause-rule g c = let e = c.args.engine.now in let n = c.magnify in let i = c.in-Magnifies in
+    ok_to n.result (λ ruled h sizes f book. asked_rules e n.new.engine _ _ c.args.ask Magnifies ruled i.is c.requires.stands sizes f (λ b r rs st. h sizes f b r rs st) book) n.ensures.rule
+
+pub returns-in-Magnifies-clause-err : goal.returns-in-Magnifies-clause-err
+returns-in-Magnifies-clause-err g c = let e = c.args.engine.now in let n = c.magnify in let i = c.in-Magnifies in
+    err_to n.result (λ why h sizes f book. asked_cuts e n.new.engine _ _ c.args.ask Magnifies why i.is c.requires.stands sizes f (λ b r rs st. h sizes f b r rs st) book) n.ensures.err
+
+pub returns-in-Magnifies-clause-light : goal.returns-in-Magnifies-clause-light
+returns-in-Magnifies-clause-light g c = let e = c.args.engine.now in let n = c.magnify in let i = c.in-Magnifies in
+    ok_to n.result (λ ruled h free. h free (subst IsReported (sym (asked_bare e c.args.ask Magnifies i.is c.requires.asks)) tt)) n.ensures.light
+
+pub returns-in-Magnifies-clause-step : goal.returns-in-Magnifies-clause-step
+returns-in-Magnifies-clause-step g c = let e = c.args.engine.now in let n = c.magnify in let i = c.in-Magnifies in
+    free_steps n.result _ (asked_steps e _ c.requires.uncalled (asked_here e c.args.ask Magnifies i.is c.requires.asks)) n.ensures.step
+
 -- WHAT ELSE IS SAID
 
 pub returns-in-More-clause-light : goal.returns-in-More-clause-light
@@ -242,6 +260,9 @@ returns-in-ActsOn-clause-idle g c = c.act_on.ensures.idle
 
 pub returns-in-Tells-clause-idle : goal.returns-in-Tells-clause-idle
 returns-in-Tells-clause-idle g c = c.tell.ensures.idle
+
+pub returns-in-Magnifies-clause-idle : goal.returns-in-Magnifies-clause-idle
+returns-in-Magnifies-clause-idle g c = c.magnify.ensures.idle
 
 pub returns-in-Inserts-clause-idle : goal.returns-in-Inserts-clause-idle
 returns-in-Inserts-clause-idle g c = c.tell-in-Inserts.ensures.idle

@@ -1,5 +1,5 @@
 use Rattle.std.proofs.Common.{◌≡◌, ℕ, List, [], refl, sym, ap, subst, ◌∙◌, arith, Bool, false}
-use Rattle.std.specs.Prelude.{Option, Some, None}
+use Rattle.std.specs.Prelude.{Option, None}
 use Rattle.plain_tokens.specs.Printed.{Style}
 use Rattle.plain_tokens.specs.Puts.{Put}
 use Rattle.plain_tokens.specs.Pending.{Pending, bottom, all_puts}
@@ -33,7 +33,7 @@ first_tied i g p =
 -- the first state, by its parts
 first_at : (pending : Pending) (groups : Groups) (names strings : List (List ℕ)) (gathered : List (List Token)) (making : Option (List Token)) (style : Style) (quiet : Bool) (file : List ℕ) (job : Option (List ℕ)) →
     pending ≡ record bottom { next = job } → groups ≡ first_groups is_known → names ≡ primitive_names → strings ≡ [] → gathered ≡ [] → making ≡ None → style ≡ style_in (first_groups is_known).now primitive_names →
-    record { pending = pending; files = no_files; naming = false; groups = groups; names = names; strings = strings; macros = []; after = None; last = no_token; work = []; gathered = gathered; making = making; in_line = false; reports = 0; flawed = false; quiet = quiet; stopped = None; due = job_due style file job }
+    record { pending = pending; files = no_files; naming = false; groups = groups; names = names; strings = strings; macros = []; after = None; mag_set = 0; last = no_token; work = []; gathered = gathered; making = making; in_line = false; reports = 0; flawed = false; quiet = quiet; stopped = None; due = job_due style file job }
     ≡ first_state (first_groups is_known) quiet file job no_files
 first_at pending groups names strings gathered making style quiet file job a b c d e f g = rw (a, b, c, d, e, f, g) refl
 

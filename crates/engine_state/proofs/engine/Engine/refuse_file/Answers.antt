@@ -1,6 +1,5 @@
-use Rattle.std.proofs.Common.{◌≡◌, List, ℕ, refl}
+use Rattle.std.proofs.Common.{refl}
 use Rattle.std.specs.Prelude.{true}
-use Rattle.plain_state.specs.Reports.{missing_file_bytes}
 use Rattle.token_show.specs.Views.{style_of}
 use Rattle.engine_state.specs.Begins.{no_file_end}
 use Rattle.engine_state.specs.Rules.{counted}

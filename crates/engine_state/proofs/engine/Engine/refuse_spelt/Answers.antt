@@ -1,6 +1,4 @@
-use Rattle.std.proofs.Common.{◌≡◌, List, ℕ, refl}
 use Rattle.std.specs.Prelude.{true}
-use Rattle.plain_state.specs.Reports.{missing_file_bytes}
 use Rattle.input_state.specs.Stored.{spelt}
 use Rattle.token_show.specs.Views.{style_of}
 use Rattle.engine_state.specs.Begins.{no_file_end}
