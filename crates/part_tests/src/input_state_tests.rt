@@ -3,7 +3,7 @@
 ghost use Rattle.std.specs.Prelude.{◌≡◌, None};
 ghost use Rattle.input_state.specs.Callings.{NotCalling};
 
-use eqtb_save::{GroupKind, Loc, Val};
+use eqtb_save::{Glue, GroupKind, Loc, Val};
 use input_state::Input;
 use std::alloc::Global;
 use tex_defs::{Full, Meaning, Name, RegisterKind, Seen, Sizes, Token};
@@ -154,13 +154,37 @@ fn is_assigned(input: &mut Input) -> Result<bool, Full> {
     Ok(assigned && others)
 }
 
+// `{\skip1=1pt plus 2fil }`: whether it is that within the group and nothing behind it.
+fn is_glue_assigned(input: &mut Input) -> Result<bool, Full>
+    requires { input.old.call ≡ NotCalling }
+{
+    let loc = Loc::Register {
+        kind: RegisterKind::Skip,
+        no: 1,
+    };
+    let glue = Glue {
+        width: 65536,
+        stretch: 131072,
+        stretch_order: 1,
+        shrink: 0,
+        shrink_order: 0,
+    };
+    let none = input.value(loc);
+    input.open_group(GroupKind::Simple)?;
+    input.set_glue(loc, glue, false)?;
+    let inside = input.value(loc) == Val::Skip(glue);
+    input.close_group();
+    Ok(inside && input.value(loc) == none)
+}
+
 fn is_read_back(alloc: Global) -> bool {
     let Ok(mut input) = Input::new(alloc, &Sizes::DEFAULT, &[]) else {
         return false;
     };
+    let glue_assigned = is_glue_assigned(&mut input);
     let assigned = is_assigned(&mut input);
     input.close();
-    matches!(assigned, Ok(true))
+    matches!((glue_assigned, assigned), (Ok(true), Ok(true)))
 }
 
 #[test]

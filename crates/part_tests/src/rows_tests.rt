@@ -1,8 +1,10 @@
 //! What meanings stand for where a number is read, and what arithmetic comes to.
 
-use equivalents::{CodeKind, Loc};
+use equivalents::{CodeKind, Glue, Loc, Val};
 use rows::{
-    Bank, Internal, Operation, byte_of, computed, internal_of, is_dimension, is_mu, variable_of,
+    Bank, Datum, Internal, Operation, Stage, byte_of, computed, glue_in, glue_product,
+    glue_quotient, glue_sum, integer_of, internal_of, is_dimension, is_glue, is_mu, measured,
+    number_in, value_computed, value_stage, variable_of,
 };
 use tex_defs::{Meaning, RegisterKind};
 use tex_syntax::Report;
@@ -157,11 +159,14 @@ fn changed(meaning: Meaning<()>) -> Option<Loc> {
 }
 
 #[test]
-fn arithmetic_changes_integers(rt: HostRuntime) {
+fn arithmetic_changes_numbers_dimensions_and_glue(rt: HostRuntime) {
     let kind = RegisterKind::Count;
     let own = changed(Meaning::Register { kind, no: 7 });
     assert!(rt; own == Some(register(kind, 7)));
     assert!(rt; changed(Meaning::Prim(139)) == Some(Loc::Integer(54)));
+    assert!(rt; changed(Meaning::Prim(140)) == Some(Loc::Dimension(0)));
+    assert!(rt; changed(Meaning::Prim(178)) == Some(Loc::Glue(17)));
+    assert!(rt; changed(Meaning::Prim(179)).is_none());
     assert!(rt; changed(Meaning::CharGiven(65)).is_none());
 }
 
@@ -190,4 +195,93 @@ fn are_computed() -> bool {
 #[test]
 fn arithmetic_keeps_its_bounds(rt: HostRuntime) {
     assert!(rt; are_computed());
+}
+
+/// Glue of 1pt, with a stretch and a shrink and their orders.
+fn glue(stretch: i32, stretch_order: u8, shrink: i32, shrink_order: u8) -> Glue {
+    Glue {
+        width: 65536,
+        stretch,
+        stretch_order,
+        shrink,
+        shrink_order,
+    }
+}
+
+#[test]
+fn glue_is_computed_with(rt: HostRuntime) {
+    let summed = glue_sum(glue(131072, 1, -3, 0), glue(65536, 2, 1, 0));
+    let wanted = Glue {
+        width: 131072,
+        ..glue(65536, 2, -2, 0)
+    };
+    assert!(rt; summed == Some(wanted));
+    let tripled = glue_product(glue(2, 1, -3, 0), 3);
+    let thrice = Glue {
+        width: 196608,
+        ..glue(6, 1, -9, 0)
+    };
+    assert!(rt; tripled == Some(thrice));
+    let halved = Glue {
+        width: 32768,
+        ..glue(1, 1, -1, 0)
+    };
+    assert!(rt; glue_quotient(glue(2, 1, -3, 0), 2) == Some(halved));
+}
+
+/// A register of this kind, 16383pt there, doubled: the number that it comes to, if it is in bounds.
+fn doubled(kind: RegisterKind) -> Option<i32> {
+    let twice = value_computed(
+        Operation::Multiply,
+        register(kind, 0),
+        Val::Number(1073676288),
+        Datum::Number(2),
+    );
+    match twice {
+        Some(Val::Number(n)) => Some(n),
+        _ => None,
+    }
+}
+
+/// The width of `\skip0`, 1pt there, by 1pt more.
+fn advanced() -> Option<i32> {
+    let sum = value_computed(
+        Operation::Advance,
+        register(RegisterKind::Skip, 0),
+        Val::Skip(glue(0, 0, 0, 0)),
+        Datum::Glue(glue(1, 1, 0, 0)),
+    );
+    match sum {
+        Some(Val::Skip(glue)) => Some(glue.width),
+        _ => None,
+    }
+}
+
+#[test]
+fn products_of_dimensions_are_dimensions(rt: HostRuntime) {
+    assert!(rt; doubled(RegisterKind::Count) == Some(2147352576));
+    assert!(rt; doubled(RegisterKind::Dimen).is_none());
+    assert!(rt; advanced() == Some(131072));
+}
+
+/// What stands there is read so.
+fn stage_of(loc: Loc) -> u8 {
+    match value_stage(loc) {
+        Stage::Number => 0,
+        Stage::Dimension => 1,
+        Stage::Glue(false) => 2,
+        Stage::Glue(true) => 3,
+        _ => 4,
+    }
+}
+
+#[test]
+fn values_are_read_as_they_stand(rt: HostRuntime) {
+    assert!(rt; stage_of(Loc::Integer(0)) == 0 && stage_of(Loc::Dimension(0)) == 1);
+    assert!(rt; stage_of(Loc::Glue(14)) == 2 && stage_of(Loc::Glue(15)) == 3);
+    assert!(rt; is_glue(register(RegisterKind::Muskip, 1)) && !is_glue(Loc::Dimension(0)));
+    assert!(rt; number_in(Datum::Dimension(7, 0)) == 7 && number_in(Datum::Found(true)) == 0);
+    assert!(rt; glue_in(Datum::Glue(glue(1, 1, 0, 0))).stretch == 1);
+    assert!(rt; integer_of(Val::Skip(glue(0, 0, 0, 0))) == 65536);
+    assert!(rt; measured(1073741823) == Some(1073741823) && measured(-1073741824).is_none());
 }

@@ -1,8 +1,8 @@
 //! Optional keywords and dimensions, by their scanners alone.
 
 use equivalents::{Loc, Val};
-use rows::Keyword;
-use scan_dimens::{Ask, DimenAsk, DimenKind, DimenScan, Inner, KeywordScan};
+use rows::{Datum, DimenKind, Keyword, Value};
+use scan_dimens::{DimenAsk, DimenScan, Inner, KeywordAsk, KeywordScan};
 use tex_defs::{Meaning, Name, RegisterKind, Seen, Token};
 use tex_syntax::{Report, UnitTaken};
 
@@ -24,13 +24,13 @@ fn is_found() -> bool {
     let mut scan = KeywordScan::new(Keyword::By);
     scan.feed(other(b'B'));
     scan.feed(other(b'Y'));
-    matches!(scan.ask(), Ask::Done(true))
+    matches!(scan.ask(), KeywordAsk::Done(true))
 }
 
 /// The code of the token that goes back, and how many more are to follow.
 fn back(scan: &KeywordScan) -> Option<(u8, u8)> {
     match scan.ask() {
-        Ask::Puts(Token::Char { cat: _, code }, more) => Some((code, more)),
+        KeywordAsk::Puts(Token::Char { cat: _, code }, more) => Some((code, more)),
         _ => None,
     }
 }
@@ -47,7 +47,7 @@ fn is_given_back() -> bool {
     scan.told();
     let third = back(&scan);
     scan.told();
-    let ended = matches!(scan.ask(), Ask::Done(false));
+    let ended = matches!(scan.ask(), KeywordAsk::Done(false));
     first == Some((b'x', 2)) && second == Some((b'l', 1)) && third == Some((b'p', 0)) && ended
 }
 
@@ -176,15 +176,25 @@ fn is_internal() -> bool {
 fn is_magnified() -> bool {
     let mut scan = finite();
     scan.feed(other(b'1'));
-    scan.factored(1, false);
+    scan.feed_value(Value::Plain(Datum::Factor(1, false)));
     scan.feed(other(b't'));
     refuse(&mut scan, 2);
-    scan.found(true);
+    scan.feed_value(Value::Plain(Datum::Found(true)));
     let asked = matches!(scan.ask(), DimenAsk::Magnifies);
-    scan.magnified(2000);
+    scan.told();
+    let fetched = location(&scan) == Some(Loc::Integer(17));
+    scan.fetched(Val::Number(2000));
     scan.found(true);
     scan.feed(other(b';'));
-    asked && value(&scan) == Some((32768, 0, true))
+    asked && fetched && value(&scan) == Some((32768, 0, true))
+}
+
+/// Whether it ends with 0 where a list comes in place of the integer.
+fn is_stopped() -> bool {
+    let mut scan = finite();
+    scan.feed(other(b'1'));
+    scan.feed_value(Value::List);
+    value(&scan) == Some((0, 0, false))
 }
 
 #[test]
@@ -193,4 +203,26 @@ fn dimensions_have_their_reports(rt: HostRuntime) {
     assert!(rt; is_without_unit());
     assert!(rt; is_internal());
     assert!(rt; is_magnified());
+    assert!(rt; is_stopped());
+}
+
+/// A keyword and a dimension, at each of which a check came: one that isn't there, and 0.
+fn stopped() -> bool {
+    let mut keyword = KeywordScan::new(Keyword::By);
+    keyword.feed(other(b'b'));
+    keyword.stop();
+    let points = DimenKind {
+        mu: false,
+        infinite: false,
+    };
+    let mut dimension = DimenScan::new(points);
+    dimension.feed(other(b'-'));
+    dimension.stop();
+    matches!(keyword.ask(), KeywordAsk::Done(false))
+        && matches!(dimension.ask(), DimenAsk::Done(0, 0, false))
+}
+
+#[test]
+fn checks_end_keywords_and_dimensions(rt: HostRuntime) {
+    assert!(rt; stopped());
 }

@@ -1,7 +1,8 @@
-//! Glue, by its scanner alone, and its sums.
+//! Glue, by its scanner alone.
 
 use equivalents::{Glue, Loc, Val};
-use scan_glue::{GlueAsk, GlueScan, product, quotient, sum};
+use rows::{Datum, Value};
+use scan_glue::{GlueAsk, GlueScan};
 use tex_defs::{Meaning, Name, RegisterKind, Seen, Token};
 use tex_syntax::Report;
 
@@ -54,12 +55,12 @@ fn spelt() -> Option<Glue> {
     scan.measured(65536, 0);
     scan.found(true);
     scan.measured(131072, 1);
-    scan.found(true);
-    scan.measured(3, 0);
+    scan.feed_value(Value::Plain(Datum::Found(true)));
+    scan.feed_value(Value::Plain(Datum::Dimension(3, 0)));
     value(&scan)
 }
 
-/// Whether `-\\muskip3` is reported, and all that stands there negated.
+/// Whether `-\muskip3` is reported, and all that stands there negated.
 fn is_negated() -> bool {
     let mut scan = GlueScan::new(false);
     scan.feed(other(b'-'));
@@ -90,22 +91,13 @@ fn glue_is_scanned(rt: HostRuntime) {
 }
 
 #[test]
-fn glue_is_computed_with(rt: HostRuntime) {
-    let summed = sum(glue(131072, 1, -3, 0), glue(65536, 2, 1, 0));
-    let wanted = Glue {
-        width: 131072,
-        ..glue(65536, 2, -2, 0)
+fn a_check_ends_glue(rt: HostRuntime) {
+    let mut scan = GlueScan::new(false);
+    scan.feed(other(b'-'));
+    scan.stop();
+    let none = Glue {
+        width: 0,
+        ..glue(0, 0, 0, 0)
     };
-    assert!(rt; summed == Some(wanted));
-    let tripled = product(glue(2, 1, -3, 0), 3);
-    let thrice = Glue {
-        width: 196608,
-        ..glue(6, 1, -9, 0)
-    };
-    assert!(rt; tripled == Some(thrice));
-    let halved = Glue {
-        width: 32768,
-        ..glue(1, 1, -1, 0)
-    };
-    assert!(rt; quotient(glue(2, 1, -3, 0), 2) == Some(halved));
+    assert!(rt; value(&scan) == Some(none));
 }

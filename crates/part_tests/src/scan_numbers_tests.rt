@@ -3,7 +3,7 @@
 use equivalents::{Glue, Loc, Val};
 use reading_frames::{Opening, Readings};
 use rows::{Datum, Kind, Value};
-use scan_numbers::{Ask, NumberScan};
+use scan_numbers::{Ask, FactorAsk, FactorScan, NumberScan};
 use std::alloc::Global;
 use tex_defs::{Meaning, Name, RegisterKind, Seen, Token};
 use tex_syntax::Report;
@@ -166,4 +166,116 @@ fn is_fetched_in_stack(alloc: Global) -> bool {
 #[test]
 fn the_innermost_reading_takes_what_is_fetched(rt: HostRuntime) {
     assert!(rt; is_fetched_in_stack(rt.alloc()));
+}
+
+/// A character of category 12.
+fn other(code: u8) -> Seen {
+    let (cat, token) = (12, Token::Char { cat: 12, code });
+    let meaning = Meaning::Char { cat, code };
+    Seen { token, meaning }
+}
+
+/// What these characters come to before a fraction: the value, whether a point stands directly behind it, and whether the last is put back.
+fn factor(codes: &[u8]) -> Option<(i32, bool, bool)> {
+    let mut scan = FactorScan::new();
+    for code in codes {
+        scan.feed(other(*code));
+    }
+    match scan.ask() {
+        FactorAsk::Done(n, point, back) => Some((n, point, back)),
+        _ => None,
+    }
+}
+
+#[test]
+fn points_are_told_behind_decimal_digits(rt: HostRuntime) {
+    assert!(rt; factor(b"12.") == Some((12, true, true)));
+    assert!(rt; factor(b"12,") == Some((12, true, true)));
+    assert!(rt; factor(b"12p") == Some((12, false, true)));
+    assert!(rt; factor(b"'12.") == Some((10, false, true)));
+    assert!(rt; factor(b"12").is_none());
+}
+
+/// What a factor has come to.
+fn ended(scan: &FactorScan) -> Option<(i32, bool)> {
+    match scan.ask() {
+        FactorAsk::Done(n, point, false) => Some((n, point)),
+        _ => None,
+    }
+}
+
+/// The least register's value where `\count256` is the factor, 7, behind its report.
+fn factor_of_register() -> Option<(i32, bool)> {
+    let mut scan = FactorScan::new();
+    scan.feed(named(Meaning::Prim(41)));
+    scan.feed_value(Value::Plain(Datum::Number(256)));
+    scan.told();
+    scan.fetched(Val::Number(7));
+    ended(&scan)
+}
+
+/// A factor, an integer and a factor that hasn't begun, at each of which a check came: they end with 0.
+fn stopped() -> (Option<i32>, Option<(i32, bool)>, Option<(i32, bool)>) {
+    let mut number = NumberScan::new();
+    number.feed(MINUS);
+    number.stop();
+    let mut begun = FactorScan::new();
+    begun.feed(other(b'1'));
+    begun.stop();
+    let mut fresh = FactorScan::new();
+    fresh.stop();
+    (value(&number), ended(&begun), ended(&fresh))
+}
+
+#[test]
+fn factors_are_internal_or_end(rt: HostRuntime) {
+    assert!(rt; factor_of_register() == Some((7, false)));
+    assert!(rt; stopped() == (Some(0), Some((0, false)), Some((0, false))));
+}
+
+/// What the innermost reading asks for is an inner reading of this kind of dimension, with the last token.
+fn begins_dimension(readings: &Readings, mu: bool) -> bool {
+    match readings.ask() {
+        Some(reading_frames::Ask::Inner(Kind::Dimension(kind), true)) => {
+            kind.mu == mu && !kind.infinite
+        }
+        _ => false,
+    }
+}
+
+/// Whether the number 12 in the stack begins glue, its width and the factor of that, all with the digit 1.
+fn is_nested(alloc: Global) -> bool {
+    let Ok(mut readings) = Readings::new(alloc, 3) else {
+        return false;
+    };
+    if readings
+        .begin_with(Opening::Reads(Kind::Glue(true)), other(b'1'))
+        .is_err()
+    {
+        return false;
+    }
+    let glue = begins_dimension(&readings, true);
+    let mu = rows::DimenKind {
+        mu: true,
+        infinite: false,
+    };
+    if readings
+        .begin_with(Opening::Reads(Kind::Dimension(mu)), other(b'1'))
+        .is_err()
+    {
+        return false;
+    }
+    let dimension = matches!(
+        readings.ask(),
+        Some(reading_frames::Ask::Inner(Kind::Factor, true))
+    );
+    let factor = readings
+        .begin_with(Opening::Reads(Kind::Factor), other(b'1'))
+        .is_ok();
+    glue && dimension && factor && matches!(readings.ask(), Some(reading_frames::Ask::More(_)))
+}
+
+#[test]
+fn readings_begin_with_one_token(rt: HostRuntime) {
+    assert!(rt; is_nested(rt.alloc()));
 }

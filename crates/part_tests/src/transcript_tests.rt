@@ -181,6 +181,22 @@ static VALUE_REPORTS: [(Report, &[u8]); 8] = [
     ),
 ];
 
+// The reports of magnifications, as TeX words them.
+static MAGNIFICATION_REPORTS: [(Report, &[u8]); 3] = [
+    (
+        Report::IncompatibleMagnification(2000, 1000),
+        b"! Incompatible magnification (2000);\n the previous value will be retained (1000).\nl.5\n",
+    ),
+    (
+        Report::IllegalMagnification(0),
+        b"! Illegal magnification has been changed to 1000 (0).\nl.5\n",
+    ),
+    (
+        Report::IllegalMagnification(-1000),
+        b"! Illegal magnification has been changed to 1000 (-1000).\nl.5\n",
+    ),
+];
+
 // Whether they are written like this.
 fn are_reported(alloc: Global, tables: &Tables, reports: &[(Report, &[u8])]) -> bool
     requires { Knows tables.now.hash tables.now.pool.kept }
@@ -199,6 +215,15 @@ fn are_reported(alloc: Global, tables: &Tables, reports: &[(Report, &[u8])]) -> 
 fn groups_reported(rt: HostRuntime) {
     let reported = match Tables::new(rt.alloc(), b"foo") {
         Ok(tables) => are_reported(rt.alloc(), &tables, &GROUP_REPORTS),
+        Err(_) => false,
+    };
+    assert!(rt; reported);
+}
+
+#[test]
+fn magnifications_reported(rt: HostRuntime) {
+    let reported = match Tables::new(rt.alloc(), b"foo") {
+        Ok(tables) => are_reported(rt.alloc(), &tables, &MAGNIFICATION_REPORTS),
         Err(_) => false,
     };
     assert!(rt; reported);
