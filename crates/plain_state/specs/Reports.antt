@@ -168,9 +168,17 @@ abbrev pub macro_feed : {L : Type 0} → Meaning L → List ℕ
 macro_feed (means.Macro long outer list) = 10 ∷ []
 macro_feed m = []
 
+-- the end of what is shown: the tokens of a list, and then the number of the line that is being read
+abbrev pub shown_end : Style → (line : ℕ) → (ts : List Token) → List ℕ
+shown_end style line ts = printed_line style (list_text style ts ++ codes ".") ++ printed_line style (codes "l." ++ decimal line)
+
 -- What `\show` writes: on a fresh line the token and its meaning, of a macro the tokens of its list `ts` on a line of their own, and
 -- then the number of the line that is being read. Of other meanings `ts` is empty.
 abbrev pub shown_meaning_bytes : Style → (in_line : Bool) → (line : ℕ) → Token → Meaning Unit → (ts : List Token) → List ℕ
 shown_meaning_bytes style in_line line t m ts =
-    fresh_line in_line ++ (printed_all style (codes "> " ++ (shown_name style t ++ meaning_head style m)) ++ (macro_feed m
-    ++ (printed_line style (list_text style ts ++ codes ".") ++ printed_line style (codes "l." ++ decimal line))))
+    fresh_line in_line ++ (printed_all style (codes "> " ++ (shown_name style t ++ meaning_head style m)) ++ (macro_feed m ++ shown_end style line ts))
+
+-- What `\showthe` writes: on a fresh line the text of a value, or the tokens `ts` of its list, and then the number of the line that is being
+-- read. A value with a list has no text, and another no list.
+abbrev pub shown_value_bytes : Style → (in_line : Bool) → (line : ℕ) → (text : List ℕ) → (ts : List Token) → List ℕ
+shown_value_bytes style in_line line text ts = fresh_line in_line ++ (printed_all style (codes "> " ++ text) ++ shown_end style line ts)

@@ -12,7 +12,7 @@ pub data Item : Type 0 where
   Later : Token → Item
   Gap : Item
 
--- a list of its own, or that of the macro with this number, which other parts may hold too
+-- a list of its own, or the list with this number, a macro's or a location's, which other parts may hold too
 pub data Whole : Type 0 where
   Own : List Token → Whole
   Macro : ℕ → Whole
@@ -57,6 +57,10 @@ call_put number ts arguments = record { list = Macro number; arguments = argumen
 -- a list of these tokens, none of them read
 abbrev pub token_put : List Token → Put
 token_put ts = record { list = Own ts; arguments = []; items = map Text ts }
+
+-- the list with this number as it stands, none of it read
+abbrev pub list_put : ℕ → List Token → Put
+list_put number ts = record { list = Macro number; arguments = []; items = map Text ts }
 
 -- a list in front; one without items is none
 abbrev pub put_top : Put → List Item → List Put → List Put

@@ -7,7 +7,8 @@ ghost use Rattle.row_frames.specs.Data.{values};
 use crate::data::{Data, location, name, token};
 use equivalents::Loc;
 use rows::{
-    Action, Call, Datum, Effect, Head, Shorthand, byte_of, glue_in, is_glue, number_in, row_of,
+    Action, Call, Datum, Effect, Head, Shorthand, byte_of, glue_in, is_glue, is_list, number_in,
+    row_of,
 };
 
 /// A mathematical character's code; another number counts as 0.
@@ -17,21 +18,49 @@ fn math_code_of(n: i32) -> u16
     if 0 <= n && n <= 32767 { n as u16 } else { 0 }
 }
 
-/// A number that stands for itself, or what stands at a location.
+/// A number that stands for itself, or what stands at a location: a list of tokens as it is, another value as its text.
 fn value_made(datum: Datum) -> Effect
     ensures { result ≡ effects.value_made datum }
 {
     match datum {
-        Datum::At(loc) => Effect::MakeValue(loc),
+        Datum::At(loc) => {
+            if is_list(loc) {
+                Effect::PutList(loc)
+            } else {
+                Effect::MakeValue(loc)
+            }
+        }
         _ => Effect::MakeNumber(number_in(datum)),
     }
 }
 
-/// A location gets what was read, as glue or as a number, as what stands there is.
+/// The same, which is shown.
+fn value_shown(datum: Datum) -> Effect
+    ensures { result ≡ effects.value_shown datum }
+{
+    match datum {
+        Datum::At(loc) => Effect::ShowValue(loc),
+        _ => Effect::ShowNumber(number_in(datum)),
+    }
+}
+
+/// A location gets the list of another one, or the list that was read last.
+fn list_to(loc: Loc, datum: Datum) -> Effect
+    ensures { result ≡ effects.list_to loc datum }
+{
+    match datum {
+        Datum::At(from) => Effect::ShareList(loc, from),
+        _ => Effect::SetList(loc),
+    }
+}
+
+/// A location gets what was read, as a list, as glue or as a number, as what stands there is.
 fn set_to(loc: Loc, datum: Datum) -> Effect
     ensures { result ≡ effects.set_to loc datum }
 {
-    if is_glue(loc) {
+    if is_list(loc) {
+        list_to(loc, datum)
+    } else if is_glue(loc) {
         Effect::SetGlue(loc, glue_in(datum))
     } else {
         Effect::SetNumber(loc, number_in(datum))
@@ -50,6 +79,8 @@ fn comes_to(action: Action, read: &Data) -> Effect
         Action::Message => Effect::Message,
         Action::ErrorMessage => Effect::ErrorMessage,
         Action::Show => Effect::Show(token(first)),
+        Action::ShowValue => value_shown(first),
+        Action::ChangeCase(upper) => Effect::ChangeCase(upper),
         Action::Define => Effect::Nothing,
         Action::DefineGlobally => Effect::Nothing,
         Action::Let => Effect::Let(name(first), token(second)),

@@ -11,12 +11,14 @@ ghost use Rattle.row_frames.specs.Data.{values};
 use crate::data::{Data, location, name};
 use rows::{
     Bank, Call, Complaint, Datum, DimenKind, Got, Head, Internal, Kind, Met, Next, Note, Prefix,
-    Stage, Start, Value, byte_of, find_row, internal_of, number_in, value_stage, variable_of,
+    Stage, Start, Value, byte_of, find_row, list_of, number_in, value_of, value_stage, variable_of,
 };
 use tex_defs::{Frozen, Meaning, Name, Seen, Token};
 use tex_syntax::{Report, Want};
 
-/// The numbers of the primitives `\long`, `\outer`, `\global`, `\def`, `\xdef` and `\read`.
+/// The numbers of the primitives `\relax`, `\long`, `\outer`, `\global`, `\def`, `\xdef`, `\read` and `\the`.
+const RELAX: u16 = 1;
+
 const LONG: u16 = 23;
 
 const OUTER: u16 = 24;
@@ -28,6 +30,8 @@ const DEF: u16 = 26;
 const XDEF: u16 = 29;
 
 const READ: u16 = 53;
+
+const THE: u16 = 62;
 
 /// The first parameter; the parameters are the last primitives.
 const FIRST_PARAMETER: u16 = 85;
@@ -173,28 +177,51 @@ fn number_of(head: Head) -> u16
     }
 }
 
-/// The token can't be used behind this command.
-fn unusable(call: Call, x: Seen) -> Note
-    ensures { result ≡ stages.unusable call x }
+/// The token can't be used behind the command of this number.
+fn unusable_behind(number: u16, x: Seen) -> Note
+    ensures { result ≡ stages.unusable_behind number x }
 {
-    Note::Tells(Report::CantUseAfter(x.meaning, number_of(call.head)), false)
+    Note::Tells(Report::CantUseAfter(x.meaning, number), false)
 }
 
 /// What arithmetic changes.
 fn variable(call: Call, x: Seen) -> Met
     ensures { result ≡ stages.on_token stage.Variable call x }
 {
-    let refused = Met::Notes(unusable(call, x), Next::Unassigned(call));
+    let note = unusable_behind(number_of(call.head), x);
+    let refused = Met::Notes(note, Next::Unassigned(call));
     standing(refused, variable_of(x.meaning))
 }
 
-/// What stands for a number, a dimension or glue; another token counts as 0.
+/// What stands for a number, a dimension, glue or a list of tokens; another token counts as 0, and the report names `\the`.
 fn internal(call: Call, x: Seen) -> Met
     ensures { result ≡ stages.on_token stage.InternalValue call x }
 {
     let zero = Next::Takes(Datum::Number(0));
-    let refused = Met::Notes(unusable(call, x), zero);
-    standing(refused, internal_of(x.meaning))
+    let refused = Met::Notes(unusable_behind(THE, x), zero);
+    standing(refused, value_of(x.meaning))
+}
+
+/// Whether it means `\relax`.
+fn means_relax(meaning: Meaning<()>) -> bool
+    ensures { result ≡ names.means_relax meaning }
+{
+    match meaning {
+        Meaning::RelaxMarked => true,
+        Meaning::Prim(number) => number == RELAX,
+        _ => false,
+    }
+}
+
+/// A list of tokens that stands at a location; another token begins a balanced text, once no `\relax` comes.
+fn token_list(call: Call, x: Seen) -> Met
+    ensures { result ≡ stages.on_token stage.TokenList call x }
+{
+    if means_relax(x.meaning) {
+        return Met::Skips(call);
+    }
+    let text = Met::Begins(Kind::Text(call.name, false));
+    standing(text, list_of(x.meaning))
 }
 
 /// The number of a register or of a character; one out of its range is reported, and the location is that of 0.
@@ -372,6 +399,7 @@ pub fn on_token(stage: Stage, call: Call, x: Seen) -> Met
         Stage::NewName => new_name(call, x),
         Stage::Variable => variable(call, x),
         Stage::InternalValue => internal(call, x),
+        Stage::TokenList => token_list(call, x),
         Stage::LetEquals => let_equals(call, x),
         Stage::Space => {
             if is_space(x) {
@@ -394,6 +422,7 @@ fn on_datum(stage: Stage, datum: Datum) -> Got
     match stage {
         Stage::NumberTo(greatest, complaint) => ranged(complaint, greatest, number_in(datum)),
         Stage::NumberUpTo(greatest) => bounded(greatest, number_in(datum)),
+        Stage::TokenList => Got::Takes(Datum::Number(0)),
         _ => Got::Takes(datum),
     }
 }
@@ -449,6 +478,6 @@ pub fn start(stage: Stage, call: Call, read: &Data) -> Start
         Stage::MacroText(expanded) => {
             Start::Begins(Kind::Definition(name(read.first()), expanded))
         }
-        Stage::Prefixes(_) => Start::Looks(Want::Command),
+        Stage::TokenList | Stage::Prefixes(_) => Start::Looks(Want::Command),
     }
 }

@@ -140,6 +140,7 @@ fn look(stage: Stage, call: Call, want: Want, x: Seen) -> Turn
         Met::Notes(note, next) => Turn::Stays(Kept::Noting(note, next), note_due(note, x)),
         Met::Retries(note) => Turn::Stays(Kept::Retrying(call, want, note), note_due(note, x)),
         Met::Numbers(bank) => { Turn::Stays(Kept::Numbered(bank), Ask::Inner(Kind::Integer, None)) }
+        Met::Begins(kind) => Turn::Stays(Kept::Within(kind), Ask::Inner(kind, Some(x))),
         Met::Turns(call) => Turn::Turns(call),
     }
 }

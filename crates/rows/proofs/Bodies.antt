@@ -98,6 +98,15 @@ Fits (MacroText expanded) (Definition n whole) = Unit {0}
 Fits (MacroText expanded) k = ⊥
 Fits s k = Unit {0}
 
+-- a stage whose list is a macro's begins no reading with a token
+abbrev FitsMet : Stage → Met → Type 0
+FitsMet (MacroText expanded) (met.Begins k) = ⊥
+FitsMet s m = Unit {0}
+
+token_fits : (s : Stage) (c : Call) (x : Seen) → FitsMet s (on_token s c x)
+token_fits (MacroText expanded) c x = tt
+token_fits s c x = tt
+
 -- the value for which a stage waits
 abbrev NotDefines : Got → Type 0
 NotDefines got.Defines = ⊥
@@ -152,9 +161,13 @@ numbers_more y bank [] = tt
 numbers_more y bank (Val v ts ∷ fed) = valued_more y (numbered_by bank v) ts fed
 numbers_more y bank (z ∷ fed) = tt
 
+met_fits : (s : Stage) (k : Kind) → FitsMet s (met.Begins k) → Fits s k
+met_fits (MacroText expanded) k fits = absurd fits
+met_fits s k fits = tt
+
 module _ (s : Stage) (c : Call) (want : Want) (x : Seen) where
   abbrev Met_of : Met → List Fed → Outcome
-  Met_of m fed = met_with (Tok x) m (λ d. looks s d want fed) (λ n. again s c want n fed) fed
+  Met_of m fed = met_with s (Tok x) m (λ d. looks s d want fed) (λ n. again s c want n fed) fed
 
   met_first : (m : Met) → Follows (Tok x) (More want) (Met_of m [])
   met_first (met.Takes d) = tt
@@ -164,24 +177,26 @@ module _ (s : Stage) (c : Call) (want : Want) (x : Seen) where
   met_first (met.Notes n m) = due_plain n
   met_first (met.Retries n) = due_plain n
   met_first (met.Numbers bank) = tt
+  met_first (met.Begins k) = tt
   met_first (met.Turns d) = tt
 
-  met_more : (y : Fed) (m : Met) (fed : List Fed) → ((d : Call) → Extends y (looks s d want fed) (looks s d want (fed ++ y ∷ []))) →
+  met_more : (y : Fed) (m : Met) → FitsMet s m → (fed : List Fed) → ((d : Call) → Extends y (looks s d want fed) (looks s d want (fed ++ y ∷ []))) →
       ((n : Note) → Extends y (again s c want n fed) (again s c want n (fed ++ y ∷ []))) → Extends y (Met_of m fed) (Met_of m (fed ++ y ∷ []))
-  met_more y (met.Takes d) fed h i = refl
-  met_more y met.Passes fed h i = refl
-  met_more y met.Leaves fed h i = refl
-  met_more y (met.Skips d) fed h i = h d
-  met_more y (met.Notes n m) fed h i = noted_more y n m fed
-  met_more y (met.Retries n) fed h i = i n
-  met_more y (met.Numbers bank) fed h i = numbers_more y bank fed
-  met_more y (met.Turns d) fed h i = refl
+  met_more y (met.Takes d) fits fed h i = refl
+  met_more y met.Passes fits fed h i = refl
+  met_more y met.Leaves fits fed h i = refl
+  met_more y (met.Skips d) fits fed h i = h d
+  met_more y (met.Notes n m) fits fed h i = noted_more y n m fed
+  met_more y (met.Retries n) fits fed h i = i n
+  met_more y (met.Numbers bank) fits fed h i = numbers_more y bank fed
+  met_more y (met.Begins k) fits fed h i = inner_more y s k (met_fits s k fits) fed
+  met_more y (met.Turns d) fits fed h i = refl
 
 mutual
   looks_more : (y : Fed) (s : Stage) (c : Call) (want : Want) (fed : List Fed) → Extends y (looks s c want fed) (looks s c want (fed ++ y ∷ []))
   looks_more (Tok x) s c want [] = met_first s c want x (on_token s c x)
   looks_more y s c want [] = tt
-  looks_more y s c want (Tok x ∷ fed) = met_more s c want x y (on_token s c x) fed (λ d. looks_more y s d want fed) (λ n. again_more y s c want n fed)
+  looks_more y s c want (Tok x ∷ fed) = met_more s c want x y (on_token s c x) (token_fits s c x) fed (λ d. looks_more y s d want fed) (λ n. again_more y s c want n fed)
   looks_more y s c want (z ∷ fed) = tt
 
   again_more : (y : Fed) (s : Stage) (c : Call) (want : Want) (n : Note) (fed : List Fed) → Extends y (again s c want n fed) (again s c want n (fed ++ y ∷ []))

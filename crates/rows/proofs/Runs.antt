@@ -1,5 +1,5 @@
 -- A law of rows is proved once, by induction over the stages: it holds of whatever a row asks for, where it holds of what a stage may ask for.
-use Rattle.std.proofs.Common.{◌≡◌, ◌<◌, Bool, true, false, List, [], ◌∷◌, ◌++◌, refl, sym, subst, arith}
+use Rattle.std.proofs.Common.{◌≡◌, Bool, true, false, List, [], ◌∷◌, ◌++◌, refl, sym, subst, arith}
 use Rattle.tex_defs.specs.declared.Token.{Token}
 use Rattle.tex_defs.specs.declared.Name.{Name}
 use Rattle.tex_defs.specs.declared.Seen.{Seen}
@@ -26,14 +26,12 @@ use Rattle.rows.specs.declared.command.Effect.TheVariants as effect
 use Rattle.rows.specs.Readings.{Fed, Tok, Val, Told, Ask, More, Inner, Acts, ActsOn, Defines, Ends}
 use Rattle.rows.specs.Table.{stages_of, value_stage}
 use Rattle.rows.specs.Stages.{start, value_kind, on_token, on_value, numbered_by, name, location}
+use Rattle.rows.proofs.Tokens.{IsLow, MetLow, token_low}
 use Rattle.rows.specs.Effects.{effect_of, as_definition}
 use Rattle.rows.specs.Run.{Outcome, Asks, Takes, Passes, Gathers, Makes, Turns, comes, due, noted, valued, inner, begins, numbers, met_with, looks, again, started, behind, run, no_turn, turned, row}
-use Rattle.rows.specs.Laws.{is_told, rank}
+use Rattle.rows.specs.Laws.{is_told}
 
 -- the inner readings that stages begin are of a low rank
-abbrev pub IsLow : Kind → Type 0
-IsLow k = rank k < 1
-
 abbrev pub StartsLow : Start → Type 0
 StartsLow (Looks want) = Unit {0}
 StartsLow (Begins k) = IsLow k
@@ -108,22 +106,23 @@ module _
     numbers_fits bank (Val v ts ∷ fed) = valued_fits (numbered_by bank v) ts fed
     numbers_fits bank (y ∷ fed) = end _
 
-    met_fits : (x : Seen) (m : Met) (skipped : Call → Outcome) (retried : Note → Outcome) (fed : List Fed) →
-        ((c : Call) → Fits (is_told false fed) (skipped c)) → ((n : Note) → Fits (is_told false fed) (retried n)) → Fits (is_told false fed) (met_with (Tok x) m skipped retried fed)
-    met_fits x (met.Takes d) skipped retried fed h i = (false, refl)
-    met_fits x met.Passes skipped retried fed h i = (false, refl)
-    met_fits x met.Leaves skipped retried fed h i = (false, refl)
-    met_fits x (met.Skips c) skipped retried fed h i = h c
-    met_fits x (met.Notes n m) skipped retried fed h i = noted_fits n m fed
-    met_fits x (met.Retries n) skipped retried fed h i = i n
-    met_fits x (met.Numbers bank) skipped retried fed h i = numbers_fits bank fed
-    met_fits x (met.Turns c) skipped retried fed h i = (false, refl)
+    met_fits : (s : Stage) (x : Seen) (m : Met) → MetLow m → (skipped : Call → Outcome) (retried : Note → Outcome) (fed : List Fed) →
+        ((c : Call) → Fits (is_told false fed) (skipped c)) → ((n : Note) → Fits (is_told false fed) (retried n)) → Fits (is_told false fed) (met_with s (Tok x) m skipped retried fed)
+    met_fits s x (met.Takes d) low skipped retried fed h i = (false, refl)
+    met_fits s x met.Passes low skipped retried fed h i = (false, refl)
+    met_fits s x met.Leaves low skipped retried fed h i = (false, refl)
+    met_fits s x (met.Skips c) low skipped retried fed h i = h c
+    met_fits s x (met.Notes n m) low skipped retried fed h i = noted_fits n m fed
+    met_fits s x (met.Retries n) low skipped retried fed h i = i n
+    met_fits s x (met.Numbers bank) low skipped retried fed h i = numbers_fits bank fed
+    met_fits s x (met.Begins k) low skipped retried fed h i = inner_fits s k low fed
+    met_fits s x (met.Turns c) low skipped retried fed h i = (false, refl)
 
     mutual
       looks_fits : (s : Stage) (c : Call) (want : Want) (b : Bool) (fed : List Fed) → Fits (is_told b fed) (looks s c want fed)
       looks_fits s c want b [] = more b want
       looks_fits s c want b (Tok x ∷ fed) =
-          met_fits x (on_token s c x) (λ d. looks s d want fed) (λ n. again s c want n fed) fed (λ d. looks_fits s d want false fed) (λ n. again_fits s c want n fed)
+          met_fits s x (on_token s c x) (token_low s c x) (λ d. looks s d want fed) (λ n. again s c want n fed) fed (λ d. looks_fits s d want false fed) (λ n. again_fits s c want n fed)
       looks_fits s c want b (y ∷ fed) = end _
 
       again_fits : (s : Stage) (c : Call) (want : Want) (n : Note) (fed : List Fed) → Fits (is_told false fed) (again s c want n fed)

@@ -10,7 +10,7 @@ use Rattle.rows.specs.declared.command.Shorthand.TheVariants as shorthand
 use Rattle.rows.specs.declared.command.Effect.{Effect}
 use Rattle.rows.specs.declared.command.Effect.TheVariants as effect
 use Rattle.rows.specs.declared.command.Call.{Call}
-use Rattle.rows.specs.Internal.{byte_of, is_glue}
+use Rattle.rows.specs.Internal.{byte_of, is_list, is_glue}
 use Rattle.rows.specs.Arithmetic.{number_in, glue_in}
 use Rattle.rows.specs.Tokens.{is_at_most}
 use Rattle.rows.specs.Stages.{datum_at, number, name, token_read, location}
@@ -20,14 +20,23 @@ use Rattle.rows.specs.Table.{action_of}
 abbrev pub math_code_of : ℤ → ℕ
 math_code_of n = if is_at_most 32767 n then nat_abs n else 0
 
--- a number that stands for itself, or what stands at a location
+-- a number that stands for itself, or what stands at a location: a list of tokens as it is, another value as its text
 abbrev pub value_made : Datum → Effect
-value_made (datum.At l) = effect.MakeValue l
+value_made (datum.At l) = if is_list l then effect.PutList l else effect.MakeValue l
 value_made d = effect.MakeNumber (number_in d)
 
--- a location gets what was read, as glue or as a number, as what stands there is
+abbrev pub value_shown : Datum → Effect
+value_shown (datum.At l) = effect.ShowValue l
+value_shown d = effect.ShowNumber (number_in d)
+
+-- the list of another location, or else the one that was read last
+abbrev pub list_to : Loc → Datum → Effect
+list_to l (datum.At m) = effect.ShareList l m
+list_to l d = effect.SetList l
+
+-- a location gets what was read, as a list, as glue or as a number, as what stands there is
 abbrev pub set_to : Loc → Datum → Effect
-set_to l d = if is_glue l then effect.SetGlue l (glue_in d) else effect.SetNumber l (number_in d)
+set_to l d = if is_list l then list_to l d else if is_glue l then effect.SetGlue l (glue_in d) else effect.SetNumber l (number_in d)
 
 abbrev pub comes_to : Action → List Datum → Effect
 comes_to action.Nothing ds = effect.Nothing
@@ -35,6 +44,8 @@ comes_to action.Obey ds = effect.Obey (token_read 0 ds)
 comes_to action.Message ds = effect.Message
 comes_to action.ErrorMessage ds = effect.ErrorMessage
 comes_to action.Show ds = effect.Show (token_read 0 ds)
+comes_to action.ShowValue ds = value_shown (datum_at 0 ds)
+comes_to (action.ChangeCase upper) ds = effect.ChangeCase upper
 comes_to action.Define ds = effect.Nothing
 comes_to action.DefineGlobally ds = effect.Nothing
 comes_to action.Let ds = effect.Let (name 0 ds) (token_read 1 ds)

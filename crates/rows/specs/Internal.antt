@@ -83,6 +83,39 @@ internal_of (means.Register kind n) = Some (internal.At (loc.Register kind n))
 internal_of (means.Prim n) = internal_primitive n
 internal_of m = None
 
+-- LISTS OF TOKENS: the registers of `\toks` and the last eight parameters
+
+abbrev pub first_list : ℕ
+first_list = 179
+
+abbrev pub last_list : ℕ
+last_list = 186
+
+abbrev pub list_parameter : ℕ → Option Internal
+list_parameter n = if is_between first_list last_list n then Some (internal.At (loc.Tokens (n - first_list))) else None
+
+abbrev pub list_primitive : ℕ → Option Internal
+list_primitive n = if n == 45 then Some (internal.Numbered (bank.Registers register.Toks)) else list_parameter n
+
+abbrev pub list_of : Meaning Unit → Option Internal
+list_of (means.Register register.Toks n) = Some (internal.At (loc.Register register.Toks n))
+list_of (means.Prim n) = list_primitive n
+list_of m = None
+
+-- the first of the two that is there
+abbrev pub or_else : Option Internal → Option Internal → Option Internal
+or_else None found = found
+or_else (Some i) found = Some i
+
+-- what stands behind `\the`
+abbrev pub value_of : Meaning Unit → Option Internal
+value_of m = or_else (internal_of m) (list_of m)
+
+abbrev pub is_list : Loc → Bool
+is_list (loc.Register register.Toks n) = true
+is_list (loc.Tokens i) = true
+is_list l = false
+
 -- What arithmetic changes: the registers and parameters that are integers, dimensions or glue.
 abbrev pub variable_primitive : ℕ → Option Internal
 variable_primitive n = if is_between 41 44 n then internal_primitive n else internal_parameter n

@@ -3,6 +3,7 @@ pub mod Internal
 pub mod Arithmetic
 pub mod Table
 pub mod Readings
+pub mod Suiting
 pub mod Stages
 pub mod Effects
 pub mod Run

@@ -13,13 +13,14 @@ use Rattle.rows.specs.declared.command.Call.{Call}
 use Rattle.rows.specs.declared.command.Effect.{Effect}
 
 -- What a reading is fed with: a token; the value of an inner reading, with its list of tokens where it has one; a note that its
--- report was written, or that what it asked for is done; what stands at the location that it asked for, without its list; a note that a check
--- came: a file's end or the name of an \outer macro.
+-- report was written, or that what it asked for is done; what stands at the location that it asked for, without its list; a token of a list
+-- behind `\the`, which enters an expanded text as it stands; a note that a check came: a file's end or the name of an \outer macro.
 pub data Fed : Type 0 where
   Tok : Seen → Fed
   Val : Value → List Token → Fed
   Told : Fed
   Fetched : SeenValue → Fed
+  Entered : Token → Fed
   Cut : Fed
 
 -- What a reading asks for: a token; an inner reading, which may begin with the last token; to end with a value, where the last token

@@ -84,20 +84,21 @@ numbers b (Val v ts ∷ fed) = valued (numbered_by b v) ts fed
 numbers b (y ∷ fed) = senseless
 
 -- a stage that looks at a token, `y`; `skipped` is what comes of those behind it, and `retried` what comes of them behind a note
-abbrev pub met_with : (y : Fed) → Met → (skipped : Call → Outcome) → (retried : Note → Outcome) → List Fed → Outcome
-met_with y (met.Takes d) skipped retried fed = Takes d fed
-met_with y met.Passes skipped retried fed = Passes fed
-met_with y met.Leaves skipped retried fed = Passes (y ∷ fed)
-met_with y (met.Skips c) skipped retried fed = skipped c
-met_with y (met.Notes n m) skipped retried fed = noted n m fed
-met_with y (met.Retries n) skipped retried fed = retried n
-met_with y (met.Numbers b) skipped retried fed = numbers b fed
-met_with y (met.Turns c) skipped retried fed = Turns c fed
+abbrev pub met_with : Stage → (y : Fed) → Met → (skipped : Call → Outcome) → (retried : Note → Outcome) → List Fed → Outcome
+met_with s y (met.Takes d) skipped retried fed = Takes d fed
+met_with s y met.Passes skipped retried fed = Passes fed
+met_with s y met.Leaves skipped retried fed = Passes (y ∷ fed)
+met_with s y (met.Skips c) skipped retried fed = skipped c
+met_with s y (met.Notes n m) skipped retried fed = noted n m fed
+met_with s y (met.Retries n) skipped retried fed = retried n
+met_with s y (met.Numbers b) skipped retried fed = numbers b fed
+met_with s y (met.Begins k) skipped retried fed = inner s k fed
+met_with s y (met.Turns c) skipped retried fed = Turns c fed
 
 abbrev mutual
   pub looks : Stage → Call → Want → List Fed → Outcome
   looks s c want [] = Asks (More want)
-  looks s c want (Tok x ∷ fed) = met_with (Tok x) (on_token s c x) (λ d. looks s d want fed) (λ n. again s c want n fed) fed
+  looks s c want (Tok x ∷ fed) = met_with s (Tok x) (on_token s c x) (λ d. looks s d want fed) (λ n. again s c want n fed) fed
   looks s c want (y ∷ fed) = senseless
 
   -- the stage is read again behind its note

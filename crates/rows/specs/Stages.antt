@@ -12,7 +12,7 @@ use Rattle.tex_syntax.specs.declared.words.Report.{Report}
 use Rattle.tex_syntax.specs.declared.words.Report.TheVariants as report
 use Rattle.plain_tokens.specs.Tokens.{is_space, is_space_token}
 use Rattle.plain_tokens.specs.Categories.{is_between}
-use Rattle.plain_tokens.specs.Names.{name_of, means_primitive, is_definition_primitive, long_primitive, outer_primitive, global_primitive, def_primitive}
+use Rattle.plain_tokens.specs.Names.{name_of, means_relax, means_primitive, is_definition_primitive, long_primitive, outer_primitive, global_primitive, def_primitive}
 use Rattle.rows.specs.declared.words.Datum.{Datum}
 use Rattle.rows.specs.declared.words.Datum.TheVariants as datum
 use Rattle.rows.specs.declared.words.Value.{Value}
@@ -20,7 +20,7 @@ use Rattle.rows.specs.declared.words.Value.TheVariants as value
 use Rattle.rows.specs.declared.words.Kind.{Kind}
 use Rattle.rows.specs.declared.words.Kind.TheVariants as kind
 use Rattle.rows.specs.declared.stage.Stage.{Stage}
-use Rattle.rows.specs.declared.stage.Stage.TheVariants.{Number, NumberTo, NumberUpTo, Dimension, Glue, Amount, Equals, ControlSequence, NewName, Variable, InternalValue, Keyword, LetEquals, Space, AnyToken, NonblankToken, Text, MacroText, Prefixes}
+use Rattle.rows.specs.declared.stage.Stage.TheVariants.{Number, NumberTo, NumberUpTo, Dimension, Glue, Amount, Equals, ControlSequence, NewName, Variable, InternalValue, TokenList, Keyword, LetEquals, Space, AnyToken, NonblankToken, Text, MacroText, Prefixes}
 use Rattle.rows.specs.declared.stage.Complaint.{Complaint}
 use Rattle.rows.specs.declared.stage.Complaint.TheVariants.{BadCharacterCode, BadRegisterCode, BadMathchar, InvalidCode}
 use Rattle.rows.specs.declared.stage.Start.{Start}
@@ -43,7 +43,7 @@ use Rattle.rows.specs.Tokens.{is_equals, is_character, name_to_assign, inaccessi
 use Rattle.rows.specs.declared.internal.Bank.{Bank}
 use Rattle.rows.specs.declared.internal.Internal.{Internal as Stands}
 use Rattle.rows.specs.declared.internal.Internal.TheVariants as internal
-use Rattle.rows.specs.Internal.{byte_of, location_in, bad_number, internal_of, variable_of}
+use Rattle.rows.specs.Internal.{byte_of, location_in, bad_number, variable_of, list_of, value_of}
 use Rattle.rows.specs.Arithmetic.{number_in}
 use Rattle.rows.specs.Table.{has_row, value_stage}
 use Rattle.rows.specs.declared.words.DimenKind.{DimenKind}
@@ -139,9 +139,16 @@ abbrev pub number_of : Head → ℕ
 number_of (head.Primitive n) = n
 number_of (head.Register kind n) = 0
 
--- it can't be used behind this command
+-- it can't be used behind the command of this number
+abbrev pub unusable_behind : ℕ → Seen → Note
+unusable_behind n x = note.Tells (report.CantUseAfter x.meaning n) false
+
 abbrev pub unusable : Call → Seen → Note
-unusable c x = note.Tells (report.CantUseAfter x.meaning (number_of c.head)) false
+unusable c x = unusable_behind (number_of c.head) x
+
+-- behind `\showthe` the report names `\the` too
+abbrev pub the_primitive : ℕ
+the_primitive = 62
 
 -- the number of a register or of a character came: another than one from 0 to 255 is reported, and the location is that of 0
 abbrev pub numbered : Bank → ℤ → Got
@@ -238,6 +245,7 @@ start Equals c ds = Looks want.Nonblank
 start NewName c ds = Looks want.Raw
 start Variable c ds = Looks want.Expanded
 start InternalValue c ds = Looks want.Expanded
+start TokenList c ds = Looks want.Command
 start (Keyword w) c ds = Begins (kind.Keyword w)
 start ControlSequence c ds = Looks want.Raw
 start LetEquals c ds = Looks want.Raw
@@ -254,7 +262,8 @@ on_token Equals c x = if is_equals x then met.Passes else met.Leaves
 on_token ControlSequence c x = name_met c x
 on_token NewName c x = new_name_met c x
 on_token Variable c x = standing (met.Notes (unusable c x) (next.Unassigned c)) (variable_of x.meaning)
-on_token InternalValue c x = standing (met.Notes (unusable c x) (next.Takes nothing)) (internal_of x.meaning)
+on_token InternalValue c x = standing (met.Notes (unusable_behind the_primitive x) (next.Takes nothing)) (value_of x.meaning)
+on_token TokenList c x = if means_relax x.meaning then met.Skips c else standing (met.Begins (kind.Text c.name false)) (list_of x.meaning)
 on_token LetEquals c x = if is_space x then met.Skips c else if is_equals x then met.Passes else met.Leaves
 on_token Space c x = if is_space x then met.Passes else met.Leaves
 on_token AnyToken c x = met.Takes (datum.Taken x)
@@ -262,10 +271,11 @@ on_token NonblankToken c x = met.Takes (datum.Taken x)
 on_token (Prefixes p) c x = prefixed (also p c) (prefix_of x.meaning) x
 on_token s c x = met.Leaves
 
--- and of the value of an inner reading
+-- and of the value of an inner reading; where it is to be a list, another value counts as nothing
 abbrev pub on_datum : Stage → Datum → Got
 on_datum (NumberTo greatest complaint) d = ranged complaint greatest (number_in d)
 on_datum (NumberUpTo greatest) d = bounded greatest (number_in d)
+on_datum TokenList d = got.Takes nothing
 on_datum s d = got.Takes d
 
 abbrev pub on_list : Stage → Got

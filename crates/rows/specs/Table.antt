@@ -1,10 +1,9 @@
 -- The rows are those of the table of constants, by the numbers of the primitives, and those of parameters and registers.
 use Rattle.std.specs.Prelude.{ℕ, ◌==◌, Bool, true, false, Option, Some, None, List, [], ◌∷◌, if◌then◌else◌}
-use Rattle.tex_defs.specs.declared.RegisterKind.TheVariants as register
 use Rattle.equivalents.specs.declared.values.Loc.{Loc}
 use Rattle.equivalents.specs.declared.values.Loc.TheVariants as loc
 use Rattle.rows.specs.declared.stage.Stage.{Stage}
-use Rattle.rows.specs.declared.stage.Stage.TheVariants.{AnyToken, Equals, Number, Dimension, Glue}
+use Rattle.rows.specs.declared.stage.Stage.TheVariants.{AnyToken, Equals, Number, Dimension, Glue, TokenList}
 use Rattle.rows.specs.declared.command.Row.{Row}
 use Rattle.rows.specs.declared.command.Row.TheVariants.{One, Two, Three, Four}
 use Rattle.rows.specs.declared.command.Head.{Head}
@@ -14,7 +13,7 @@ use Rattle.rows.specs.declared.command.Action.TheVariants as action
 use Rattle.rows.specs.declared.command.TheConstants.{SYNTAX}
 use Rattle.rows.specs.declared.internal.Internal.{Internal}
 use Rattle.rows.specs.declared.internal.Internal.TheVariants as internal
-use Rattle.rows.specs.Internal.{internal_parameter, is_glue, is_dimension, is_mu}
+use Rattle.rows.specs.Internal.{internal_parameter, list_parameter, or_else, is_list, is_glue, is_dimension, is_mu}
 
 abbrev pub row_among : ℕ → List (ℕ × Row × Action) → Option (Row × Action)
 row_among n [] = None
@@ -22,24 +21,23 @@ row_among n (row ∷ rows) = if row.0 == n then Some (row.1, row.2) else row_amo
 
 -- what is read for a location, by what stands there
 abbrev pub value_stage : Loc → Stage
-value_stage l = if is_glue l then Glue (is_mu l) else if is_dimension l then Dimension else Number
+value_stage l = if is_list l then TokenList else if is_glue l then Glue (is_mu l) else if is_dimension l then Dimension else Number
 
 -- a location gets a value, behind an optional `=`
 abbrev pub assignment_to : Loc → Row × Action
 assignment_to l = (Two Equals (value_stage l), action.SetAt l)
 
--- the parameters that are integers, dimensions or glue get values so; the other primitives have their rows in the table
+-- the parameters get values so; the other primitives have their rows in the table
 abbrev pub parameter_row : ℕ → Option Internal → Option (Row × Action)
 parameter_row n (Some (internal.At l)) = Some (assignment_to l)
 parameter_row n i = row_among n SYNTAX.now
 
 abbrev pub primitive_row : ℕ → Option (Row × Action)
-primitive_row n = parameter_row n (internal_parameter n)
+primitive_row n = parameter_row n (or_else (internal_parameter n) (list_parameter n))
 
--- and so do registers, by their names; those of lists of tokens have no row yet
+-- and so do registers, by their names
 abbrev pub find_row : Head → Option (Row × Action)
 find_row (Primitive n) = primitive_row n
-find_row (Register register.Toks n) = None
 find_row (Register kind n) = Some (assignment_to (loc.Register kind n))
 
 abbrev pub has_row_in : Option (Row × Action) → Bool

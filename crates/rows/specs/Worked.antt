@@ -10,7 +10,7 @@ use Rattle.tex_defs.specs.declared.Seen.{Seen}
 use Rattle.tex_syntax.specs.declared.words.Want.TheVariants.{Raw, Nonblank, Expanded}
 use Rattle.tex_syntax.specs.declared.words.Want.TheVariants as want
 use Rattle.tex_syntax.specs.declared.words.Report.TheVariants.{BadCharacterCode, BadRegisterCode, BadMathchar, CantUseAfter, InvalidCode, CodeTooGreat, MissingName, PrefixWith, LongOrOuterWith}
-use Rattle.plain_tokens.specs.Categories.{space, letter, other}
+use Rattle.plain_tokens.specs.Categories.{begin_group, space, letter, other}
 use Rattle.prim_table.specs.Primitives.{primitive_name}
 use Rattle.rows.specs.declared.words.Datum.TheVariants.{Number, Found}
 use Rattle.rows.specs.declared.words.Datum.TheVariants as datum
@@ -72,6 +72,10 @@ character_name c = record { token = token.Named x_name; meaning = means.CharGive
 abbrev pub math_name : (code : ℕ) → Seen
 math_name c = record { token = token.Named x_name; meaning = means.MathGiven c }
 
+-- and as a name of `\toksdef`
+abbrev pub list_name : (number : ℕ) → Seen
+list_name n = record { token = token.Named x_name; meaning = means.Register register.Toks n }
+
 -- what is inserted where a name is missing
 abbrev pub inaccessible_name : Seen
 inaccessible_name = record { token = inaccessible; meaning = means.Undefined }
@@ -81,6 +85,9 @@ frozen_relax = record { token = token.Named (Frozen Relax); meaning = means.Prim
 
 abbrev pub a_letter : Seen
 a_letter = character letter 97
+
+abbrev pub a_brace : Seen
+a_brace = character begin_group 123
 
 abbrev pub a_space : Seen
 a_space = character space 32
@@ -410,6 +417,78 @@ pub record WorkedComputing : Type 0 where
   pub quotient_of_parts : value_computed Divide (loc.Glue 0) (val.Skip spring) (Number (negsuc 1)) ≡ Some (val.Skip (glue (negsuc 2) (negsuc 0) 0 (pos 0) 0))
   pub by_zero : value_computed Divide (loc.Glue 0) (val.Skip spring) (Number (pos 0)) ≡ None
 
+-- `\toks1={a}`; without `=`, also where `\relax` stands before the brace; where a letter stands in its place, which the text reports; `\toks256={}`;
+-- `\toks1=\toks2` and `\toks1\toks256`; `\toks1=\everypar`; `\x={a}` and `\x=\x`, where `\x` is a register's name; `\everypar={a}`, `\errhelp{}` and
+-- `\everypar=\toks1`; `\toksdef\x=5`; `\global\toks1={a}`, `\long\toks1={a}` and `\long\global\everypar=\toks1`
+pub record WorkedLists : Type 0 where
+  pub sets :
+      steps 45 (number (pos 1) ∷ Tok equals ∷ Tok a_brace ∷ list text ∷ []) ≡
+      Inner Integer false ∷ More Nonblank ∷ More want.Command ∷ Inner (Text (Word 45) false) true ∷ ActsOn (call 45) (effect.SetList (loc.Register register.Toks 1)) text ∷ []
+  pub begins :
+      steps 45 (number (pos 1) ∷ Tok a_brace ∷ list text ∷ []) ≡
+      Inner Integer false ∷ More Nonblank ∷ Inner (Text (Word 45) false) true ∷ ActsOn (call 45) (effect.SetList (loc.Register register.Toks 1)) text ∷ []
+  pub relax_before :
+      steps 45 (number (pos 1) ∷ Tok (primitive 1) ∷ Tok a_brace ∷ list text ∷ []) ≡
+      Inner Integer false ∷ More Nonblank ∷ More want.Command ∷ Inner (Text (Word 45) false) true ∷ ActsOn (call 45) (effect.SetList (loc.Register register.Toks 1)) text ∷ []
+  pub letter :
+      steps 45 (number (pos 1) ∷ Tok equals ∷ Tok a_letter ∷ list [] ∷ []) ≡
+      Inner Integer false ∷ More Nonblank ∷ More want.Command ∷ Inner (Text (Word 45) false) true ∷ ActsOn (call 45) (effect.SetList (loc.Register register.Toks 1)) [] ∷ []
+  pub too_great :
+      steps 45 (number (pos 256) ∷ Told ∷ Tok equals ∷ Tok a_brace ∷ list [] ∷ []) ≡
+      Inner Integer false ∷ Tells (BadRegisterCode (pos 256)) false ∷ More Nonblank ∷ More want.Command ∷ Inner (Text (Word 45) false) true ∷ ActsOn (call 45) (effect.SetList (loc.Register register.Toks 0)) [] ∷ []
+  pub shares :
+      steps 45 (number (pos 1) ∷ Tok equals ∷ Tok (primitive 45) ∷ number (pos 2) ∷ []) ≡
+      Inner Integer false ∷ More Nonblank ∷ More want.Command ∷ Inner Integer false ∷ Acts (call 45) (effect.ShareList (loc.Register register.Toks 1) (loc.Register register.Toks 2)) ∷ []
+  pub shared_too_great :
+      steps 45 (number (pos 1) ∷ Tok (primitive 45) ∷ number (pos 256) ∷ Told ∷ []) ≡
+      Inner Integer false ∷ More Nonblank ∷ Inner Integer false ∷ Tells (BadRegisterCode (pos 256)) false ∷ Acts (call 45) (effect.ShareList (loc.Register register.Toks 1) (loc.Register register.Toks 0)) ∷ []
+  pub shares_parameter :
+      steps 45 (number (pos 1) ∷ Tok equals ∷ Tok (primitive 179) ∷ []) ≡
+      Inner Integer false ∷ More Nonblank ∷ More want.Command ∷ Acts (call 45) (effect.ShareList (loc.Register register.Toks 1) (loc.Tokens 0)) ∷ []
+  pub named :
+      asked (row (name_call register.Toks 5)) (Tok equals ∷ Tok a_brace ∷ list text ∷ []) ≡
+      More Nonblank ∷ More want.Command ∷ Inner (Text x_name false) true ∷ ActsOn (name_call register.Toks 5) (effect.SetList (loc.Register register.Toks 5)) text ∷ []
+  pub named_shares :
+      asked (row (name_call register.Toks 5)) (Tok equals ∷ Tok (list_name 5) ∷ []) ≡
+      More Nonblank ∷ More want.Command ∷ Acts (name_call register.Toks 5) (effect.ShareList (loc.Register register.Toks 5) (loc.Register register.Toks 5)) ∷ []
+  pub everypar :
+      steps 179 (Tok equals ∷ Tok a_brace ∷ list text ∷ []) ≡
+      More Nonblank ∷ More want.Command ∷ Inner (Text (Word 179) false) true ∷ ActsOn (call 179) (effect.SetList (loc.Tokens 0)) text ∷ []
+  pub errhelp : steps 186 (Tok a_brace ∷ list [] ∷ []) ≡ More Nonblank ∷ Inner (Text (Word 186) false) true ∷ ActsOn (call 186) (effect.SetList (loc.Tokens 7)) [] ∷ []
+  pub everypar_shares :
+      steps 179 (Tok equals ∷ Tok (primitive 45) ∷ number (pos 1) ∷ []) ≡
+      More Nonblank ∷ More want.Command ∷ Inner Integer false ∷ Acts (call 179) (effect.ShareList (loc.Tokens 0) (loc.Register register.Toks 1)) ∷ []
+  pub toksdef :
+      steps 52 (Tok x ∷ Told ∷ Tok equals ∷ number (pos 5) ∷ []) ≡
+      More Raw ∷ Relaxes (call 52) x_name ∷ More Nonblank ∷ Inner Integer false ∷ Acts (call 52) (effect.Shorthand x_name (shorthand.Register register.Toks 5)) ∷ []
+  pub global :
+      steps 25 (Tok (primitive 45) ∷ number (pos 1) ∷ Tok equals ∷ Tok a_brace ∷ list text ∷ []) ≡
+      More want.Command ∷ Inner Integer false ∷ More Nonblank ∷ More want.Command ∷ Inner (Text (Word 45) false) true ∷
+      ActsOn (record (call 45) { global = true }) (effect.SetList (loc.Register register.Toks 1)) text ∷ []
+  pub long :
+      steps 23 (Tok (primitive 45) ∷ Told ∷ number (pos 1) ∷ Tok equals ∷ Tok a_brace ∷ list text ∷ []) ≡
+      More want.Command ∷ Tells (LongOrOuterWith (means.Prim 45)) false ∷ Inner Integer false ∷ More Nonblank ∷ More want.Command ∷ Inner (Text (Word 45) false) true ∷
+      ActsOn (call 45) (effect.SetList (loc.Register register.Toks 1)) text ∷ []
+  pub long_parameter :
+      steps 23 (Tok (primitive 25) ∷ Tok (primitive 179) ∷ Told ∷ Tok equals ∷ Tok (list_name 1) ∷ []) ≡
+      More want.Command ∷ More want.Command ∷ Tells (LongOrOuterWith (means.Prim 179)) false ∷ More Nonblank ∷ More want.Command ∷
+      Acts (record (call 179) { global = true }) (effect.ShareList (loc.Tokens 0) (loc.Register register.Toks 1)) ∷ []
+
+-- `\the\toks1`, `\the\x`, where `\x` is a register's name, and `\the\everypar`; `\showthe` before `\count1`, `\toks1`, `\errhelp` and a name of `\chardef`, and
+-- before `\relax`, where the report names `\the`; `\uppercase{a}`, `\lowercase{}` and `\global\uppercase`
+pub record WorkedListValues : Type 0 where
+  pub toks : steps 62 (Tok (primitive 45) ∷ number (pos 1) ∷ []) ≡ More Expanded ∷ Inner Integer false ∷ Acts (call 62) (effect.PutList (loc.Register register.Toks 1)) ∷ []
+  pub named : steps 62 (Tok (list_name 7) ∷ []) ≡ More Expanded ∷ Acts (call 62) (effect.PutList (loc.Register register.Toks 7)) ∷ []
+  pub everypar : steps 62 (Tok (primitive 179) ∷ []) ≡ More Expanded ∷ Acts (call 62) (effect.PutList (loc.Tokens 0)) ∷ []
+  pub shows : steps 12 (Tok (primitive 41) ∷ number (pos 1) ∷ []) ≡ More Expanded ∷ Inner Integer false ∷ Acts (call 12) (effect.ShowValue (loc.Register register.Count 1)) ∷ []
+  pub shows_list : steps 12 (Tok (primitive 45) ∷ number (pos 1) ∷ []) ≡ More Expanded ∷ Inner Integer false ∷ Acts (call 12) (effect.ShowValue (loc.Register register.Toks 1)) ∷ []
+  pub shows_parameter : steps 12 (Tok (primitive 186) ∷ []) ≡ More Expanded ∷ Acts (call 12) (effect.ShowValue (loc.Tokens 7)) ∷ []
+  pub shows_number : steps 12 (Tok (character_name 65) ∷ []) ≡ More Expanded ∷ Acts (call 12) (effect.ShowNumber (pos 65)) ∷ []
+  pub show_refused : steps 12 (Tok (primitive 1) ∷ Told ∷ []) ≡ More Expanded ∷ Tells (CantUseAfter (means.Prim 1) 62) false ∷ Acts (call 12) (effect.ShowNumber (pos 0)) ∷ []
+  pub uppercase : steps 13 (list text ∷ []) ≡ Inner (Text (Word 13) false) false ∷ ActsOn (call 13) (effect.ChangeCase true) text ∷ []
+  pub lowercase : steps 14 (list [] ∷ []) ≡ Inner (Text (Word 14) false) false ∷ ActsOn (call 14) (effect.ChangeCase false) [] ∷ []
+  pub refused : steps 25 (Tok (primitive 13) ∷ Told ∷ []) ≡ More want.Command ∷ Tells (PrefixWith (means.Prim 13)) true ∷ Ends ∷ []
+
 -- `\expandafter`, `\noexpand`, `\number`, `\romannumeral`, `\string` and `\meaning`, and which of them read under normal status
 pub record WorkedExpansions : Type 0 where
   pub expandafter : steps 54 (Tok x ∷ Tok y ∷ []) ≡ More Raw ∷ More Raw ∷ Acts (call 54) (effect.ExpandBehind x y) ∷ []
@@ -443,14 +522,14 @@ are_whole (first ∷ rows) = is_whole first.2 (stages_in first.1) && are_whole r
 
 -- the numbers above, and the names of their primitives
 abbrev pub numbers : List ℕ
-numbers = 1 ∷ 8 ∷ 9 ∷ 10 ∷ 11 ∷ 15 ∷ 16 ∷ 23 ∷ 24 ∷ 25 ∷ 26 ∷ 27 ∷ 28 ∷ 29 ∷ 30 ∷ 31 ∷ 32 ∷ 33 ∷ 34 ∷ 35 ∷ 36 ∷ 37 ∷ 38 ∷ 39 ∷ 40 ∷ 41 ∷ 42 ∷ 43 ∷ 44 ∷ 45 ∷ 46 ∷ 47 ∷ 48 ∷ 49 ∷ 54 ∷ 55 ∷ 57 ∷ 58 ∷ 59 ∷ 60 ∷ 62 ∷ 128 ∷ 130 ∷ 133 ∷ 134 ∷ 139 ∷ 140 ∷ 161 ∷ 176 ∷ []
+numbers = 1 ∷ 8 ∷ 9 ∷ 10 ∷ 11 ∷ 12 ∷ 13 ∷ 14 ∷ 15 ∷ 16 ∷ 23 ∷ 24 ∷ 25 ∷ 26 ∷ 27 ∷ 28 ∷ 29 ∷ 30 ∷ 31 ∷ 32 ∷ 33 ∷ 34 ∷ 35 ∷ 36 ∷ 37 ∷ 38 ∷ 39 ∷ 40 ∷ 41 ∷ 42 ∷ 43 ∷ 44 ∷ 45 ∷ 46 ∷ 47 ∷ 48 ∷ 49 ∷ 52 ∷ 54 ∷ 55 ∷ 57 ∷ 58 ∷ 59 ∷ 60 ∷ 62 ∷ 128 ∷ 130 ∷ 133 ∷ 134 ∷ 139 ∷ 140 ∷ 161 ∷ 176 ∷ 179 ∷ 186 ∷ []
 
 abbrev pub commands : List (List ℕ)
 commands =
-    codes "relax" ∷ codes "ignorespaces" ∷ codes "message" ∷ codes "errmessage" ∷ codes "show" ∷ codes "aftergroup" ∷ codes "afterassignment" ∷ codes "long" ∷ codes "outer" ∷ codes "global" ∷ codes "def" ∷ codes "gdef" ∷ codes "edef" ∷ codes "xdef" ∷
+    codes "relax" ∷ codes "ignorespaces" ∷ codes "message" ∷ codes "errmessage" ∷ codes "show" ∷ codes "showthe" ∷ codes "uppercase" ∷ codes "lowercase" ∷ codes "aftergroup" ∷ codes "afterassignment" ∷ codes "long" ∷ codes "outer" ∷ codes "global" ∷ codes "def" ∷ codes "gdef" ∷ codes "edef" ∷ codes "xdef" ∷
     codes "let" ∷ codes "futurelet" ∷ codes "advance" ∷ codes "multiply" ∷ codes "divide" ∷ codes "catcode" ∷ codes "lccode" ∷ codes "uccode" ∷ codes "sfcode" ∷ codes "mathcode" ∷ codes "delcode" ∷ codes "count" ∷ codes "dimen" ∷ codes "skip" ∷ codes "muskip" ∷ codes "toks" ∷
-    codes "chardef" ∷ codes "mathchardef" ∷ codes "countdef" ∷ codes "dimendef" ∷ codes "expandafter" ∷ codes "noexpand" ∷ codes "number" ∷ codes "romannumeral" ∷ codes "string" ∷ codes "meaning" ∷ codes "the" ∷
-    codes "globaldefs" ∷ codes "escapechar" ∷ codes "endlinechar" ∷ codes "newlinechar" ∷ codes "errorcontextlines" ∷ codes "parindent" ∷ codes "lineskip" ∷ codes "thinmuskip" ∷ []
+    codes "chardef" ∷ codes "mathchardef" ∷ codes "countdef" ∷ codes "dimendef" ∷ codes "toksdef" ∷ codes "expandafter" ∷ codes "noexpand" ∷ codes "number" ∷ codes "romannumeral" ∷ codes "string" ∷ codes "meaning" ∷ codes "the" ∷
+    codes "globaldefs" ∷ codes "escapechar" ∷ codes "endlinechar" ∷ codes "newlinechar" ∷ codes "errorcontextlines" ∷ codes "parindent" ∷ codes "lineskip" ∷ codes "thinmuskip" ∷ codes "everypar" ∷ codes "errhelp" ∷ []
 
 pub record WorkedRows : Type 0 where
   pub names : map primitive_name numbers ≡ commands
@@ -468,4 +547,6 @@ pub record WorkedRows : Type 0 where
   pub values : WorkedValues
   pub measures : WorkedMeasures
   pub computing : WorkedComputing
+  pub lists : WorkedLists
+  pub list_values : WorkedListValues
   pub expansions : WorkedExpansions

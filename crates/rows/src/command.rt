@@ -1,21 +1,25 @@
 // The commands that are read by rows, and what they do.
 ghost use Rattle.std.specs.Prelude.{◌≡◌};
+ghost use Rattle.rows.specs.Internal as internal;
 ghost use Rattle.rows.specs.Table as table;
 
 use crate::arithmetic::Operation;
-use crate::internal::{Internal, internal_parameter, is_dimension, is_glue, is_mu};
+use crate::internal::{
+    Internal, internal_parameter, is_dimension, is_glue, is_list, is_mu, list_parameter,
+};
 use crate::stage::Complaint::{BadCharacterCode, BadMathchar, BadRegisterCode, InvalidCode};
 use crate::stage::Stage;
 use crate::stage::Stage::{
     Amount, AnyToken, ControlSequence, Dimension, Equals, Glue, InternalValue, Keyword, LetEquals,
     MacroText, NewName, NonblankToken, Number, NumberTo, NumberUpTo, Prefixes, Space, Text,
-    Variable,
+    TokenList, Variable,
 };
 use crate::words::Datum;
 use Action::{
-    AfterAssignment, AfterGroup, Compute, Define, DefineGlobally, ErrorMessage, ExpandBehind,
-    FutureLet, GiveCharacter, GiveMath, GiveRegister, Let, MakeMeaning, MakeNumber, MakeRoman,
-    MakeString, MakeValue, Message, Nothing, Obey, PutMarked, SetAt, SetCode, SetRegister, Show,
+    AfterAssignment, AfterGroup, ChangeCase, Compute, Define, DefineGlobally, ErrorMessage,
+    ExpandBehind, FutureLet, GiveCharacter, GiveMath, GiveRegister, Let, MakeMeaning, MakeNumber,
+    MakeRoman, MakeString, MakeValue, Message, Nothing, Obey, PutMarked, SetAt, SetCode,
+    SetRegister, Show, ShowValue,
 };
 use Head::{Primitive, Register};
 use Row::{Four, One, Three, Two};
@@ -72,6 +76,9 @@ pub enum Action {
     Message,
     ErrorMessage,
     Show,
+    ShowValue,
+    /// The characters of the list become capital letters, or small ones.
+    ChangeCase(bool),
     /// The list becomes a macro's.
     Define,
     /// The same, and globally.
@@ -125,6 +132,12 @@ pub enum Effect {
     ErrorMessage,
     /// The token and what it means are shown.
     Show(Seen),
+    /// What stands at the location is shown.
+    ShowValue(Loc),
+    /// The number is shown.
+    ShowNumber(i32),
+    /// The list is put in front, its characters as capital letters, or as small ones.
+    ChangeCase(bool),
     /// The name means what the token means.
     Let(Name, Seen),
     /// Both tokens are put back, and the name means what the second one means.
@@ -133,6 +146,10 @@ pub enum Effect {
     SetNumber(Loc, i32),
     /// The location gets this glue as its value.
     SetGlue(Loc, equivalents::Glue),
+    /// The location gets the list.
+    SetList(Loc),
+    /// The location gets the list that stands at the second one, which takes no word.
+    ShareList(Loc, Loc),
     /// What stands at the location is changed by arithmetic with what was read; where the result is out of bounds, this is reported.
     Compute(Operation, Loc, Datum),
     /// The name stands for this.
@@ -159,6 +176,8 @@ pub enum Effect {
     MakeMeaning(Seen),
     /// The text of what stands at the location is put in front.
     MakeValue(Loc),
+    /// The list that stands at the location enters an expanded text as it stands, or is put in front.
+    PutList(Loc),
     /// The name of the list's characters is entered, means `\relax` in this group where it meant nothing, and is put in front.
     MakeName,
     /// The file is opened whose name is the list's characters; the token behind the name, if it is to go back, goes back first.
@@ -205,6 +224,9 @@ pub const SYNTAX: &[(u16, Row, Action)] = &[
     (9, One(Text(true)), Message),
     (10, One(Text(true)), ErrorMessage),
     (11, One(AnyToken), Show),
+    (12, One(InternalValue), ShowValue),
+    (13, One(Text(false)), ChangeCase(true)),
+    (14, One(Text(false)), ChangeCase(false)),
     (15, One(AnyToken), AfterGroup),
     (16, One(AnyToken), AfterAssignment),
     (23, One(Prefixes(Prefix::Long)), Nothing),
@@ -273,6 +295,11 @@ pub const SYNTAX: &[(u16, Row, Action)] = &[
         Three(REGISTER, Equals, Glue(true)),
         SetRegister(RegisterKind::Muskip),
     ),
+    (
+        45,
+        Three(REGISTER, Equals, TokenList),
+        SetRegister(RegisterKind::Toks),
+    ),
     (46, Three(NewName, Equals, CHARACTER_CODE), GiveCharacter),
     (
         47,
@@ -298,6 +325,11 @@ pub const SYNTAX: &[(u16, Row, Action)] = &[
         51,
         Three(NewName, Equals, REGISTER),
         GiveRegister(RegisterKind::Muskip),
+    ),
+    (
+        52,
+        Three(NewName, Equals, REGISTER),
+        GiveRegister(RegisterKind::Toks),
     ),
     (54, Two(AnyToken, AnyToken), ExpandBehind),
     (55, One(AnyToken), PutMarked),
@@ -325,7 +357,9 @@ fn find_among(number: u16, rows: &[(u16, Row, Action)]) -> Option<(Row, Action)>
 pub fn value_stage(loc: Loc) -> Stage
     ensures { result ≡ table.value_stage loc }
 {
-    if is_glue(loc) {
+    if is_list(loc) {
+        TokenList
+    } else if is_glue(loc) {
         Glue(is_mu(loc))
     } else if is_dimension(loc) {
         Dimension
@@ -341,11 +375,21 @@ fn assignment_to(loc: Loc) -> (Row, Action)
     (Two(Equals, value_stage(loc)), SetAt(loc))
 }
 
+/// The parameters.
+fn parameter(number: u16) -> Option<Internal>
+    ensures { result ≡ internal.or_else (internal.internal_parameter number) (internal.list_parameter number) }
+{
+    match internal_parameter(number) {
+        None => list_parameter(number),
+        found => found,
+    }
+}
+
 /// The row of a primitive and what it does, if it is read by a row.
 fn find_primitive(number: u16) -> Option<(Row, Action)>
     ensures { result ≡ table.primitive_row number }
 {
-    match internal_parameter(number) {
+    match parameter(number) {
         Some(Internal::At(loc)) => Some(assignment_to(loc)),
         _ => find_among(number, SYNTAX),
     }
@@ -357,7 +401,6 @@ pub fn find_row(head: Head) -> Option<(Row, Action)>
 {
     match head {
         Primitive(number) => find_primitive(number),
-        Register(RegisterKind::Toks, _) => None,
         Register(kind, no) => Some(assignment_to(Loc::Register { kind, no })),
     }
 }

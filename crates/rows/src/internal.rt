@@ -113,6 +113,95 @@ pub fn internal_of(meaning: Meaning<()>) -> Option<Internal>
     }
 }
 
+/// The parameters that are lists of tokens.
+pub(crate) fn list_parameter(number: u16) -> Option<Internal>
+    ensures is { result ≡ internal.list_parameter number }
+    ensures found { internal.IsFound result }
+{
+    match number {
+        179..=186 => Some(Internal::At(Loc::Tokens((number - 179) as u8))),
+        _ => None,
+    }
+}
+
+/// The registers and the parameters among the primitives that are lists of tokens.
+fn list_primitive(number: u16) -> Option<Internal>
+    ensures is { result ≡ internal.list_primitive number }
+    ensures found { internal.IsFound result }
+{
+    if number == 45 {
+        Some(Internal::Numbered(Bank::Registers(RegisterKind::Toks)))
+    } else {
+        list_parameter(number)
+    }
+}
+
+/// A register or a parameter that is a list of tokens.
+pub fn list_of(meaning: Meaning<()>) -> Option<Internal>
+    ensures is { result ≡ internal.list_of meaning }
+    ensures found { internal.IsFound result }
+{
+    match meaning {
+        Meaning::Register {
+            kind: RegisterKind::Toks,
+            no,
+        } => Some(Internal::At(Loc::Register {
+            kind: RegisterKind::Toks,
+            no,
+        })),
+        Meaning::Prim(number) => list_primitive(number),
+        _ => None,
+    }
+}
+
+/// What a meaning stands for behind `\the`: a number, a dimension, glue or a list of tokens.
+pub fn value_of(meaning: Meaning<()>) -> Option<Internal>
+    ensures is { result ≡ internal.value_of meaning }
+    ensures found { internal.IsFound result }
+{
+    match internal_of(meaning) {
+        None => list_of(meaning),
+        found => found,
+    }
+}
+
+/// Whether a list of tokens stands there.
+pub fn is_list(loc: Loc) -> bool
+    ensures { result ≡ internal.is_list loc }
+{
+    match loc {
+        Loc::Register {
+            kind: RegisterKind::Toks,
+            no: _,
+        } => true,
+        Loc::Tokens(_) => true,
+        _ => false,
+    }
+}
+
+/// How many parameters are integers, how many dimensions, glue and lists of tokens.
+const INTEGER_PARAMETERS: u8 = 55;
+
+const DIMENSION_PARAMETERS: u8 = 21;
+
+const GLUE_PARAMETERS: u8 = 18;
+
+const TOKEN_PARAMETERS: u8 = 8;
+
+/// Whether a location is there, and no name's.
+pub fn is_fetchable(loc: Loc) -> bool
+    ensures { result ≡ internal.is_fetchable loc }
+{
+    match loc {
+        Loc::Code { .. } | Loc::Register { .. } => true,
+        Loc::Integer(i) => i < INTEGER_PARAMETERS,
+        Loc::Dimension(i) => i < DIMENSION_PARAMETERS,
+        Loc::Glue(i) => i < GLUE_PARAMETERS,
+        Loc::Tokens(i) => i < TOKEN_PARAMETERS,
+        Loc::Means(_) => false,
+    }
+}
+
 /// Whether glue that stands there is in mu.
 pub fn is_mu(loc: Loc) -> bool
     ensures { result ≡ internal.is_mu loc }

@@ -1,6 +1,6 @@
 // Laws of the readings: the functions have no bodies, their contracts are the laws.
 ghost use Rattle.rows.specs.Worked.{WorkedRows};
-ghost use Rattle.rows.specs.Laws.{ReadingsStart, ReadingsBeginLower, RowsHaveNoValue, NotesAreSingle, MacrosHaveBodies};
+ghost use Rattle.rows.specs.Laws.{ReadingsStart, ReadingsBeginLower, RowsHaveNoValue, NotesAreSingle, MacrosHaveBodies, EffectsSuit};
 
 /// A command that was fed with nothing asks for a token or begins another reading.
 pub fn readings_start()
@@ -25,6 +25,11 @@ pub fn notes_are_single()
 /// What becomes a macro has a token, where each value of a definition's reading has one.
 pub fn macros_have_bodies()
     ensures { MacrosHaveBodies }
+{}
+
+/// What a command sets suits its location, and what it uses is there.
+pub fn effects_suit()
+    ensures { EffectsSuit }
 {}
 
 /// What each command asks for, token by token, is computed from the definitions.

@@ -19,11 +19,12 @@ pub use command::{
     Action, Call, Effect, Head, Prefix, Row, SYNTAX, Shorthand, find_row, row_of, value_stage,
 };
 pub use internal::{
-    Bank, Internal, byte_of, internal_of, is_dimension, is_glue, is_mu, variable_of,
+    Bank, Internal, byte_of, internal_of, is_dimension, is_fetchable, is_glue, is_list, is_mu,
+    list_of, value_of, variable_of,
 };
 pub use laws::{
-    macros_have_bodies, notes_are_single, readings_begin_lower, readings_start, rows_have_no_value,
-    worked_rows,
+    effects_suit, macros_have_bodies, notes_are_single, readings_begin_lower, readings_start,
+    rows_have_no_value, worked_rows,
 };
 pub use stage::{Complaint, Got, Met, Next, Note, Stage, Start};
 pub use words::{Datum, DimenKind, Keyword, Kind, Value};

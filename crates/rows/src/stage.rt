@@ -37,8 +37,10 @@ pub enum Stage {
     NewName,
     /// A register or a parameter that arithmetic changes.
     Variable,
-    /// What stands for a number, a dimension or glue.
+    /// What stands for a number, a dimension, glue or a list of tokens.
     InternalValue,
+    /// A list of tokens: a register or a parameter that is one, or a balanced text.
+    TokenList,
     /// An optional keyword.
     Keyword(Keyword),
     /// The optional `=` of `\let`, behind spaces.
@@ -106,6 +108,8 @@ pub enum Met {
     Retries(Note),
     /// The number of a register or of a character comes, whose location is what it reads.
     Numbers(Bank),
+    /// An inner reading begins with the token.
+    Begins(Kind),
     /// The command goes on as this one, from the beginning.
     Turns(Call),
 }

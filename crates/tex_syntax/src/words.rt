@@ -77,7 +77,7 @@ pub enum Report {
     IllegalMagnification(i32),
     /// "Arithmetic overflow": a sum, a product or a quotient that is out of bounds.
     ArithmeticOverflow,
-    /// "Incompatible glue units": glue in mu, where a number or other glue is read.
+    /// "Incompatible glue units": what is in mu where something in points is read, or the other way round.
     IncompatibleUnits,
     /// "Invalid code (n), should be in the range 0..m": the code, and the greatest of its range.
     InvalidCode(i32, u32),

@@ -1,11 +1,11 @@
 -- Each is computed.
 use Rattle.std.proofs.Common.{◌≡◌, map, refl}
-use Rattle.prim_table.specs.Primitives.{primitive_name, primitive_names, command_names, assignment_names, expandable_names, conditional_names, integer_names, dimension_names, glue_names}
+use Rattle.prim_table.specs.Primitives.{primitive_name, primitive_names, command_names, assignment_names, expandable_names, conditional_names, integer_names, dimension_names, glue_names, token_names}
 use Rattle.rows.specs.Worked.{numbers, commands}
 use Rattle.rows.proofs.laws.worked_rows.Goals as goal
 
 names : map primitive_name numbers ≡ commands
-unfolding primitive_name primitive_names command_names assignment_names expandable_names conditional_names integer_names dimension_names glue_names
+unfolding primitive_name primitive_names command_names assignment_names expandable_names conditional_names integer_names dimension_names glue_names token_names
 names = refl
 
 pub returns : goal.returns
@@ -87,6 +87,38 @@ returns c = record {
     product_of_parts = refl;
     quotient_of_parts = refl;
     by_zero = refl;
+  };
+  lists = record {
+    sets = refl;
+    begins = refl;
+    relax_before = refl;
+    letter = refl;
+    too_great = refl;
+    shares = refl;
+    shared_too_great = refl;
+    shares_parameter = refl;
+    named = refl;
+    named_shares = refl;
+    everypar = refl;
+    errhelp = refl;
+    everypar_shares = refl;
+    toksdef = refl;
+    global = refl;
+    long = refl;
+    long_parameter = refl;
+  };
+  list_values = record {
+    toks = refl;
+    named = refl;
+    everypar = refl;
+    shows = refl;
+    shows_list = refl;
+    shows_parameter = refl;
+    shows_number = refl;
+    show_refused = refl;
+    uppercase = refl;
+    lowercase = refl;
+    refused = refl;
   };
   expansions = record { expandafter = refl; noexpand = refl; number_made = refl; romannumeral = refl; string = refl; meaning = refl; statuses = refl };
 }

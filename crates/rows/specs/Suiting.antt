@@ -1,0 +1,52 @@
+-- What a command does suits the locations that it uses: a value may stand where it is set, and what is used is there.
+use Rattle.std.specs.Prelude.{◌≡◌, ◌<◌, ℤ, Bool, true, false}
+use Rattle.equivalents.specs.declared.values.Glue.{Glue}
+use Rattle.equivalents.specs.declared.values.Loc.{Loc}
+use Rattle.equivalents.specs.declared.values.Loc.TheVariants as loc
+use Rattle.equivalents.specs.declared.values.Val.TheVariants as val
+use Rattle.equivalents.specs.Locations.{Suits}
+use Rattle.rows.specs.declared.command.Effect.{Effect}
+use Rattle.rows.specs.declared.command.Effect.TheVariants as effect
+use Rattle.rows.specs.Internal.{is_glue, is_list}
+use Rattle.rows.specs.Readings.{Ask, Acts, ActsOn}
+
+-- a location that is there, and no name's: each byte is the number of a register and of a character
+abbrev pub IsThere : Loc → Type 0
+IsThere (loc.Integer i) = i < 55
+IsThere (loc.Dimension i) = i < 21
+IsThere (loc.Glue i) = i < 18
+IsThere (loc.Tokens i) = i < 8
+IsThere (loc.Means n) = ⊥
+IsThere l = Unit {0}
+
+-- which is a list of tokens
+abbrev pub TakesList : Loc → Type 0
+TakesList l = IsThere l × (is_list l ≡ true)
+
+-- all glue may stand there, or all numbers
+abbrev pub TakesAll : (glue : Bool) → Loc → Type 0
+TakesAll true l = (g : Glue) → Suits l (val.Skip g)
+TakesAll false l = (n : ℤ) → Suits l (val.Number n)
+
+-- which arithmetic changes
+abbrev pub IsVariable : Loc → Type 0
+IsVariable l = IsThere l × TakesAll (is_glue l) l
+
+-- A number, glue or a list is set at a location that is there and that such a value suits; what is computed is at one that takes all numbers, or all
+-- glue; what is put or shown of a value is that of one that is there, and a list that of one that is a list.
+abbrev pub IsSmall : Effect → Type 0
+IsSmall (effect.SetNumber l value) = IsThere l × Suits l (val.Number value)
+IsSmall (effect.SetGlue l g) = IsThere l × Suits l (val.Skip g)
+IsSmall (effect.SetList l) = TakesList l
+IsSmall (effect.ShareList l m) = TakesList l × TakesList m
+IsSmall (effect.Compute operation l d) = IsVariable l
+IsSmall (effect.MakeValue l) = IsThere l
+IsSmall (effect.PutList l) = TakesList l
+IsSmall (effect.ShowValue l) = IsThere l
+IsSmall e = Unit {0}
+
+-- what a command is to do
+abbrev pub SetsSmall : Ask → Type 0
+SetsSmall (Acts c e) = IsSmall e
+SetsSmall (ActsOn c e ts) = IsSmall e
+SetsSmall a = Unit {0}
