@@ -1,6 +1,6 @@
 -- A dimension that is fed with one item more: what it asks for then follows what it asked for. By induction over what it was fed with.
 use Rattle.std.proofs.Common.{◌≤◌, ℕ, ◌+◌, ℤ, pos, nat_abs, Bool, true, false, not, List, [], ◌∷◌, ◌++◌, Option, Some, None, arith}
-use Rattle.std.specs.Prelude.{if◌then◌else◌, ◌==◌}
+use Rattle.std.specs.Prelude.{if◌then◌else◌, ◌==◌, is_some}
 use Rattle.tex_defs.specs.declared.Seen.{Seen}
 use Rattle.tex_syntax.specs.declared.words.UnitTaken.{UnitTaken}
 use Rattle.tex_syntax.specs.declared.words.UnitTaken.TheVariants as taken
@@ -12,13 +12,13 @@ use Rattle.rows.specs.declared.internal.Internal.{Internal}
 use Rattle.rows.specs.declared.internal.Internal.TheVariants as internal
 use Rattle.rows.specs.declared.words.DimenKind.{DimenKind}
 use Rattle.rows.specs.Tokens.{is_at_most}
-use Rattle.rows.specs.Internal.{byte_of, location_in, internal_of, integer_of, in_bounds, is_mu}
+use Rattle.rows.specs.Internal.{byte_of, location_in, internal_of, list_of, integer_of, in_bounds, is_mu}
 use Rattle.rows.specs.Arithmetic.{measured}
 use Rattle.plain_readings.specs.Integers.{is_minus, is_plus, is_digit, digit_of}
 use Rattle.plain_readings.specs.Factors.{is_point}
 use Rattle.plain_readings.specs.declared.measures.Amount.{Amount}
 use Rattle.plain_readings.specs.declared.measures.Measure.{Measure}
-use Rattle.plain_readings.specs.Dimens.{Fed, Tok, Factored, Numbered, Found, Told, Fetched, Answer, too_large_told, finished, spaced, illegal, in_units, points, physical, scaled_points, by_unit, magnified_amount, magnification_in, by_magnification, magnification_fetched, magnified, true_or_not, ex_or_not, em_or_not, mu_or_not, incompatible, valued, no_number, is_list, fetched, bad_numbered, with_number, numbered, times, unit_fetched, internal_unit, word_unit, internal_or_word, unit_at, unit_sought, longer, fil_or_not, unit_behind, unit_with, amount, with_digit, behind_digits, fraction, pointed, turned, with_factor, factor_read, factored, is_integer_at, value_fetched, internal_value, internal_or_factor, unsigned, dimension}
+use Rattle.plain_readings.specs.Dimens.{Fed, Tok, Factored, Numbered, Found, Told, Fetched, Answer, too_large_told, finished, spaced, illegal, in_units, points, physical, scaled_points, by_unit, magnified_amount, magnification_in, by_magnification, magnification_fetched, magnified, true_or_not, ex_or_not, em_or_not, mu_or_not, incompatible, valued, no_number, fetched, bad_numbered, with_number, numbered, times, unit_fetched, internal_unit, word_unit, internal_or_word, unit_at, unit_sought, longer, fil_or_not, unit_behind, unit_with, amount, with_digit, behind_digits, fraction, pointed, turned, with_factor, factor_read, factored, is_integer_at, value_fetched, internal_value, internal_or_factor, unsigned, dimension}
 use Rattle.plain_readings.specs.Measures.{dimen_ask}
 use Rattle.plain_readings.specs.Weights.{value_weight}
 use Rattle.plain_readings.proofs.Follows.{Item, Token, Value, Note, Standing, weighs, Follows, light_follows}
@@ -303,7 +303,7 @@ module _ (y : Fed) where
   internal_or_word_steps k negative a None fed = word_steps k.mu negative a fed
 
   unit_at_steps : (k : DimenKind) (negative : Bool) (a : Amount) (x : Seen) (fed : List Fed) → Steps y (unit_at k negative a x fed) (unit_at k negative a x (fed ++ y ∷ []))
-  unit_at_steps k negative a x fed = either y (is_list x.meaning) _ _ _ _ (no_number_steps y k.mu negative fed) (internal_or_word_steps k negative a (internal_of x.meaning) fed)
+  unit_at_steps k negative a x fed = either y (is_some (list_of x.meaning)) _ _ _ _ (no_number_steps y k.mu negative fed) (internal_or_word_steps k negative a (internal_of x.meaning) fed)
 
   sought_steps : (k : DimenKind) (negative : Bool) (a : Amount) (fed : List Fed) → Steps y (unit_sought k negative a fed) (unit_sought k negative a (fed ++ y ∷ []))
   sought_steps k negative a [] = sought_ends y k negative a
@@ -401,7 +401,7 @@ module _ (y : Fed) where
   unsigned_steps : (k : DimenKind) (negative : Bool) (x : Seen) (fed : List Fed) → Steps y (unsigned k negative x fed) (unsigned k negative x (fed ++ y ∷ []))
   unsigned_steps k negative x fed =
       either y (is_point x) _ _ _ _ (fraction_steps k negative 0 [] fed)
-      (either y (is_list x.meaning) _ _ _ _ (no_number_steps y k.mu negative fed) (internal_or_factor_steps k negative (internal_of x.meaning) fed))
+      (either y (is_some (list_of x.meaning)) _ _ _ _ (no_number_steps y k.mu negative fed) (internal_or_factor_steps k negative (internal_of x.meaning) fed))
 
   pub dimension_steps : (k : DimenKind) (negative : Bool) (fed : List Fed) → Steps y (dimension k negative fed) (dimension k negative (fed ++ y ∷ []))
   dimension_steps k negative [] = dimension_ends y k negative

@@ -4,13 +4,15 @@ use Rattle.std.specs.Prelude.{if◌then◌else◌}
 use Rattle.tex_defs.specs.declared.Token.{Token}
 use Rattle.tex_defs.specs.declared.Seen.{Seen}
 use Rattle.tex_syntax.specs.declared.words.Want.{Want}
-use Rattle.tex_syntax.specs.declared.words.Want.TheVariants.{Expanded, Nonblank}
+use Rattle.tex_syntax.specs.declared.words.Want.TheVariants.{Expanded}
 use Rattle.rows.specs.declared.words.Keyword.{Keyword}
 use Rattle.rows.specs.declared.words.Keyword.TheVariants.{By, Plus, Minus, Fil, L, True, Em, Ex, Pt, In, Pc, Cm, Mm, Bp, Dd, Cc, Sp, Mu}
 use Rattle.rows.specs.Laws.{is_told}
 use Rattle.rows.specs.Readings.{Fed, Tok, Told, Ask, More, Puts}
-use Rattle.plain_readings.specs.Keywords.{letters, is_letter, ends_found, giving_back, keyword_from, keyword}
+use Rattle.plain_tokens.specs.Tokens.{is_space}
+use Rattle.plain_readings.specs.Keywords.{letters, is_letter, is_skipped, ends_found, giving_back, keyword_from, keyword}
 use Rattle.plain_readings.specs.Weights.{value_weight, ask_weight, IsNoted}
+use Rattle.plain_readings.proofs.Wants.{IsUncopied}
 
 -- the longest has five letters
 pub letters_few : (w : Keyword) → length (letters w) ≤ 5
@@ -36,7 +38,7 @@ letters_few Mu = omega arith
 -- a law speaks of an answer, and of whether a note came last
 module _
     (P : Bool → Ask → Type 0)
-    (more : (b : Bool) (want : Want) → P b (More want))
+    (more : (b : Bool) (want : Want) → IsUncopied want → P b (More want))
     (done : (b found : Bool) → P b (ends_found found))
     (put : (b : Bool) (t : Token) (n : ℕ) → n ≤ 4 → P b (Puts t n))
   where
@@ -50,16 +52,17 @@ module _
     giving_holds (t ∷ ts) few b (Told ∷ fed) = giving_holds ts (omega (arith, few)) true fed
     giving_holds (t ∷ ts) few b (y ∷ fed) = done _ false
 
-    from_holds : (cs : List ℕ) (ts : List Token) → length cs + length ts ≤ 5 → (want : Want) (b : Bool) (fed : List Fed) → P (is_told b fed) (keyword_from cs ts want fed)
-    from_holds [] ts few want b fed = done (is_told b fed) true
-    from_holds (c ∷ cs) ts few want b [] = more b want
-    from_holds (c ∷ cs) ts few want b (Tok x ∷ fed) =
+    from_holds : (cs : List ℕ) (ts : List Token) → length cs + length ts ≤ 5 → (b : Bool) (fed : List Fed) → P (is_told b fed) (keyword_from cs ts fed)
+    from_holds [] ts few b fed = done (is_told b fed) true
+    from_holds (c ∷ cs) ts few b [] = more b Expanded tt
+    from_holds (c ∷ cs) ts few b (Tok x ∷ fed) =
         either_holds (is_told false fed) (is_letter c x.token) _ _
-        (from_holds cs (x.token ∷ ts) (omega (arith, few)) Expanded false fed) (giving_holds (x.token ∷ ts) (omega (arith, few)) false fed)
-    from_holds (c ∷ cs) ts few want b (y ∷ fed) = done _ false
+        (from_holds cs (x.token ∷ ts) (omega (arith, few)) false fed)
+        (either_holds (is_told false fed) (is_skipped ts x) _ _ (from_holds (c ∷ cs) ts few false fed) (giving_holds (x.token ∷ ts) (omega (arith, few)) false fed))
+    from_holds (c ∷ cs) ts few b (y ∷ fed) = done _ false
 
     pub keyword_holds : (w : Keyword) (b : Bool) (fed : List Fed) → P (is_told b fed) (keyword w fed)
-    keyword_holds w b fed = from_holds (letters w) [] (omega (arith, letters_few w)) Nonblank b fed
+    keyword_holds w b fed = from_holds (letters w) [] (omega (arith, letters_few w)) b fed
 
 -- WEIGHTS
 
@@ -77,27 +80,28 @@ giving_falls (t ∷ u ∷ ts) [] = λ h. omega arith
 giving_falls (t ∷ ts) (Told ∷ fed) = giving_falls ts fed
 giving_falls (t ∷ ts) (y ∷ fed) = λ h. absurd h
 
-from_falls : (cs : List ℕ) (ts : List Token) (want : Want) (fed : List Fed) → Falls (keyword_from cs ts want fed) (keyword_from cs ts want (fed ++ Told ∷ []))
-from_falls [] ts want fed = λ h. absurd h
-from_falls (c ∷ cs) ts want [] = λ h. absurd h
-from_falls (c ∷ cs) ts want (Tok x ∷ fed) =
-    falls_if (is_letter c x.token) _ _ _ _ (from_falls cs (x.token ∷ ts) Expanded fed) (giving_falls (x.token ∷ ts) fed)
-from_falls (c ∷ cs) ts want (y ∷ fed) = λ h. absurd h
+from_falls : (cs : List ℕ) (ts : List Token) (fed : List Fed) → Falls (keyword_from cs ts fed) (keyword_from cs ts (fed ++ Told ∷ []))
+from_falls [] ts fed = λ h. absurd h
+from_falls (c ∷ cs) ts [] = λ h. absurd h
+from_falls (c ∷ cs) ts (Tok x ∷ fed) =
+    falls_if (is_letter c x.token) _ _ _ _ (from_falls cs (x.token ∷ ts) fed)
+    (falls_if (is_skipped ts x) _ _ _ _ (from_falls (c ∷ cs) ts fed) (giving_falls (x.token ∷ ts) fed))
+from_falls (c ∷ cs) ts (y ∷ fed) = λ h. absurd h
 
 pub keyword_falls : (w : Keyword) (fed : List Fed) → IsNoted (keyword w fed) → ask_weight value_weight (keyword w (fed ++ Told ∷ [])) < ask_weight value_weight (keyword w fed)
-keyword_falls w fed = from_falls (letters w) [] Nonblank fed
+keyword_falls w fed = from_falls (letters w) [] fed
 
 light_if : (c : Bool) (p q : Ask) → ask_weight value_weight p ≤ 59 → ask_weight value_weight q ≤ 59 → ask_weight value_weight (if c then p else q) ≤ 59
 light_if true p q h i = h
 light_if false p q h i = i
 
-more_light : (cs : List ℕ) (ts : List Token) → ask_weight value_weight (keyword_from cs ts Expanded []) ≤ 59
+more_light : (cs : List ℕ) (ts : List Token) → ask_weight value_weight (keyword_from cs ts []) ≤ 59
 more_light [] ts = omega arith
 more_light (c ∷ cs) ts = omega arith
 
-from_light : (cs : List ℕ) (x : Seen) → ask_weight value_weight (keyword_from cs [] Nonblank (Tok x ∷ [])) ≤ 59
+from_light : (cs : List ℕ) (x : Seen) → ask_weight value_weight (keyword_from cs [] (Tok x ∷ [])) ≤ 59
 from_light [] x = omega arith
-from_light (c ∷ cs) x = light_if (is_letter c x.token) _ _ (more_light cs (x.token ∷ [])) (omega arith)
+from_light (c ∷ cs) x = light_if (is_letter c x.token) _ _ (more_light cs (x.token ∷ [])) (light_if (is_space x) _ _ (more_light (c ∷ cs) []) (omega arith))
 
 -- one that began with a token puts back that one alone
 pub keyword_light : (w : Keyword) (x : Seen) → ask_weight value_weight (keyword w (Tok x ∷ [])) ≤ 59

@@ -28,7 +28,7 @@ call_lends b name (call.Ended false args work) = tt
 call_lends b name a = tt
 
 integer_lends : (b : Bool) (fed : List Fed) → Lends b (integer false fed)
-integer_lends b fed = integer_holds (λ c a. Lends b a) (λ c want. tt) (λ report back. tt) (λ c n back. tt) (λ c. tt) (λ c l. tt) false false fed
+integer_lends b fed = integer_holds (λ c a. Lends b a) (λ c want plain. tt) (λ report back. tt) (λ c n back. tt) (λ c. tt) (λ c l. tt) false false fed
 
 pub lends : (k : Kind) (fed : List Fed) → Lends (is_met false fed) (ask k fed)
 lends (Reads (Command c)) fed = row_lends c fed
@@ -36,11 +36,11 @@ lends (Reads Integer) fed = integer_lends (is_met false fed) fed
 lends (Reads Factor) fed = factor_lends (is_met false fed) fed (integer_lends (is_met false fed) fed)
 lends (Reads (Dimension k)) fed = dimension_lends k fed
 lends (Reads (Glue mu)) fed = glue_lends mu fed
-lends (Reads (Keyword w)) fed = keyword_holds (λ b a. Lends (is_met false fed) a) (λ b want. tt) (λ b found. tt) (λ b t n few. tt) w false fed
+lends (Reads (Keyword w)) fed = keyword_holds (λ b a. Lends (is_met false fed) a) (λ b want plain. tt) (λ b found. tt) (λ b t n few. tt) w false fed
 lends (Reads (Text name expanded)) fed = build_lends (is_met false fed) (text name expanded fed)
 lends (Reads (Definition name expanded)) fed = build_lends (is_met false fed) (definition name expanded fed)
-lends (Spelling c) fed = spelling_holds (λ b a. Lends (is_met false fed) a) (λ b want. tt) (λ report back. tt) (λ b. tt) (λ b c ts. tt) c [] false fed
-lends (FileName c) fed = naming_holds (λ b a. Lends (is_met false fed) a) (λ b want. tt) (λ report back. tt) (λ b. tt) (λ b c back ts. tt) c Nonblank [] false fed
+lends (Spelling c) fed = spelling_holds (λ b a. Lends (is_met false fed) a) (λ b want plain. tt) (λ report back. tt) (λ b. tt) (λ b c ts. tt) c [] false fed
+lends (FileName c) fed = naming_holds (λ b a. Lends (is_met false fed) a) (λ b want plain. tt) (λ report back. tt) (λ b. tt) (λ b c back ts. tt) c Nonblank tt [] false fed
 lends (Behind c x) fed = tt
 lends (Arguments name long number ts) [] = tt
 lends (Arguments name long number ts) (y ∷ fed) = call_lends (is_met false (y ∷ fed)) name (gathered long ts (y ∷ fed))

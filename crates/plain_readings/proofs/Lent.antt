@@ -71,22 +71,23 @@ numbers_fits k b [] = tt
 numbers_fits k b (Val v ts ∷ fed) = valued_fits (numbered_by k v) ts fed
 numbers_fits k b (y ∷ fed) = tt
 
-met_fits : (x : Seen) (m : Met) (skipped : Call → Outcome) (retried : Note → Outcome) (fed : List Fed) →
-    ((c : Call) → Fits (is_met true fed) (skipped c)) → ((n : Note) → Fits (is_met true fed) (retried n)) → Fits (is_met true fed) (met_with (Tok x) m skipped retried fed)
-met_fits x (met.Takes d) skipped retried fed h i = (true, refl)
-met_fits x met.Passes skipped retried fed h i = (true, refl)
-met_fits x met.Leaves skipped retried fed h i = (false, refl)
-met_fits x (met.Skips c) skipped retried fed h i = h c
-met_fits x (met.Notes n m) skipped retried fed h i = noted_fits n m true fed
-met_fits x (met.Retries n) skipped retried fed h i = i n
-met_fits x (met.Numbers k) skipped retried fed h i = numbers_fits k true fed
-met_fits x (met.Turns c) skipped retried fed h i = (true, refl)
+met_fits : (s : Stage) (x : Seen) (m : Met) (skipped : Call → Outcome) (retried : Note → Outcome) (fed : List Fed) →
+    ((c : Call) → Fits (is_met true fed) (skipped c)) → ((n : Note) → Fits (is_met true fed) (retried n)) → Fits (is_met true fed) (met_with s (Tok x) m skipped retried fed)
+met_fits s x (met.Takes d) skipped retried fed h i = (true, refl)
+met_fits s x met.Passes skipped retried fed h i = (true, refl)
+met_fits s x met.Leaves skipped retried fed h i = (false, refl)
+met_fits s x (met.Skips c) skipped retried fed h i = h c
+met_fits s x (met.Notes n m) skipped retried fed h i = noted_fits n m true fed
+met_fits s x (met.Retries n) skipped retried fed h i = i n
+met_fits s x (met.Numbers k) skipped retried fed h i = numbers_fits k true fed
+met_fits s x (met.Begins k) skipped retried fed h i = inner_fits s k fed
+met_fits s x (met.Turns c) skipped retried fed h i = (true, refl)
 
 mutual
   looks_fits : (s : Stage) (c : Call) (want : Want) (b : Bool) (fed : List Fed) → Fits (is_met b fed) (looks s c want fed)
   looks_fits s c want b [] = tt
   looks_fits s c want b (Tok x ∷ fed) =
-      met_fits x (on_token s c x) (λ d. looks s d want fed) (λ n. again s c want n fed) fed (λ d. looks_fits s d want true fed) (λ n. again_fits s c want n fed)
+      met_fits s x (on_token s c x) (λ d. looks s d want fed) (λ n. again s c want n fed) fed (λ d. looks_fits s d want true fed) (λ n. again_fits s c want n fed)
   looks_fits s c want b (y ∷ fed) = tt
 
   again_fits : (s : Stage) (c : Call) (want : Want) (n : Note) (fed : List Fed) → Fits (is_met true fed) (again s c want n fed)

@@ -1,6 +1,7 @@
 pub mod Full
 pub mod Quiet
 pub mod Extra
+pub mod Wants
 pub mod Steps
 pub mod Keywords
 pub mod Lent
@@ -15,4 +16,7 @@ pub mod Lending
 pub mod Values
 pub mod Lower
 pub mod Notes
+pub mod RowWants
+pub mod MeasureWants
+pub mod Entering
 pub mod Weights

@@ -13,7 +13,8 @@ use Rattle.rows.specs.declared.stage.Note.TheVariants as note
 use Rattle.rows.specs.declared.command.Call.{Call}
 use Rattle.rows.specs.Readings.{Fed, Ask, Inner}
 use Rattle.rows.specs.Run.{due}
-use Rattle.rows.proofs.Runs.{IsLow, row_holds}
+use Rattle.rows.proofs.Tokens.{IsLow}
+use Rattle.rows.proofs.Runs.{row_holds}
 use Rattle.plain_readings.specs.Lists.{build_ask, text, definition}
 use Rattle.plain_readings.specs.Calls.{call_ask, gathered}
 use Rattle.plain_readings.specs.Readings.{Kind, Reads, Spelling, FileName, Behind, Arguments, ask}
@@ -65,15 +66,15 @@ glue_lower mu a h = tt
 pub lower : (k : Kind) (fed : List Fed) → BeginsBy k (ask k fed)
 lower (Reads (Command d)) fed =
     row_holds (λ b a. BeginsBy (Reads (Command d)) a) (λ b want. tt) (λ b j begins low. low_rank j low) (λ b c e. tt) (λ b c e ts. tt) (λ b c n ts. tt) (λ b. tt) (λ n. due_low d n) d fed
-lower (Reads Integer) fed = integer_holds (λ b a. BeginsBy (Reads Integer) a) (λ b want. tt) (λ report back. tt) (λ b n back. tt) (λ b. refl) (λ b l. tt) false false fed
+lower (Reads Integer) fed = integer_holds (λ b a. BeginsBy (Reads Integer) a) (λ b want plain. tt) (λ report back. tt) (λ b n back. tt) (λ b. refl) (λ b l. tt) false false fed
 lower (Reads Factor) fed = factor_lower (ask (Reads Factor) fed) (values (Reads Factor) fed)
 lower (Reads (Dimension k)) fed = dimension_lower k (ask (Reads (Dimension k)) fed) (values (Reads (Dimension k)) fed)
 lower (Reads (Glue mu)) fed = glue_lower mu (ask (Reads (Glue mu)) fed) (values (Reads (Glue mu)) fed)
-lower (Reads (Keyword w)) fed = keyword_holds (λ b a. BeginsBy (Reads (Keyword w)) a) (λ b want. tt) (λ b found. tt) (λ b t n few. tt) w false fed
+lower (Reads (Keyword w)) fed = keyword_holds (λ b a. BeginsBy (Reads (Keyword w)) a) (λ b want plain. tt) (λ b found. tt) (λ b t n few. tt) w false fed
 lower (Reads (Text name expanded)) fed = text_lower name expanded (text name expanded fed)
 lower (Reads (Definition name expanded)) fed = definition_lower name expanded (definition name expanded fed)
-lower (Spelling c) fed = spelling_holds (λ b a. BeginsBy (Spelling c) a) (λ b want. tt) (λ report back. tt) (λ b. tt) (λ b d ts. tt) c [] false fed
-lower (FileName c) fed = naming_holds (λ b a. BeginsBy (FileName c) a) (λ b want. tt) (λ report back. tt) (λ b. tt) (λ b d back ts. tt) c Nonblank [] false fed
+lower (Spelling c) fed = spelling_holds (λ b a. BeginsBy (Spelling c) a) (λ b want plain. tt) (λ report back. tt) (λ b. tt) (λ b d ts. tt) c [] false fed
+lower (FileName c) fed = naming_holds (λ b a. BeginsBy (FileName c) a) (λ b want plain. tt) (λ report back. tt) (λ b. tt) (λ b d back ts. tt) c Nonblank tt [] false fed
 lower (Behind c x) fed = tt
 lower (Arguments name long number ts) [] = tt
 lower (Arguments name long number ts) (y ∷ fed) = call_lower name long number ts (gathered long ts (y ∷ fed))

@@ -9,7 +9,7 @@ use Rattle.tex_syntax.specs.declared.words.Want.TheVariants.{Nonblank}
 use Rattle.rows.specs.declared.words.Kind.TheVariants.{Command, Integer, Factor, Dimension, Glue, Keyword, Text, Definition}
 use Rattle.rows.specs.declared.stage.Note.{Note}
 use Rattle.rows.specs.Laws.{is_told}
-use Rattle.rows.specs.Readings.{Fed, Tok, Val, Told, Fetched, Cut, Ask, Relaxes}
+use Rattle.rows.specs.Readings.{Fed, Tok, Val, Told, Fetched, Entered, Cut, Ask, Relaxes}
 use Rattle.rows.specs.Run.{due}
 use Rattle.rows.proofs.Runs.{row_holds}
 use Rattle.plain_readings.specs.Lists.{build_ask, build_fed, manner, text, definition}
@@ -46,6 +46,7 @@ told_last b (Told ∷ fed) = told_last true fed
 told_last b (Tok x ∷ fed) = told_last false fed
 told_last b (Val v ts ∷ fed) = told_last false fed
 told_last b (Fetched v ∷ fed) = told_last false fed
+told_last b (Entered t ∷ fed) = told_last false fed
 told_last b (Cut ∷ fed) = told_last false fed
 
 quiet_last : (a : Ask) (b : Bool) (fed : List Fed) → IsQuiet (is_told b (fed ++ Told ∷ [])) a → notes_due a ≡ 0
@@ -62,6 +63,7 @@ build_last : (fed : List Fed) → build_fed (fed ++ Told ∷ []) ≡ quiet.noted
 build_last [] = refl
 build_last (Tok x ∷ fed) = rw (build_last fed) refl
 build_last (Told ∷ fed) = rw (build_last fed) refl
+build_last (Entered t ∷ fed) = rw (build_last fed) refl
 build_last (Val v ts ∷ fed) = build_last fed
 build_last (Fetched v ∷ fed) = build_last fed
 build_last (Cut ∷ fed) = build_last fed
@@ -73,6 +75,7 @@ call_last (Told ∷ fed) = rw (call_last fed) refl
 call_last (Cut ∷ fed) = rw (call_last fed) refl
 call_last (Val v ts ∷ fed) = call_last fed
 call_last (Fetched v ∷ fed) = call_last fed
+call_last (Entered t ∷ fed) = call_last fed
 
 build_quiet : (a : build.Answer) → quiet.IsQuiet a → notes_due (build_ask a) ≡ 0
 build_quiet (build.More want list) h = refl
@@ -102,7 +105,7 @@ factor_quiet a v h = h
 integer_quiet : (fed : List Fed) → notes_due (ask (Reads Integer) (fed ++ Told ∷ [])) ≡ 0
 integer_quiet fed =
     quiet_last (ask (Reads Integer) (fed ++ Told ∷ [])) false fed
-    (integer_holds IsQuiet (λ b want. any b _ refl) (λ report back. tt) (λ b n back. any b _ refl) (λ b. any b _ refl) (λ b l. any b _ refl) false false (fed ++ Told ∷ []))
+    (integer_holds IsQuiet (λ b want plain. any b _ refl) (λ report back. tt) (λ b n back. any b _ refl) (λ b. any b _ refl) (λ b l. any b _ refl) false false (fed ++ Told ∷ []))
 
 pub told_quiet : (k : Kind) (fed : List Fed) → IsSingle k → notes_due (ask k (fed ++ Told ∷ [])) ≡ 0
 told_quiet (Reads (Command c)) fed h =
@@ -117,7 +120,7 @@ told_quiet (Reads (Dimension k)) fed h = absurd h
 told_quiet (Reads (Glue mu)) fed h = absurd h
 told_quiet (Reads (Keyword w)) fed h =
     quiet_last (ask (Reads (Keyword w)) (fed ++ Told ∷ [])) false fed
-    (keyword_holds IsQuiet (λ b want. any b _ refl) (λ b found. any b _ refl) (λ b t n few. any b _ refl) w false (fed ++ Told ∷ []))
+    (keyword_holds IsQuiet (λ b want plain. any b _ refl) (λ b found. any b _ refl) (λ b t n few. any b _ refl) w false (fed ++ Told ∷ []))
 told_quiet (Reads (Text name expanded)) fed h =
     build_quiet (text name expanded (fed ++ Told ∷ []))
     (subst (λ (fed : List build.Fed). quiet.IsQuiet (build.text (manner name expanded) fed)) (sym (build_last fed)) (first_quiet (manner name expanded) [] (build_fed fed)))
@@ -126,10 +129,10 @@ told_quiet (Reads (Definition name expanded)) fed h =
     (subst (λ (fed : List build.Fed). quiet.IsQuiet (build.definition (manner name expanded) fed)) (sym (build_last fed)) (parameters_quiet (manner name expanded) 0 [] (build_fed fed)))
 told_quiet (Spelling c) fed h =
     quiet_last (ask (Spelling c) (fed ++ Told ∷ [])) false fed
-    (spelling_holds IsQuiet (λ b want. any b _ refl) (λ report back. tt) (λ b. any b _ refl) (λ b c ts. any b _ refl) c [] false (fed ++ Told ∷ []))
+    (spelling_holds IsQuiet (λ b want plain. any b _ refl) (λ report back. tt) (λ b. any b _ refl) (λ b c ts. any b _ refl) c [] false (fed ++ Told ∷ []))
 told_quiet (FileName c) fed h =
     quiet_last (ask (FileName c) (fed ++ Told ∷ [])) false fed
-    (naming_holds IsQuiet (λ b want. any b _ refl) (λ report back. tt) (λ b. any b _ refl) (λ b c back ts. any b _ refl) c Nonblank [] false (fed ++ Told ∷ []))
+    (naming_holds IsQuiet (λ b want plain. any b _ refl) (λ report back. tt) (λ b. any b _ refl) (λ b c back ts. any b _ refl) c Nonblank tt [] false (fed ++ Told ∷ []))
 told_quiet (Behind c x) fed h = refl
 told_quiet (Arguments name long number ts) fed h = arguments_quiet name long number ts fed
 

@@ -24,9 +24,10 @@ use Rattle.rows.specs.Readings.{Fed, Tok, Val, Told, Fetched, Ask, More, Inner, 
 use Rattle.plain_readings.specs.Integers.{ends_with, is_digit, digit_of, is_minus, is_plus, greatest_integer, signed, digits_dropped, too_big, digits, missing, first_digit, behind_number, behind_code, constant, code_of, improper_code, mu_found, fetched, bad_numbered, with_number, numbered, internal_integer, by_meaning, unsigned, integer}
 use Rattle.plain_readings.specs.Spelling.{is_endcsname, makes, endcsname_missing, spelling}
 use Rattle.plain_readings.specs.FileNames.{character_meant, is_blank, opens, named_on, file_naming}
+use Rattle.plain_readings.proofs.Wants.{IsUncopied}
 
 -- a law speaks of an answer, and of whether a note came last
-module _ (P : Bool → Ask → Type 0) (more : (b : Bool) (want : Want) → P b (More want)) (tell : (report : Report) (back : Bool) → P false (Tells report back)) where
+module _ (P : Bool → Ask → Type 0) (more : (b : Bool) (want : Want) → IsUncopied want → P b (More want)) (tell : (report : Report) (back : Bool) → P false (Tells report back)) where
   if_holds : (b c : Bool) (p q : Ask) → P b p → P b q → P b (if c then p else q)
   if_holds b true p q h i = h
   if_holds b false p q h i = i
@@ -37,7 +38,7 @@ module _ (P : Bool → Ask → Type 0) (more : (b : Bool) (want : Want) → P b 
       (fetch : (b : Bool) (l : Loc) → P b (Fetches l))
     where
       dropped_holds : (negative : Bool) (radix : ℕ) (b : Bool) (fed : List Fed) → P (is_told b fed) (digits_dropped negative radix fed)
-      dropped_holds negative radix b [] = more b Expanded
+      dropped_holds negative radix b [] = more b Expanded tt
       dropped_holds negative radix b (Tok x ∷ fed) =
           if_holds _ (is_digit radix x) _ _ (dropped_holds negative radix false fed) (done _ (signed negative greatest_integer) (not (is_space x)))
       dropped_holds negative radix b (y ∷ fed) = done _ (pos 0) false
@@ -48,7 +49,7 @@ module _ (P : Bool → Ask → Type 0) (more : (b : Bool) (want : Want) → P b 
       too_big_holds negative radix (y ∷ fed) = done _ (pos 0) false
 
       digits_hold : (negative : Bool) (radix n : ℕ) (b : Bool) (fed : List Fed) → P (is_told b fed) (digits negative radix n fed)
-      digits_hold negative radix n b [] = more b Expanded
+      digits_hold negative radix n b [] = more b Expanded tt
       digits_hold negative radix n b (Tok x ∷ fed) =
           if_holds _ (is_digit radix x) _ _
           (if_holds _ (nat_le (n * radix + digit_of x.token) greatest_integer) _ _ (digits_hold negative radix (n * radix + digit_of x.token) false fed) (too_big_holds negative radix fed))
@@ -61,13 +62,13 @@ module _ (P : Bool → Ask → Type 0) (more : (b : Bool) (want : Want) → P b 
       missing_holds n report (y ∷ fed) = done _ (pos 0) false
 
       first_holds : (negative : Bool) (radix : ℕ) (fed : List Fed) → P (is_told false fed) (first_digit negative radix fed)
-      first_holds negative radix [] = more false Expanded
+      first_holds negative radix [] = more false Expanded tt
       first_holds negative radix (Tok x ∷ fed) =
           if_holds _ (is_digit radix x) _ _ (digits_hold negative radix (digit_of x.token) false fed) (missing_holds (pos 0) MissingNumber fed)
       first_holds negative radix (y ∷ fed) = done _ (pos 0) false
 
       behind_holds : (negative : Bool) (n : ℕ) (fed : List Fed) → P (is_told false fed) (behind_number negative n fed)
-      behind_holds negative n [] = more false Expanded
+      behind_holds negative n [] = more false Expanded tt
       behind_holds negative n (Tok x ∷ fed) = done _ (signed negative n) (not (is_space x))
       behind_holds negative n (y ∷ fed) = done _ (pos 0) false
 
@@ -76,7 +77,7 @@ module _ (P : Bool → Ask → Type 0) (more : (b : Bool) (want : Want) → P b 
       code_holds negative (Some c) fed = behind_holds negative c fed
 
       constant_holds : (negative : Bool) (fed : List Fed) → P (is_told false fed) (constant negative fed)
-      constant_holds negative [] = more false Raw
+      constant_holds negative [] = more false Raw tt
       constant_holds negative (Tok x ∷ fed) = code_holds negative (code_of x.token) fed
       constant_holds negative (y ∷ fed) = done _ (pos 0) false
 
@@ -123,7 +124,7 @@ module _ (P : Bool → Ask → Type 0) (more : (b : Bool) (want : Want) → P b 
           (meaning_holds negative (internal_of x.meaning) x fed)))
 
       pub integer_holds : (negative b : Bool) (fed : List Fed) → P (is_told b fed) (integer negative fed)
-      integer_holds negative b [] = more b Nonblank
+      integer_holds negative b [] = more b Nonblank tt
       integer_holds negative b (Tok x ∷ fed) =
           if_holds _ (is_minus x) _ _ (integer_holds (not negative) false fed) (if_holds _ (is_plus x) _ _ (integer_holds negative false fed) (unsigned_holds negative x fed))
       integer_holds negative b (y ∷ fed) = done _ (pos 0) false
@@ -135,7 +136,7 @@ module _ (P : Bool → Ask → Type 0) (more : (b : Bool) (want : Want) → P b 
     endcsname_holds c ts (y ∷ fed) = end _
 
     pub spelling_holds : (c : Call) (ts : List Token) (b : Bool) (fed : List Fed) → P (is_told b fed) (spelling c ts fed)
-    spelling_holds c ts b [] = more b Expanded
+    spelling_holds c ts b [] = more b Expanded tt
     spelling_holds c ts b (Tok x ∷ fed) =
         if_holds _ (is_character x.token) _ _ (spelling_holds c (ts ++ x.token ∷ []) false fed) (if_holds _ (is_endcsname x) _ _ (make _ c ts) (endcsname_holds c ts fed))
     spelling_holds c ts b (y ∷ fed) = end _
@@ -145,8 +146,8 @@ module _ (P : Bool → Ask → Type 0) (more : (b : Bool) (want : Want) → P b 
     named_holds c ts b None longer h = opened b c true ts
     named_holds c ts b (Some t) longer h = if_holds b (is_blank t) _ _ (opened b c false ts) (h (ts ++ t ∷ []))
 
-    pub naming_holds : (c : Call) (want : Want) (ts : List Token) (b : Bool) (fed : List Fed) → P (is_told b fed) (file_naming c want ts fed)
-    naming_holds c want ts b [] = more b want
-    naming_holds c want ts b (Tok x ∷ fed) =
-        named_holds c ts (is_told false fed) (character_meant x.meaning) (λ us. file_naming c Expanded us fed) (λ us. naming_holds c Expanded us false fed)
-    naming_holds c want ts b (y ∷ fed) = end _
+    pub naming_holds : (c : Call) (want : Want) → IsUncopied want → (ts : List Token) (b : Bool) (fed : List Fed) → P (is_told b fed) (file_naming c want ts fed)
+    naming_holds c want plain ts b [] = more b want plain
+    naming_holds c want plain ts b (Tok x ∷ fed) =
+        named_holds c ts (is_told false fed) (character_meant x.meaning) (λ us. file_naming c Expanded us fed) (λ us. naming_holds c Expanded tt us false fed)
+    naming_holds c want plain ts b (y ∷ fed) = end _

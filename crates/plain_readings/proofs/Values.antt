@@ -46,7 +46,7 @@ call_valueless name (call.Ended false args work) = tt
 call_valueless name a = tt
 
 integer_value : (fed : List Fed) → GivesValue Integer [] (integer false fed)
-integer_value fed = integer_holds (λ b a. GivesValue Integer [] a) (λ b want. tt) (λ report back. tt) (λ b n back. tt) (λ b. (refl, refl)) (λ b l. tt) false false fed
+integer_value fed = integer_holds (λ b a. GivesValue Integer [] a) (λ b want plain. tt) (λ report back. tt) (λ b n back. tt) (λ b. (refl, refl)) (λ b l. tt) false false fed
 
 pub values : (k : Kind) (fed : List Fed) → EndsAs k (lists k fed) (ask k fed)
 values (Reads (Command c)) fed =
@@ -55,12 +55,12 @@ values (Reads Integer) fed = integer_value fed
 values (Reads Factor) fed = factor_value fed (integer_value fed)
 values (Reads (Dimension k)) fed = dimension_value k (dimens.dimension k false (dimen_fed fed))
 values (Reads (Glue mu)) fed = glue_value_given mu (glues.glue mu false (glue_fed fed))
-values (Reads (Keyword w)) fed = keyword_holds (λ b a. GivesValue (Keyword w) [] a) (λ b want. tt) (λ b found. tt) (λ b t n few. few) w false fed
+values (Reads (Keyword w)) fed = keyword_holds (λ b a. GivesValue (Keyword w) [] a) (λ b want plain. tt) (λ b found. tt) (λ b t n few. few) w false fed
 values (Reads (Text name expanded)) fed = text_value name expanded (text name expanded fed)
 values (Reads (Definition name expanded)) fed =
     definition_value name expanded (definition name expanded fed) (parameters_full (manner name expanded) 0 [] (build_fed fed))
-values (Spelling c) fed = spelling_holds (λ b a. IsValueless a) (λ b want. tt) (λ report back. tt) (λ b. tt) (λ b c ts. tt) c [] false fed
-values (FileName c) fed = naming_holds (λ b a. IsValueless a) (λ b want. tt) (λ report back. tt) (λ b. tt) (λ b c back ts. tt) c Nonblank [] false fed
+values (Spelling c) fed = spelling_holds (λ b a. IsValueless a) (λ b want plain. tt) (λ report back. tt) (λ b. tt) (λ b c ts. tt) c [] false fed
+values (FileName c) fed = naming_holds (λ b a. IsValueless a) (λ b want plain. tt) (λ report back. tt) (λ b. tt) (λ b c back ts. tt) c Nonblank tt [] false fed
 values (Behind c x) fed = tt
 values (Arguments name long number ts) [] = tt
 values (Arguments name long number ts) (y ∷ fed) = call_valueless name (gathered long ts (y ∷ fed))

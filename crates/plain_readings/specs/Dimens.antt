@@ -1,9 +1,7 @@
 -- Dimensions: signs, a factor with its fraction, and a unit of measure; or an internal dimension. In glue a stretch or shrink may be infinite, and mu
 -- glue has a unit of its own. The TeXbook, chapters 10, 12, 18 and 24; TeX: The Program, part 26 (`scan_dimen`).
-use Rattle.std.specs.Prelude.{ℕ, ◌+◌, ◌*◌, ◌/◌, ◌%◌, ◌-◌, ◌==◌, ◌||◌, nat_lt, ℤ, pos, negsuc, nat_abs, int_div, ◌+ℤ◌, ◌*ℤ◌, Bool, true, false, not, if◌then◌else◌, List, [], ◌∷◌, ◌++◌, length, Option, Some, None}
+use Rattle.std.specs.Prelude.{ℕ, ◌+◌, ◌*◌, ◌/◌, ◌%◌, ◌-◌, ◌==◌, nat_lt, ℤ, pos, negsuc, nat_abs, int_div, ◌+ℤ◌, ◌*ℤ◌, Bool, true, false, not, if◌then◌else◌, List, [], ◌∷◌, ◌++◌, length, Option, Some, None, is_some}
 use Rattle.tex_defs.specs.declared.Seen.{Seen}
-use Rattle.tex_defs.specs.declared.Meaning.{Meaning}
-use Rattle.tex_defs.specs.declared.Meaning.TheVariants as means
 use Rattle.tex_defs.specs.declared.RegisterKind.TheVariants as register
 use Rattle.tex_syntax.specs.declared.words.Want.{Want}
 use Rattle.tex_syntax.specs.declared.words.Want.TheVariants.{Expanded, Nonblank}
@@ -11,7 +9,6 @@ use Rattle.tex_syntax.specs.declared.words.Report.{Report}
 use Rattle.tex_syntax.specs.declared.words.Report.TheVariants.{MissingNumber, IncompatibleUnits, DimensionTooLarge, IllegalUnit}
 use Rattle.tex_syntax.specs.declared.words.UnitTaken.{UnitTaken}
 use Rattle.tex_syntax.specs.declared.words.UnitTaken.TheVariants as taken
-use Rattle.plain_tokens.specs.Categories.{is_between}
 use Rattle.plain_tokens.specs.Tokens.{is_space}
 use Rattle.scaled_arith.specs.Scaled.{fraction_of}
 use Rattle.equivalents.specs.declared.values.Loc.{Loc}
@@ -24,7 +21,7 @@ use Rattle.rows.specs.declared.internal.Bank.{Bank}
 use Rattle.rows.specs.declared.internal.Internal.{Internal}
 use Rattle.rows.specs.declared.internal.Internal.TheVariants as internal
 use Rattle.rows.specs.Tokens.{is_at_most}
-use Rattle.rows.specs.Internal.{byte_of, location_in, bad_number, internal_of, in_bounds, integer_of, with_sign, is_mu}
+use Rattle.rows.specs.Internal.{byte_of, location_in, bad_number, internal_of, list_of, in_bounds, integer_of, with_sign, is_mu}
 use Rattle.plain_readings.specs.Integers.{is_minus, is_plus, is_digit, digit_of}
 use Rattle.rows.specs.declared.words.DimenKind.{DimenKind}
 use Rattle.rows.specs.Arithmetic.{too_large, measured}
@@ -198,12 +195,6 @@ no_number mu negative [] = Tells MissingNumber true
 no_number mu negative (Told ∷ fed) = valued mu false negative (Some (pos 0)) fed
 no_number mu negative (y ∷ fed) = senseless
 
--- the registers and parameters that are lists of tokens: `\toks`, the names of its registers, and the last eight parameters
-abbrev pub is_list : Meaning Unit → Bool
-is_list (means.Register register.Toks n) = true
-is_list (means.Prim n) = (n == 45) || is_between 179 186 n
-is_list m = false
-
 -- what stands at a location, as an integer: a dimension in sp, glue by its width
 abbrev pub fetched : (onward : Loc → ℤ → List Fed → Answer) → Loc → List Fed → Answer
 fetched onward l [] = Fetches l
@@ -247,7 +238,7 @@ internal_or_word k negative a None fed = word_unit k.mu negative a fed
 
 -- the token that is looked at for a unit
 abbrev pub unit_at : DimenKind → (negative : Bool) → Amount → Seen → List Fed → Answer
-unit_at k negative a x fed = if is_list x.meaning then no_number k.mu negative fed else internal_or_word k negative a (internal_of x.meaning) fed
+unit_at k negative a x fed = if is_some (list_of x.meaning) then no_number k.mu negative fed else internal_or_word k negative a (internal_of x.meaning) fed
 
 abbrev pub unit_sought : DimenKind → (negative : Bool) → Amount → List Fed → Answer
 unit_sought k negative a [] = More Nonblank
@@ -348,7 +339,7 @@ internal_or_factor k negative None fed = factored k negative fed
 abbrev pub unsigned : DimenKind → (negative : Bool) → Seen → List Fed → Answer
 unsigned k negative x fed =
     if is_point x then fraction k negative 0 [] fed
-    else if is_list x.meaning then no_number k.mu negative fed
+    else if is_some (list_of x.meaning) then no_number k.mu negative fed
     else internal_or_factor k negative (internal_of x.meaning) fed
 
 -- with the sign so far

@@ -1,10 +1,11 @@
--- Keywords: explicit characters of any category, small or capital, behind spaces. Where one isn't there, what was read is given back, but for the
--- spaces. The TeXbook, chapter 24; TeX: The Program, part 26 (`scan_keyword`).
+-- Keywords: explicit characters of any category, small or capital, behind spaces, of which none is their first letter. Where one isn't there, what
+-- was read is given back, but for the spaces. The TeXbook, chapter 24; TeX: The Program, part 26 (`scan_keyword`).
 use Rattle.std.specs.Prelude.{ℕ, ◌+◌, ◌==◌, ◌||◌, Bool, true, false, List, [], ◌∷◌, length, codes, if◌then◌else◌}
 use Rattle.tex_defs.specs.declared.Token.{Token}
 use Rattle.tex_defs.specs.declared.Token.TheVariants as token
-use Rattle.tex_syntax.specs.declared.words.Want.{Want}
-use Rattle.tex_syntax.specs.declared.words.Want.TheVariants.{Expanded, Nonblank}
+use Rattle.tex_defs.specs.declared.Seen.{Seen}
+use Rattle.tex_syntax.specs.declared.words.Want.TheVariants.{Expanded}
+use Rattle.plain_tokens.specs.Tokens.{is_space}
 use Rattle.rows.specs.declared.words.Keyword.{Keyword}
 use Rattle.rows.specs.declared.words.Keyword.TheVariants.{By, Plus, Minus, Fil, L, True, Em, Ex, Pt, In, Pc, Cm, Mm, Bp, Dd, Cc, Sp, Mu}
 use Rattle.rows.specs.declared.words.Datum.TheVariants as datum
@@ -47,13 +48,20 @@ giving_back (t ∷ ts) [] = Puts t (length ts)
 giving_back (t ∷ ts) (Told ∷ fed) = giving_back ts fed
 giving_back (t ∷ ts) (y ∷ fed) = ends_found false
 
+-- a space, before the first letter
+abbrev pub is_skipped : List Token → Seen → Bool
+is_skipped [] x = is_space x
+is_skipped (t ∷ ts) x = false
+
 -- these letters are still to come, behind these tokens, the last first
-abbrev pub keyword_from : List ℕ → List Token → Want → List Fed → Ask
-keyword_from [] ts want fed = ends_found true
-keyword_from (c ∷ cs) ts want [] = More want
-keyword_from (c ∷ cs) ts want (Tok x ∷ fed) =
-    if is_letter c x.token then keyword_from cs (x.token ∷ ts) Expanded fed else giving_back (x.token ∷ ts) fed
-keyword_from (c ∷ cs) ts want (y ∷ fed) = ends_found false
+abbrev pub keyword_from : List ℕ → List Token → List Fed → Ask
+keyword_from [] ts fed = ends_found true
+keyword_from (c ∷ cs) ts [] = More Expanded
+keyword_from (c ∷ cs) ts (Tok x ∷ fed) =
+    if is_letter c x.token then keyword_from cs (x.token ∷ ts) fed
+    else if is_skipped ts x then keyword_from (c ∷ cs) ts fed
+    else giving_back (x.token ∷ ts) fed
+keyword_from (c ∷ cs) ts (y ∷ fed) = ends_found false
 
 abbrev pub keyword : Keyword → List Fed → Ask
-keyword w fed = keyword_from (letters w) [] Nonblank fed
+keyword w fed = keyword_from (letters w) [] fed

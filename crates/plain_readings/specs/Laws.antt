@@ -1,8 +1,10 @@
 -- The laws of the readings, on which the machine's runs stand.
-use Rattle.std.specs.Prelude.{ℕ, ◌+◌, ◌-◌, ◌<◌, ◌≤◌, ◌≡◌, ◌≢◌, Bool, true, false, List, [], ◌∷◌, ◌++◌}
+use Rattle.std.specs.Prelude.{ℕ, ◌+◌, ◌-◌, ◌<◌, ◌≤◌, ◌≡◌, ◌≢◌, Bool, true, false, List, [], ◌∷◌, ◌++◌, length}
 use Rattle.tex_defs.specs.declared.Token.{Token}
+use Rattle.tex_syntax.specs.declared.words.Want.TheVariants.{Copied}
 use Rattle.tex_syntax.specs.declared.words.Report.{Report}
 use Rattle.tex_syntax.specs.declared.words.Report.TheVariants.{MissingNumber, IncompatibleUnits}
+use Rattle.plain_tokens.specs.Puts.{grow_first}
 use Rattle.rows.specs.declared.words.Datum.TheVariants as datum
 use Rattle.rows.specs.declared.words.Value.{Value}
 use Rattle.rows.specs.declared.words.Value.TheVariants as value
@@ -10,7 +12,7 @@ use Rattle.rows.specs.declared.words.Kind.{Kind as Begun}
 use Rattle.rows.specs.declared.words.Kind.TheVariants.{Command, Integer, Factor, Dimension, Glue, Keyword, Text, Definition}
 use Rattle.rows.specs.declared.command.Call.{Call}
 use Rattle.rows.specs.Laws.{IsValueless}
-use Rattle.rows.specs.Readings.{Fed, Tok, Told, Ask, More, Inner, Done, ActsOn, Tells, Inserts, Puts, Fetches, Magnifies}
+use Rattle.rows.specs.Readings.{Fed, Tok, Told, Entered, Ask, More, Inner, Done, ActsOn, Tells, Inserts, Puts, Fetches, Magnifies}
 use Rattle.plain_readings.specs.Readings.{Kind, Reads, Spelling, FileName, Behind, ask, lists}
 
 -- RANKS. A reading that was fed with nothing begins only readings of a lower rank.
@@ -104,6 +106,13 @@ Spells c held a = Unit {0}
 pub record NamesAreHeld : Type 0 where
   pub names : (c : Call) (fed : List Fed) → Spells c (lists (Spelling c) fed) (ask (Spelling c) fed)
   pub files : (c : Call) (fed : List Fed) → Spells c (lists (FileName c) fed) (ask (FileName c) fed)
+
+-- TOKENS THAT ENTER an expanded text as they stand: a reading that asks for one of its tokens has one list, to which such a token goes, and asks for
+-- another so.
+pub record TokensEnter : Type 0 where
+  pub copies : (k : Kind) (fed : List Fed) (t : Token) → ask k fed ≡ More Copied → ask k (fed ++ Entered t ∷ []) ≡ More Copied
+  pub listed : (k : Kind) (fed : List Fed) → ask k fed ≡ More Copied → length (lists k fed) ≡ 1
+  pub grows : (k : Kind) (fed : List Fed) (t : Token) → ask k fed ≡ More Copied → lists k (fed ++ Entered t ∷ []) ≡ grow_first t (lists k fed)
 
 -- NOTES. How many reports may come at once behind this one, in a dimension, at most: behind a number that is missing in mu, that this isn't mu, and behind
 -- that, that a dimension is too large. (Behind what is fetched more may come.)

@@ -10,7 +10,7 @@ use Rattle.tex_defs.specs.declared.Seen.{Seen}
 use Rattle.tex_syntax.specs.declared.words.Want.TheVariants.{Raw, Expanded, Copied, Nonblank}
 use Rattle.tex_syntax.specs.declared.words.Want.TheVariants as want
 use Rattle.tex_syntax.specs.declared.words.Report.TheVariants.{ImproperConstant, MissingNumber, NumberTooBig, BadCharacterCode, BadRegisterCode, IncompatibleUnits, DimensionTooLarge, MissingBrace, MissingEndcsname, ExtraBrace, ParagraphEnded, UseMismatch}
-use Rattle.plain_tokens.specs.Categories.{begin_group, end_group, parameter, letter, other}
+use Rattle.plain_tokens.specs.Categories.{begin_group, end_group, parameter, space, letter, other}
 use Rattle.rows.specs.declared.words.Datum.TheVariants.{Number}
 use Rattle.rows.specs.declared.words.Datum.TheVariants as datum
 use Rattle.rows.specs.declared.words.Value.TheVariants as value
@@ -25,7 +25,7 @@ use Rattle.equivalents.specs.declared.values.Loc.TheVariants as loc
 use Rattle.equivalents.specs.declared.values.Val.TheVariants as val
 use Rattle.equivalents.specs.First.{magnification}
 use Rattle.rows.specs.Worked.{character, primitive, call, asked, number, x, y, x_name, a_letter, a_space}
-use Rattle.rows.specs.Readings.{Fed, Tok, Val, Told, Fetched, Cut, Ask, More, Inner, Done, Acts, ActsOn, Ends, Calls, Fails, RunsAway, Tells, Inserts, Puts, Fetches, Magnifies}
+use Rattle.rows.specs.Readings.{Fed, Tok, Val, Told, Fetched, Entered, Cut, Ask, More, Inner, Done, Acts, ActsOn, Ends, Calls, Fails, RunsAway, Tells, Inserts, Puts, Fetches, Magnifies}
 use Rattle.plain_readings.specs.Integers.{ends_with}
 use Rattle.plain_readings.specs.Keywords.{ends_found}
 use Rattle.plain_readings.specs.Calls.{par_token}
@@ -256,28 +256,30 @@ letter_token c = token.Char letter c
 abbrev pub implicit_b : Seen
 implicit_b = record { token = token.Named x_name; meaning = means.Char letter 98 }
 
--- `by`; `BY`, where the `Y` has category 12; `l`. Spaces before it are read by no reading, since it wants its first token behind them.
+-- `by`; `BY`, where the `Y` has category 12; `l`. Spaces are skipped before it, but for one that is its first letter.
 pub record WorkedFound : Type 0 where
-  pub found : steps by_word (letters (98 ∷ 121 ∷ []) []) ≡ More Nonblank ∷ More Expanded ∷ ends_found true ∷ []
-  pub capitals : steps by_word (letters (66 ∷ []) (others (89 ∷ []) [])) ≡ More Nonblank ∷ More Expanded ∷ ends_found true ∷ []
-  pub single : steps (Reads (Keyword L)) (letters (76 ∷ []) []) ≡ More Nonblank ∷ ends_found true ∷ []
+  pub found : steps by_word (letters (98 ∷ 121 ∷ []) []) ≡ More Expanded ∷ More Expanded ∷ ends_found true ∷ []
+  pub capitals : steps by_word (letters (66 ∷ []) (others (89 ∷ []) [])) ≡ More Expanded ∷ More Expanded ∷ ends_found true ∷ []
+  pub behind_spaces : steps by_word (Tok a_space ∷ Tok a_space ∷ letters (98 ∷ 121 ∷ []) []) ≡ More Expanded ∷ More Expanded ∷ More Expanded ∷ More Expanded ∷ ends_found true ∷ []
+  pub space_letter : steps by_word (Tok (character space 98) ∷ letters (121 ∷ []) []) ≡ More Expanded ∷ More Expanded ∷ ends_found true ∷ []
+  pub single : steps (Reads (Keyword L)) (letters (76 ∷ []) []) ≡ More Expanded ∷ ends_found true ∷ []
 
 -- `b` and a space, which goes back, and then the `b`; a digit; a name that means the letter `b`; `plua` in place of `plus`, and `minut` in place of
 -- `minus`; no list is held
 pub record WorkedGivenBack : Type 0 where
   pub space :
       steps by_word (letters (98 ∷ []) (Tok a_space ∷ Told ∷ Told ∷ [])) ≡
-      More Nonblank ∷ More Expanded ∷ Puts a_space.token 1 ∷ Puts (letter_token 98) 0 ∷ ends_found false ∷ []
+      More Expanded ∷ More Expanded ∷ Puts a_space.token 1 ∷ Puts (letter_token 98) 0 ∷ ends_found false ∷ []
   pub space_held : holds by_word (letters (98 ∷ []) (Tok a_space ∷ Told ∷ [])) ≡ [] ∷ [] ∷ [] ∷ [] ∷ []
-  pub digit : steps by_word (others (50 ∷ []) (Told ∷ [])) ≡ More Nonblank ∷ Puts (token.Char other 50) 0 ∷ ends_found false ∷ []
-  pub name : steps by_word (Tok implicit_b ∷ Told ∷ []) ≡ More Nonblank ∷ Puts implicit_b.token 0 ∷ ends_found false ∷ []
+  pub digit : steps by_word (others (50 ∷ []) (Told ∷ [])) ≡ More Expanded ∷ Puts (token.Char other 50) 0 ∷ ends_found false ∷ []
+  pub name : steps by_word (Tok implicit_b ∷ Told ∷ []) ≡ More Expanded ∷ Puts implicit_b.token 0 ∷ ends_found false ∷ []
   pub fourth :
       steps (Reads (Keyword Plus)) (letters (112 ∷ 108 ∷ 117 ∷ 97 ∷ []) (Told ∷ Told ∷ Told ∷ Told ∷ [])) ≡
-      More Nonblank ∷ More Expanded ∷ More Expanded ∷ More Expanded ∷ Puts (letter_token 97) 3 ∷ Puts (letter_token 117) 2 ∷ Puts (letter_token 108) 1 ∷
+      More Expanded ∷ More Expanded ∷ More Expanded ∷ More Expanded ∷ Puts (letter_token 97) 3 ∷ Puts (letter_token 117) 2 ∷ Puts (letter_token 108) 1 ∷
       Puts (letter_token 112) 0 ∷ ends_found false ∷ []
   pub fifth :
       steps (Reads (Keyword Minus)) (letters (109 ∷ 105 ∷ 110 ∷ 117 ∷ 116 ∷ []) (Told ∷ [])) ≡
-      More Nonblank ∷ More Expanded ∷ More Expanded ∷ More Expanded ∷ More Expanded ∷ Puts (letter_token 116) 4 ∷ Puts (letter_token 117) 3 ∷ []
+      More Expanded ∷ More Expanded ∷ More Expanded ∷ More Expanded ∷ More Expanded ∷ Puts (letter_token 116) 4 ∷ Puts (letter_token 117) 3 ∷ []
 
 -- behind the token with which it begins: a `b`, a `y`, and `l` where that is all
 pub record WorkedLent : Type 0 where
@@ -350,11 +352,22 @@ full_stop = token.Char other 46
 abbrev pub parameter_token : Seen
 parameter_token = character parameter 35
 
--- `{a}` as an expanded text and as one read as it stands; a letter in place of the brace; the list of `\message`; `#1{a}`
+abbrev pub one : Seen
+one = character other 49
+
+-- `{a}` as an expanded text and as one read as it stands; a list of `{` and `#` that enters an expanded text, whose brace isn't counted; a letter in
+-- place of the brace; the list of `\message`; `#1{`, a list of `#1` that enters the body, where it is no parameter, and `#1`, where the token
+-- behind `#` is read by expansion; `#1{a}`
 pub record WorkedLists : Type 0 where
   pub text : steps (Reads (Text x_name true)) (Tok left ∷ Tok a_letter ∷ Tok right ∷ []) ≡ More want.Command ∷ More Copied ∷ More Copied ∷ Done value.List false ∷ []
   pub text_held : holds (Reads (Text x_name true)) (Tok left ∷ Tok a_letter ∷ Tok right ∷ []) ≡ ([] ∷ []) ∷ ([] ∷ []) ∷ ((a_letter.token ∷ []) ∷ []) ∷ ((a_letter.token ∷ []) ∷ []) ∷ []
   pub raw_text : steps (Reads (Text x_name false)) (Tok left ∷ Tok a_letter ∷ Tok right ∷ []) ≡ More want.Command ∷ More Raw ∷ More Raw ∷ Done value.List false ∷ []
+  pub entered :
+      steps (Reads (Text x_name true)) (Tok left ∷ Entered left.token ∷ Entered parameter_token.token ∷ Tok right ∷ []) ≡
+      More want.Command ∷ More Copied ∷ More Copied ∷ More Copied ∷ Done value.List false ∷ []
+  pub entered_held :
+      holds (Reads (Text x_name true)) (Tok left ∷ Entered left.token ∷ Entered parameter_token.token ∷ Tok right ∷ []) ≡
+      ([] ∷ []) ∷ ([] ∷ []) ∷ ((left.token ∷ []) ∷ []) ∷ ((left.token ∷ parameter_token.token ∷ []) ∷ []) ∷ ((left.token ∷ parameter_token.token ∷ []) ∷ []) ∷ []
   pub brace : steps (Reads (Text x_name true)) (Tok a_letter ∷ Told ∷ Tok right ∷ []) ≡ More want.Command ∷ Tells MissingBrace true ∷ More Copied ∷ Done value.List false ∷ []
   pub message_held : holds (Reads (Command (call 9))) (Val value.List (a_letter.token ∷ []) ∷ []) ≡ [] ∷ ((a_letter.token ∷ []) ∷ []) ∷ []
   pub empty_message_held : holds (Reads (Command (call 9))) (Val value.List [] ∷ []) ≡ [] ∷ [] ∷ []
@@ -362,6 +375,12 @@ pub record WorkedLists : Type 0 where
   pub def_held : holds (Reads (Command (call 26))) (Tok x ∷ Val value.List (token.EndPlaces ∷ []) ∷ []) ≡ [] ∷ [] ∷ ((token.EndPlaces ∷ []) ∷ []) ∷ []
   pub waiting : steps (Behind (call 54) a_letter) [] ≡ Acts (call 54) (PutBack a_letter) ∷ []
   pub waiting_held : holds (Behind (call 54) a_letter) [] ≡ [] ∷ []
+  pub macro_entered :
+      steps (Reads (Definition x_name true)) (Tok parameter_token ∷ Tok one ∷ Tok left ∷ Entered parameter_token.token ∷ Entered one.token ∷ Tok parameter_token ∷ Tok one ∷ []) ≡
+      More Raw ∷ More Raw ∷ More Raw ∷ More Copied ∷ More Copied ∷ More Copied ∷ More Expanded ∷ More Copied ∷ []
+  pub macro_entered_list :
+      lists (Reads (Definition x_name true)) (Tok parameter_token ∷ Tok one ∷ Tok left ∷ Entered parameter_token.token ∷ Entered one.token ∷ Tok parameter_token ∷ Tok one ∷ []) ≡
+      (token.Place 35 ∷ token.EndPlaces ∷ parameter_token.token ∷ one.token ∷ token.Number 1 ∷ []) ∷ []
   pub macro_held :
       holds (Reads (Definition x_name false)) (Tok parameter_token ∷ Tok (character other 49) ∷ Tok left ∷ Tok a_letter ∷ Tok right ∷ []) ≡
       ([] ∷ []) ∷ ([] ∷ []) ∷ ((token.Place 35 ∷ []) ∷ []) ∷ ((token.Place 35 ∷ token.EndPlaces ∷ []) ∷ []) ∷

@@ -1,5 +1,5 @@
 // Laws of the readings: the functions have no bodies, their contracts are the laws.
-ghost use Rattle.plain_readings.specs.Laws.{ReadingsStart, ReadingsBeginLower, TokensAreLent, ValuesAreTheirs, NamesAreHeld, NotesFall};
+ghost use Rattle.plain_readings.specs.Laws.{ReadingsStart, ReadingsBeginLower, TokensAreLent, ValuesAreTheirs, NamesAreHeld, TokensEnter, NotesFall};
 ghost use Rattle.plain_readings.specs.Weights.{WeightsFall};
 ghost use Rattle.plain_readings.specs.Worked.{WorkedReadings};
 
@@ -26,6 +26,11 @@ pub fn values_are_theirs()
 /// `\csname` makes a name of the characters that it holds, and `\input` opens the file of those that it holds.
 pub fn names_are_held()
     ensures { NamesAreHeld }
+{}
+
+/// A token that enters an expanded text as it stands goes onto its list, and another is asked for.
+pub fn tokens_enter()
+    ensures { TokensEnter }
 {}
 
 /// Behind a report so many may follow at once as its measure says, and none but in a dimension or in glue.

@@ -7,6 +7,6 @@ mod measures;
 
 pub use laws::{
     names_are_held, notes_fall, readings_begin_lower, readings_start, tokens_are_lent,
-    values_are_theirs, weights_fall, worked_readings,
+    tokens_enter, values_are_theirs, weights_fall, worked_readings,
 };
 pub use measures::{Amount, Measure};

@@ -2,23 +2,22 @@
 use Rattle.std.proofs.Common.{◌≡◌, ◌≤◌, ◌<◌, ℕ, ◌+◌, ◌-◌, List, [], ◌∷◌, length, drop, arith}
 use Rattle.std.proofs.lemmas.List.{length-drop}
 use Rattle.tex_defs.specs.declared.Token.{Token}
-use Rattle.tex_syntax.specs.declared.words.Want.{Want}
 use Rattle.equivalents.specs.declared.values.Loc.{Loc}
 use Rattle.rows.specs.declared.words.Keyword.{Keyword}
 use Rattle.rows.specs.Readings.{Told, Fetches}
 use Rattle.plain_readings.specs.Keywords.{letters, giving_back, keyword_from}
 use Rattle.plain_readings.specs.Weights.{value_weight, ask_weight, IsNoted}
 use Rattle.plain_readings.proofs.Keywords.{letters_few}
-use Rattle.scan_dimens.specs.Sees.{letters_at, back_at, kept, kept_at, want_behind}
+use Rattle.scan_dimens.specs.Sees.{letters_at, back_at, kept, kept_at}
 use Rattle.scan_dimens.specs.Resumes.{resume, resume_at, kept_in}
 use Rattle.scan_dimens.specs.declared.keyword.KeywordPlace.{KeywordPlace}
 use Rattle.scan_dimens.specs.declared.keyword.KeywordPlace.TheVariants.{Letters, PutsBack, Ended}
 use Rattle.scan_dimens.specs.declared.keyword.KeywordScan.{KeywordScan}
 use Rattle.reading_frames.specs.Weights.{IsEnd}
 
-from_light : (cs : List ℕ) (ts : List Token) (want : Want) → ask_weight value_weight (keyword_from cs ts want []) ≤ value_weight
-from_light [] ts want = omega arith
-from_light (c ∷ cs) ts want = omega arith
+from_light : (cs : List ℕ) (ts : List Token) → ask_weight value_weight (keyword_from cs ts []) ≤ value_weight
+from_light [] ts = omega arith
+from_light (c ∷ cs) ts = omega arith
 
 giving_light : (ts : List Token) → ask_weight value_weight (giving_back ts []) ≤ value_weight + length ts
 giving_light [] = omega arith
@@ -28,7 +27,7 @@ kept_length : (ts : List Token) (n : ℕ) → length ts ≡ 5 → length (kept n
 kept_length ts n e = omega (arith, e, length-drop (5 - n) ts)
 
 light_at : (w : Keyword) (ts : List Token) (p : KeywordPlace) → length ts ≡ 5 → ask_weight value_weight (resume_at w ts p []) ≤ value_weight + kept_at p
-light_at w ts (Letters n) e = omega (arith, from_light (drop n (letters w)) (kept n ts) (want_behind n))
+light_at w ts (Letters n) e = omega (arith, from_light (drop n (letters w)) (kept n ts))
 light_at w ts (PutsBack n) e = omega (arith, giving_light (kept n ts), kept_length ts n e)
 light_at w ts (Ended found) e = omega arith
 
@@ -46,9 +45,9 @@ keyword_small s = omega (arith, keyword_light s, few_at s.keyword s.place s.more
 
 -- BEHIND A NOTE
 
-from_unnoted : (cs : List ℕ) (ts : List Token) (want : Want) → IsNoted (keyword_from cs ts want []) → ⊥
-from_unnoted [] ts want h = h
-from_unnoted (c ∷ cs) ts want h = h
+from_unnoted : (cs : List ℕ) (ts : List Token) → IsNoted (keyword_from cs ts []) → ⊥
+from_unnoted [] ts h = h
+from_unnoted (c ∷ cs) ts h = h
 
 giving_told : (ts : List Token) → IsNoted (giving_back ts []) → ask_weight value_weight (giving_back ts (Told ∷ [])) < ask_weight value_weight (giving_back ts [])
 giving_told [] h = absurd h
@@ -56,7 +55,7 @@ giving_told (t ∷ []) h = omega arith
 giving_told (t ∷ u ∷ ts) h = omega arith
 
 told_at : (w : Keyword) (ts : List Token) (p : KeywordPlace) → IsNoted (resume_at w ts p []) → ask_weight value_weight (resume_at w ts p (Told ∷ [])) < ask_weight value_weight (resume_at w ts p [])
-told_at w ts (Letters n) h = absurd (from_unnoted (drop n (letters w)) (kept n ts) (want_behind n) h)
+told_at w ts (Letters n) h = absurd (from_unnoted (drop n (letters w)) (kept n ts) h)
 told_at w ts (PutsBack n) h = giving_told (kept n ts) h
 told_at w ts (Ended found) h = absurd h
 
@@ -65,16 +64,16 @@ keyword_told s h = told_at s.keyword s.tokens s.place h
 
 -- NOTHING IS FETCHED
 
-from_unfetched : (cs : List ℕ) (ts : List Token) (want : Want) (l : Loc) → keyword_from cs ts want [] ≡ Fetches l → ⊥
-from_unfetched [] ts want l e = cc
-from_unfetched (c ∷ cs) ts want l e = cc
+from_unfetched : (cs : List ℕ) (ts : List Token) (l : Loc) → keyword_from cs ts [] ≡ Fetches l → ⊥
+from_unfetched [] ts l e = cc
+from_unfetched (c ∷ cs) ts l e = cc
 
 giving_unfetched : (ts : List Token) (l : Loc) → giving_back ts [] ≡ Fetches l → ⊥
 giving_unfetched [] l e = cc
 giving_unfetched (t ∷ ts) l e = cc
 
 unfetched_at : (w : Keyword) (ts : List Token) (p : KeywordPlace) (l : Loc) → resume_at w ts p [] ≡ Fetches l → ⊥
-unfetched_at w ts (Letters n) l e = from_unfetched (drop n (letters w)) (kept n ts) (want_behind n) l e
+unfetched_at w ts (Letters n) l e = from_unfetched (drop n (letters w)) (kept n ts) l e
 unfetched_at w ts (PutsBack n) l e = giving_unfetched (kept n ts) l e
 unfetched_at w ts (Ended found) l e = cc
 
@@ -83,16 +82,16 @@ keyword_unfetched s l e = unfetched_at s.keyword s.tokens s.place l e
 
 -- IT HAS A VALUE
 
-from_unended : (cs : List ℕ) (ts : List Token) (want : Want) → IsEnd (keyword_from cs ts want []) → ⊥
-from_unended [] ts want h = h
-from_unended (c ∷ cs) ts want h = h
+from_unended : (cs : List ℕ) (ts : List Token) → IsEnd (keyword_from cs ts []) → ⊥
+from_unended [] ts h = h
+from_unended (c ∷ cs) ts h = h
 
 giving_unended : (ts : List Token) → IsEnd (giving_back ts []) → ⊥
 giving_unended [] h = h
 giving_unended (t ∷ ts) h = h
 
 unended_at : (w : Keyword) (ts : List Token) (p : KeywordPlace) → IsEnd (resume_at w ts p []) → ⊥
-unended_at w ts (Letters n) h = from_unended (drop n (letters w)) (kept n ts) (want_behind n) h
+unended_at w ts (Letters n) h = from_unended (drop n (letters w)) (kept n ts) h
 unended_at w ts (PutsBack n) h = giving_unended (kept n ts) h
 unended_at w ts (Ended found) h = h
 

@@ -5,6 +5,7 @@ pub mod Plain
 pub mod Commands
 pub mod Stacks
 pub mod Held
+pub mod Entering
 pub mod Scanning
 pub mod Rows
 pub mod Asking

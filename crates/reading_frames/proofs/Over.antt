@@ -83,23 +83,24 @@ module _ (more : List Fed) where
   numbers_same b (Val v ts ∷ fed) = valued_same (numbered_by b v) ts fed
   numbers_same b (y ∷ fed) = λ over. refl
 
-  met_same : (x : Seen) (m : Met) (skipped skipped' : Call → Outcome) (retried retried' : Note → Outcome) (fed : List Fed) →
+  met_same : (s : Stage) (x : Seen) (m : Met) (skipped skipped' : Call → Outcome) (retried retried' : Note → Outcome) (fed : List Fed) →
       ((c : Call) → Same (skipped c) (skipped' c)) → ((n : Note) → Same (retried n) (retried' n)) →
-      Same (met_with (Tok x) m skipped retried fed) (met_with (Tok x) m skipped' retried' (fed ++ more))
-  met_same x (met.Takes d) skipped skipped' retried retried' fed h i = refl
-  met_same x met.Passes skipped skipped' retried retried' fed h i = refl
-  met_same x met.Leaves skipped skipped' retried retried' fed h i = refl
-  met_same x (met.Skips c) skipped skipped' retried retried' fed h i = h c
-  met_same x (met.Notes n m) skipped skipped' retried retried' fed h i = noted_same n m fed
-  met_same x (met.Retries n) skipped skipped' retried retried' fed h i = i n
-  met_same x (met.Numbers b) skipped skipped' retried retried' fed h i = numbers_same b fed
-  met_same x (met.Turns c) skipped skipped' retried retried' fed h i = refl
+      Same (met_with s (Tok x) m skipped retried fed) (met_with s (Tok x) m skipped' retried' (fed ++ more))
+  met_same s x (met.Takes d) skipped skipped' retried retried' fed h i = refl
+  met_same s x met.Passes skipped skipped' retried retried' fed h i = refl
+  met_same s x met.Leaves skipped skipped' retried retried' fed h i = refl
+  met_same s x (met.Skips c) skipped skipped' retried retried' fed h i = h c
+  met_same s x (met.Notes n m) skipped skipped' retried retried' fed h i = noted_same n m fed
+  met_same s x (met.Retries n) skipped skipped' retried retried' fed h i = i n
+  met_same s x (met.Numbers b) skipped skipped' retried retried' fed h i = numbers_same b fed
+  met_same s x (met.Begins k) skipped skipped' retried retried' fed h i = inner_same s k fed
+  met_same s x (met.Turns c) skipped skipped' retried retried' fed h i = refl
 
   mutual
     looks_same : (s : Stage) (c : Call) (want : Want) (fed : List Fed) → Same (looks s c want fed) (looks s c want (fed ++ more))
     looks_same s c want [] = λ over. absurd over
     looks_same s c want (Tok x ∷ fed) =
-        met_same x (on_token s c x) (λ d. looks s d want fed) (λ d. looks s d want (fed ++ more)) (λ n. again s c want n fed) (λ n. again s c want n (fed ++ more)) fed
+        met_same s x (on_token s c x) (λ d. looks s d want fed) (λ d. looks s d want (fed ++ more)) (λ n. again s c want n fed) (λ n. again s c want n (fed ++ more)) fed
         (λ d. looks_same s d want fed) (λ n. again_same s c want n fed)
     looks_same s c want (y ∷ fed) = λ over. refl
 

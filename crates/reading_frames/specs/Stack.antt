@@ -3,14 +3,17 @@ use Rattle.std.specs.Prelude.{◌≡◌, ℕ, ◌+◌, ◌≤◌, ◌<◌, ◌^�
 use Rattle.tex_defs.specs.declared.Full.{Full}
 use Rattle.tex_defs.specs.declared.Name.{Name}
 use Rattle.tex_defs.specs.declared.Table.TheVariants.{ExpansionDepth}
+use Rattle.tex_defs.specs.declared.Token.{Token}
 use Rattle.tex_syntax.specs.declared.words.Scanned.{Scanned}
+use Rattle.tex_syntax.specs.declared.words.Want.TheVariants.{Copied}
+use Rattle.plain_tokens.specs.Puts.{grow_first}
 use Rattle.rows.specs.Readings as reading
-use Rattle.rows.specs.Readings.{Fed}
-use Rattle.plain_readings.specs.Readings.{Reading, ask}
+use Rattle.rows.specs.Readings.{Fed, More, Entered}
+use Rattle.plain_readings.specs.Readings.{Reading, ask, fed_with}
 use Rattle.plain_readings.specs.Scanning.{Status, Scans, Unguarded, Scanning}
 use Rattle.reading_frames.specs.Sees.{Lists, top_list, ask_of}
 use Rattle.reading_frames.specs.Resumes.{resume, building, list_count, frame_status, groups}
-use Rattle.reading_frames.specs.Stands.{AreShallow}
+use Rattle.reading_frames.specs.Stands.{FramesStand, AreShallow}
 use Rattle.reading_frames.specs.declared.ask.Ask.{Ask}
 use Rattle.reading_frames.specs.declared.frame.Frame.{Frame}
 
@@ -102,6 +105,20 @@ found_in (f ∷ fs) = unless_unguarded (frame_status f) (innermost_found (f ∷ 
 abbrev pub scanning_of : Lists → Found → Option Scanning
 scanning_of held None = None
 scanning_of held (Some found) = Some (record { what = found.0; name = found.1; list = top_list (drop found.2 held) })
+
+-- A TOKEN OF A LIST enters an expanded text as it stands: the innermost frame, which asks for a token that is copied, stands as it is for its reading
+-- that is fed with that token too, whose list has it, and asks for another so.
+abbrev pub AsksCopied : Option reading.Ask → Type 0
+AsksCopied o = o ≡ Some (More Copied)
+
+pub record Enters (fs : List Frame) (held : Lists) (work : List Reading) (t : Token) : Type 0 where
+  pub stands : FramesStand fs (grow_first t held) (fed_with (Entered t) work)
+  pub copies : AsksCopied (asks_in fs (grow_first t held))
+  pub beneath : lists_beneath fs (grow_first t held) ≡ lists_beneath fs held
+  pub shallow : AreShallow fs held → AreShallow fs (grow_first t held)
+
+abbrev pub TokensEnter : Type 0
+TokensEnter = (fs : List Frame) (held : Lists) (work : List Reading) (t : Token) → FramesStand fs held work → AsksCopied (asks_in fs held) → Enters fs held work t
 
 -- THE BRACES: where each group has its brace in its list, no more groups are open than the list on top has tokens.
 abbrev pub GroupsHaveBraces : Type 0

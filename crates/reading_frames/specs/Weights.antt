@@ -7,7 +7,7 @@ use Rattle.rows.specs.declared.words.Kind.TheVariants as kind
 use Rattle.rows.specs.declared.command.Call.{Call}
 use Rattle.rows.specs.declared.command.Effect.TheVariants.{ExpandBehind}
 use Rattle.rows.specs.Readings.{Ask, Inner, Done, Acts, ActsOn, Defines, Ends}
-use Rattle.plain_readings.specs.Weights.{frame_weight, value_frame, act_frame, value_weight, act_weight, behind_weight, ask_weight, IsNoted}
+use Rattle.plain_readings.specs.Weights.{frame_weight, value_frame, act_frame, value_weight, act_weight, behind_weight, end_weight, ask_weight, IsNoted}
 use Rattle.scan_dimens.specs.Resumes.{kept_in}
 use Rattle.reading_frames.specs.Sees.{kind_of}
 use Rattle.reading_frames.specs.Resumes.{resume}
@@ -48,6 +48,10 @@ frame_end (Glue scan) = value_weight
 frame_end (Keyword scan) = value_weight
 frame_end (Build scan) = value_weight
 frame_end f = behind_weight
+
+-- and of what begins: as much as the end of the reading of the machine
+abbrev pub opening_end : Opening → ℕ
+opening_end o = end_weight (kind_of o)
 
 abbrev pub innermost_end : List Frame → ℕ
 innermost_end [] = 0
@@ -93,6 +97,15 @@ fed_weight f = 92
 abbrev pub innermost_fed : List Frame → ℕ
 innermost_fed [] = 0
 innermost_fed (f ∷ fs) = fed_weight f
+
+-- how many tokens a keyword may put back
+abbrev pub put_count : Frame → ℕ
+put_count (Keyword scan) = kept_in scan
+put_count f = 0
+
+abbrev pub innermost_puts : List Frame → ℕ
+innermost_puts [] = 0
+innermost_puts (f ∷ fs) = put_count f
 
 -- it is fed with a note then
 abbrev pub IsReported : Option Ask → Type 0

@@ -7,7 +7,7 @@ ghost use Rattle.rows.specs.Readings.{Fed, Tok, Told, Val, Fetched, Fetches};
 ghost use Rattle.reading_frames.specs.Sees.{ask_of, has_no_token, kind_of, IsFetchedAt, Lists, on_top, top_list};
 ghost use Rattle.reading_frames.specs.Stands.{Begins, opened_lists};
 ghost use Rattle.reading_frames.specs.Resumes.{resume, building, list_count, below, frame_status, groups, read_at, reads_unguarded, token_count, with_list, Owns};
-ghost use Rattle.reading_frames.specs.Weights.{asks_weight, begun_weight, begun_with_weight, fed_weight, opening_frame, own_weight};
+ghost use Rattle.reading_frames.specs.Weights.{asks_weight, begun_weight, begun_with_weight, fed_weight, frame_end, opening_end, opening_frame, own_weight, put_count};
 ghost use Rattle.plain_readings.specs.Measures.{dimen_ask, dimen_inner, glue_ask, glue_inner};
 ghost use Rattle.plain_readings.specs.Weights.{value_frame, value_weight, IsNoted};
 ghost use Rattle.scan_numbers.specs.Sees as numbers;
@@ -154,8 +154,10 @@ impl Frame {
         ensures begins { (held : Lists) → Begins (kind_of opening) result held (opened_lists opening held) }
         ensures shallow { groups result ≡ 0 }
         ensures own { own_weight result ≡ opening_frame opening }
+        ensures ends { frame_end result ≡ opening_end opening }
         ensures weight { asks_weight result ≤ begun_weight opening }
         ensures fed { fed_weight result ≤ begun_with_weight opening }
+        ensures unread { put_count result ≡ 0 }
     {
         match opening {
             Opening::Reads(Kind::Command(call)) => {
@@ -203,7 +205,9 @@ impl Frame {
     pub fn feed(&mut self, x: Seen) -> Grown
         requires { groups self.old + 1 < 2 ^ 64 }
         ensures own { own_weight self.new ≡ own_weight self.old }
+        ensures ends { frame_end self.new ≡ frame_end self.old }
         ensures weight { asks_weight self.new ≤ fed_weight self.old }
+        ensures read { put_count self.new ≤ put_count self.old + 1 }
         ensures asks { (held : Lists) (fed : List Fed) → resume self.old held (Tok x ∷ fed) ≡ resume self.new (on_top result held) fed }
         ensures builds { (held : Lists) (fed : List Fed) → building self.old held (Tok x ∷ fed) ≡ building self.new (on_top result held) fed }
         ensures holds { (held : Lists) → list_count self.old ≤ length held → list_count self.new ≤ length (on_top result held) }
@@ -248,6 +252,7 @@ impl Frame {
     #[tactic(auto, using(crate::proofs::Growing::top_grown, crate::proofs::Growing::beneath_grown, crate::proofs::Growing::grown_held))]
     pub fn told(&mut self) -> Grown
         ensures own { own_weight self.new ≡ own_weight self.old }
+        ensures ends { frame_end self.new ≡ frame_end self.old }
         ensures weight { IsNoted (resume self.old [] []) → asks_weight self.new < asks_weight self.old }
         ensures asks { (held : Lists) (fed : List Fed) → resume self.old held (Told ∷ fed) ≡ resume self.new (on_top result held) fed }
         ensures builds { (held : Lists) (fed : List Fed) → building self.old held (Told ∷ fed) ≡ building self.new (on_top result held) fed }
@@ -305,6 +310,7 @@ impl Frame {
         ensures beneath { (ts : List Token) (held : Lists) → below self.new (with_list result ts held) ≡ below self.old held }
         ensures checks { frame_status self.new ≡ frame_status self.old }
         ensures own { own_weight self.new ≡ own_weight self.old }
+        ensures ends { frame_end self.new ≡ frame_end self.old }
         ensures weight { asks_weight self.new < value_frame + value_weight }
         ensures kept { result ≡ true → is_empty ≡ false }
         ensures list { result ≡ true → value ≡ value_of.List }
@@ -347,6 +353,7 @@ impl Frame {
     /// Takes what stands at the location for which it asked.
     pub fn fetched(&mut self, value: StoredValue<()>)
         ensures own { own_weight self.new ≡ own_weight self.old }
+        ensures ends { frame_end self.new ≡ frame_end self.old }
         ensures weight { (loc : Location) → resume self.old [] [] ≡ Fetches loc → asks_weight self.new < asks_weight self.old }
         ensures asks { (held : Lists) (fed : List Fed) → resume self.old held (Fetched value ∷ fed) ≡ resume self.new held fed }
         ensures builds { (held : Lists) (fed : List Fed) → building self.old held (Fetched value ∷ fed) ≡ building self.new held fed }

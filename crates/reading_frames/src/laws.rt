@@ -1,6 +1,6 @@
 // How frames stand for readings: the functions have no bodies, their contracts are the laws.
 ghost use Rattle.reading_frames.specs.Stands.{ReadingsBegin, ReadingsAreFed, ReadingsEnd, ListsAreHeld};
-ghost use Rattle.reading_frames.specs.Stack.{GroupsHaveBraces};
+ghost use Rattle.reading_frames.specs.Stack.{GroupsHaveBraces, TokensEnter};
 ghost use Rattle.reading_frames.specs.Weights.{RulesAreLight, WeightsAreSmall};
 
 /// A reading that begins stands above those that are open, and these stand as they did.
@@ -11,6 +11,11 @@ pub fn readings_begin()
 /// A frame that goes on stands for its reading, fed with the same; those beneath stand as they did.
 pub fn readings_are_fed()
     ensures { ReadingsAreFed }
+{}
+
+/// A token of a list enters an expanded text as it stands: its frame stays as it is.
+pub fn tokens_enter()
+    ensures { TokensEnter }
 {}
 
 /// Where the innermost reading ends, and its lists are let go, those beneath stand as they did.

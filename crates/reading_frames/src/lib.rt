@@ -19,7 +19,7 @@ pub use file_name::{FilePlace, FileScan};
 pub use frame::Frame;
 pub use laws::{
     groups_have_braces, lists_are_held, readings_are_fed, readings_begin, readings_end,
-    rules_are_light, weights_are_small,
+    rules_are_light, tokens_enter, weights_are_small,
 };
 pub use readings::Readings;
 pub use spelling::{SpellPlace, SpellScan};

@@ -10,8 +10,8 @@ ghost use Rattle.plain_readings.specs.Weights.{value_frame, act_frame, value_wei
 ghost use Rattle.reading_frames.specs.Sees.{has_no_token, kind_of, IsFetchedAt, Lists, on_top};
 ghost use Rattle.reading_frames.specs.Resumes.{with_list, listed_count, token_count, Owns};
 ghost use Rattle.reading_frames.specs.Stands.{FramesStand, AreShallow, opened_lists};
-ghost use Rattle.reading_frames.specs.Stack.{Stack, depth_full, asks_in, asked_in, asked_of, innermost_groups, innermost_count, innermost_lists, innermost_of, with_innermost, lists_beneath, found_in, innermost_found, scanning_of};
-ghost use Rattle.reading_frames.specs.Weights.{frames_weight, opening_frame, innermost_weight, innermost_fed, begun_weight, begun_with_weight, IsReported};
+ghost use Rattle.reading_frames.specs.Stack.{Stack, AsksCopied, depth_full, asks_in, asked_in, asked_of, innermost_groups, innermost_count, innermost_lists, innermost_of, with_innermost, lists_beneath, found_in, innermost_found, scanning_of};
+ghost use Rattle.reading_frames.specs.Weights.{frames_weight, opening_frame, opening_end, innermost_weight, innermost_end, innermost_fed, innermost_puts, begun_weight, begun_with_weight, IsReported};
 
 use crate::ask::{Ask, Grown, Opening};
 use crate::frame::Frame;
@@ -20,7 +20,7 @@ use rows::Value;
 use std::alloc::{AllocError, Global};
 use std::marker::Model;
 use tex_defs::{Full, Name, Seen, Table};
-use tex_syntax::Scanned;
+use tex_syntax::{Scanned, Want};
 
 /// All open readings, the innermost apart, and room for as many as the expansion depth.
 ///
@@ -122,6 +122,14 @@ impl Readings {
         }
     }
 
+    /// Whether the innermost is an expanded text or the body of an expanded macro, which asks for a token that is copied.
+    pub fn copies(&self) -> bool
+        ensures asks { (held : Lists) → MatchBool result (AsksCopied (asks_in self.now.frames held)) (AsksCopied (asks_in self.now.frames held) → ⊥) }
+        ensures stands { (held : Lists) (work : List Reading) → FramesStand self.now.frames held work → MatchBool result (AsksCopied (asked_in work)) (AsksCopied (asked_in work) → ⊥) }
+    {
+        matches!(self.ask(), Some(Ask::More(Want::Copied)))
+    }
+
     /// What the innermost asks for.
     pub fn ask(&self) -> Option<Ask>
         ensures asks { (held : Lists) → asked_of held result ≡ asks_in self.now.frames held }
@@ -148,8 +156,10 @@ impl Readings {
         ensures frames { OnOk result (frames_weight self.new.frames ≡ frames_weight self.old.frames + opening_frame opening) }
         ensures size { self.new.size ≡ self.old.size }
         ensures weight { OnOk result (innermost_weight self.new.frames ≤ begun_weight opening) }
+        ensures ends { OnOk result (innermost_end self.new.frames ≡ opening_end opening) }
         ensures fed { OnOk result (innermost_fed self.new.frames ≤ begun_with_weight opening) }
         ensures groups { OnOk result (innermost_groups self.new.frames ≡ 0) }
+        ensures unread { OnOk result (innermost_puts self.new.frames ≡ 0) }
         ensures rest { OnOk result (drop 1 self.new.frames ≡ self.old.frames) }
         ensures builds { OnOk result ((held : Lists) (fed : List Fed) → lists (kind_of opening) fed ≡ innermost_lists self.new.frames (opened_lists opening held) fed) }
         ensures beneath { OnOk result ((held : Lists) → lists_beneath self.new.frames (opened_lists opening held) ≡ held) }
@@ -186,6 +196,8 @@ impl Readings {
         ensures frames { OnOk result (frames_weight self.new.frames ≡ frames_weight self.old.frames + opening_frame opening) }
         ensures size { self.new.size ≡ self.old.size }
         ensures weight { OnOk result (innermost_weight self.new.frames ≤ begun_with_weight opening) }
+        ensures ends { OnOk result (innermost_end self.new.frames ≡ opening_end opening) }
+        ensures read { OnOk result (innermost_puts self.new.frames ≤ 1) }
         ensures rest { OnOk result (drop 1 self.new.frames ≡ self.old.frames) }
         ensures beneath { IfOk result (λ grown. (held : Lists) → lists_beneath self.new.frames (on_top grown (opened_lists opening held)) ≡ held) }
         ensures lists { IfOk result (λ grown. (held : Lists) → lists (kind_of opening) (Tok x ∷ []) ++ held ≡ on_top grown (opened_lists opening held)) }
@@ -203,6 +215,7 @@ impl Readings {
     /// The innermost takes a token. Fewer than 2^64 - 1 groups are open in the list that it builds.
     pub fn feed(&mut self, x: Seen) -> Grown
         requires { innermost_groups self.old.frames + 1 < 2 ^ 64 }
+        ensures ends { innermost_end self.new.frames ≡ innermost_end self.old.frames }
         ensures weight { innermost_weight self.new.frames ≤ innermost_fed self.old.frames }
         ensures stands { (held : Lists) (work : List Reading) → FramesStand self.old.frames held work → FramesStand self.new.frames (on_top result held) (fed_with (Tok x) work) }
         ensures count { length self.new.frames ≡ length self.old.frames }
@@ -214,6 +227,7 @@ impl Readings {
         ensures beneath { (held : Lists) → lists_beneath self.new.frames (on_top result held) ≡ lists_beneath self.old.frames held }
         ensures holds { (held : Lists) → innermost_count self.old.frames ≤ length held → innermost_count self.new.frames ≤ length (on_top result held) }
         ensures listed { 1 ≤ token_count result → innermost_count self.old.frames ≡ 1 }
+        ensures read { innermost_puts self.new.frames ≤ innermost_puts self.old.frames + 1 }
     {
         match self.innermost.as_mut() {
             None => Grown::none(),
@@ -223,6 +237,7 @@ impl Readings {
 
     /// The innermost goes on behind its report, the token that was put back, the name that became `\relax` or the magnification that was checked.
     pub fn told(&mut self) -> Grown
+        ensures ends { innermost_end self.new.frames ≡ innermost_end self.old.frames }
         ensures weight { IsReported (asks_in self.old.frames []) → innermost_weight self.new.frames < innermost_weight self.old.frames }
         ensures stands { (held : Lists) (work : List Reading) → FramesStand self.old.frames held work → FramesStand self.new.frames (on_top result held) (fed_with Told work) }
         ensures count { length self.new.frames ≡ length self.old.frames }
@@ -247,6 +262,7 @@ impl Readings {
         ensures stands { (ts : List Token) → is_empty ≡ has_no_token ts → (held : Lists) (work : List Reading) → FramesStand self.old.frames held work → FramesStand self.new.frames (with_list result ts held) (fed_with (Val value ts) work) }
         ensures kept { result ≡ true → is_empty ≡ false }
         ensures list { result ≡ true → value ≡ value_of.List }
+        ensures ends { innermost_end self.new.frames ≡ innermost_end self.old.frames }
         ensures weight { innermost_weight self.new.frames < value_frame + value_weight }
         ensures count { length self.new.frames ≡ length self.old.frames }
         ensures frames { frames_weight self.new.frames ≡ frames_weight self.old.frames }
@@ -262,6 +278,7 @@ impl Readings {
 
     /// The innermost takes what stands at the location for which it asked.
     pub fn fetched(&mut self, value: StoredValue<()>)
+        ensures ends { innermost_end self.new.frames ≡ innermost_end self.old.frames }
         ensures weight { (l : Loc) → asks_in self.old.frames [] ≡ Some (Fetches l) → innermost_weight self.new.frames < innermost_weight self.old.frames }
         ensures stands { (held : Lists) (work : List Reading) → FramesStand self.old.frames held work → FramesStand self.new.frames held (fed_with (Fetched value) work) }
         ensures count { length self.new.frames ≡ length self.old.frames }

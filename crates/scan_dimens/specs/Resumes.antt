@@ -4,13 +4,13 @@ use Rattle.tex_defs.specs.declared.Token.{Token}
 use Rattle.rows.specs.declared.words.Keyword.{Keyword}
 use Rattle.rows.specs.Readings.{Fed, Ask}
 use Rattle.plain_readings.specs.Keywords.{letters, ends_found, giving_back, keyword_from}
-use Rattle.scan_dimens.specs.Sees.{kept, kept_at, want_behind}
+use Rattle.scan_dimens.specs.Sees.{kept, kept_at}
 use Rattle.scan_dimens.specs.declared.keyword.KeywordPlace.{KeywordPlace}
 use Rattle.scan_dimens.specs.declared.keyword.KeywordPlace.TheVariants.{Letters, PutsBack, Ended}
 use Rattle.scan_dimens.specs.declared.keyword.KeywordScan.{KeywordScan}
 
 abbrev pub resume_at : Keyword → List Token → KeywordPlace → List Fed → Ask
-resume_at w ts (Letters n) fed = keyword_from (drop n (letters w)) (kept n ts) (want_behind n) fed
+resume_at w ts (Letters n) fed = keyword_from (drop n (letters w)) (kept n ts) fed
 resume_at w ts (PutsBack n) fed = giving_back (kept n ts) fed
 resume_at w ts (Ended found) fed = ends_found found
 

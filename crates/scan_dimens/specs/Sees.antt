@@ -1,8 +1,6 @@
 -- What the scanner's words stand for, and where it may stand.
-use Rattle.std.specs.Prelude.{ℕ, zero, suc, ◌-◌, List, drop}
+use Rattle.std.specs.Prelude.{ℕ, ◌-◌, List, drop}
 use Rattle.tex_defs.specs.declared.Token.{Token}
-use Rattle.tex_syntax.specs.declared.words.Want.{Want}
-use Rattle.tex_syntax.specs.declared.words.Want.TheVariants.{Expanded, Nonblank}
 use Rattle.rows.specs.Readings as reading
 use Rattle.plain_readings.specs.Keywords.{ends_found}
 use Rattle.scan_dimens.specs.declared.keyword.KeywordAsk.{KeywordAsk}
@@ -33,8 +31,3 @@ abbrev pub kept_at : KeywordPlace → ℕ
 kept_at (Letters n) = n
 kept_at (PutsBack n) = n
 kept_at (Ended found) = 0
-
--- spaces are skipped before the first letter alone
-abbrev pub want_behind : ℕ → Want
-want_behind zero = Nonblank
-want_behind (suc n) = Expanded

@@ -81,20 +81,6 @@ pub fn is_space(x: Seen) -> bool
     }
 }
 
-/// Whether it means a list of tokens: a register or a parameter.
-pub fn is_list(meaning: Meaning<()>) -> bool
-    ensures { result ≡ dimens.is_list meaning }
-{
-    match meaning {
-        Meaning::Register {
-            kind: RegisterKind::Toks,
-            no: _,
-        } => true,
-        Meaning::Prim(number) => number == 45 || (179 <= number && number <= 186),
-        _ => false,
-    }
-}
-
 /// Whether an integer stands there, which is no dimension.
 pub fn is_integer_at(loc: Loc) -> bool
     ensures { result ≡ dimens.is_integer_at loc }

@@ -6,13 +6,13 @@ ghost use Rattle.scan_numbers.specs.Sees.{IsInRange};
 ghost use Rattle.plain_readings.specs.Dimens.{Fed, Found, physical, by_unit, spaced};
 ghost use Rattle.scan_dimens.specs.DimenSees as sees;
 
-use crate::decimals::{Digits, is_integer_at, is_list, is_other, is_space};
+use crate::decimals::{Digits, is_integer_at, is_other, is_space};
 use crate::units::{GREATEST, in_units, magnified, physical_unit, points, scaled_points, times};
 use equivalents::{Loc, Val as StoredValue};
 use plain_readings::Amount;
 use rows::{
     Bank, Datum, DimenKind, Internal, Keyword, Value, byte_of, integer_of, internal_of, is_mu,
-    measured,
+    list_of, measured,
 };
 use scan_numbers::Radix;
 use tex_defs::Seen;
@@ -490,7 +490,7 @@ impl DimenScan {
         requires { IsRead factor }
         ensures { (fed : List Fed) → unit_at self.old.kind self.old.negative factor x fed ≡ resume self.new fed }
     {
-        if is_list(x.meaning) {
+        if list_of(x.meaning).is_some() {
             self.place = DimenPlace::NoNumber;
         } else {
             self.feed_internal_unit(factor, internal_of(x.meaning));
@@ -561,7 +561,7 @@ impl DimenScan {
             self.place = DimenPlace::Signs;
         } else if is_other(x, 46) || is_other(x, 44) {
             self.place = DimenPlace::Fraction(0, Digits::new());
-        } else if is_list(x.meaning) {
+        } else if list_of(x.meaning).is_some() {
             self.place = DimenPlace::NoNumber;
         } else {
             self.feed_meaning(internal_of(x.meaning));

@@ -1,9 +1,9 @@
 // The scanner of an optional keyword. *The TeXbook*, chapter 24; *TeX: The Program*, part 26 (`scan_keyword`).
-ghost use Rattle.std.specs.Prelude.{◌≡◌, ◌<◌, ◌≤◌, length};
+ghost use Rattle.std.specs.Prelude.{◌≡◌, ◌<◌, ◌≤◌, List, length};
 ghost use Rattle.plain_readings.specs.Keywords as keywords;
-ghost use Rattle.scan_dimens.specs.Sees as wants;
-ghost use Rattle.scan_dimens.specs.Sees.{letters_at, back_at};
+ghost use Rattle.scan_dimens.specs.Sees.{kept, letters_at, back_at};
 
+use crate::decimals::is_space;
 use rows::Keyword;
 use tex_defs::{Seen, Token};
 use tex_syntax::Want;
@@ -82,15 +82,15 @@ fn is_letter(letter: u8, token: Token) -> bool
     }
 }
 
-// How the next token is read behind so many letters: spaces are skipped before the first one alone.
-fn want_behind(read: u8) -> Want
-    ensures { result ≡ wants.want_behind read }
+// Whether a token behind so many letters is a space before the first one.
+fn is_skipped(read: u8, seen: Seen) -> bool
+    requires { read ≤ 5 }
+    ensures { (ts : List Token) → length ts ≡ 5 → result ≡ keywords.is_skipped (kept read ts) seen }
 {
-    if read == 0 {
-        Want::Nonblank
-    } else {
-        Want::Expanded
+    if read > 0 {
+        return false;
     }
+    is_space(seen)
 }
 
 impl KeywordScan {
@@ -100,7 +100,7 @@ impl KeywordScan {
     ghost use Rattle.rows.specs.declared.words.Value.{Value};
     ghost use Rattle.rows.specs.Readings.{Fed, Tok, Told, Val, Fetched, Cut};
     ghost use Rattle.plain_readings.specs.Keywords.{keyword_from};
-    ghost use Rattle.scan_dimens.specs.Sees.{ask_of, kept, want_behind};
+    ghost use Rattle.scan_dimens.specs.Sees.{ask_of, kept};
     ghost use Rattle.scan_dimens.specs.Resumes.{resume, kept_in};
 
     /// A keyword begins.
@@ -120,7 +120,7 @@ impl KeywordScan {
         ensures { ask_of result ≡ resume self.now [] }
     {
         match self.place {
-            KeywordPlace::Letters(read) => KeywordAsk::More(want_behind(read)),
+            KeywordPlace::Letters(_) => KeywordAsk::More(Want::Expanded),
             KeywordPlace::PutsBack(count) => {
                 KeywordAsk::Puts(self.tokens[LONGEST - usize::from(count)], count - 1)
             }
@@ -173,18 +173,22 @@ impl KeywordScan {
     /// Behind so many letters, where the next one may come.
     fn feed_letter(&mut self, read: u8, seen: Seen)
         requires { read < length (keywords.letters self.old.keyword) }
-        ensures asks { (fed : List Fed) → keyword_from (drop read (keywords.letters self.old.keyword)) (kept read self.old.tokens) (want_behind read) (Tok seen ∷ fed) ≡ resume self.new fed }
+        ensures asks { (fed : List Fed) → keyword_from (drop read (keywords.letters self.old.keyword)) (kept read self.old.tokens) (Tok seen ∷ fed) ≡ resume self.new fed }
         ensures kept { kept_in self.new ≤ read + 1 }
     {
         let word = letters(self.keyword);
         let at = usize::from(read);
         self.tokens[LONGEST - 1 - at] = seen.token;
-        self.place = if !is_letter(word[at], seen.token) {
-            KeywordPlace::PutsBack(read + 1)
-        } else if at + 1 == word.len() {
-            KeywordPlace::Ended(true)
+        self.place = if is_letter(word[at], seen.token) {
+            if at + 1 == word.len() {
+                KeywordPlace::Ended(true)
+            } else {
+                KeywordPlace::Letters(read + 1)
+            }
+        } else if is_skipped(read, seen) {
+            KeywordPlace::Letters(read)
         } else {
-            KeywordPlace::Letters(read + 1)
+            KeywordPlace::PutsBack(read + 1)
         };
     }
 }

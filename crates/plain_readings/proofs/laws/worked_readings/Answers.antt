@@ -17,13 +17,13 @@ returns c = record {
     glue = record { plus = refl; minus = refl; skip = refl; muskip = refl };
   };
   keywords = record {
-    found = record { found = refl; capitals = refl; single = refl };
+    found = record { found = refl; behind_spaces = refl; space_letter = refl; capitals = refl; single = refl };
     given_back = record { space = refl; space_held = refl; digit = refl; name = refl; fourth = refl; fifth = refl };
     lent = record { first = refl; refused = refl; whole = refl };
   };
   names = record { name = refl; name_held = refl; empty = refl; let_name = refl; missing = refl; missing_held = refl };
   files = record { space = refl; space_held = refl; relax = refl; relax_held = refl; implicit = refl; implicit_held = refl; empty = refl; active = refl };
-  built = record { text = refl; text_held = refl; raw_text = refl; brace = refl; message_held = refl; empty_message_held = refl; number_held = refl; def_held = refl; waiting = refl; waiting_held = refl; macro_held = refl };
+  built = record { text = refl; text_held = refl; raw_text = refl; entered = refl; entered_held = refl; brace = refl; message_held = refl; empty_message_held = refl; number_held = refl; def_held = refl; waiting = refl; waiting_held = refl; macro_entered = refl; macro_entered_list = refl; macro_held = refl };
   calls = record { arguments = refl; arguments_held = refl; empty = refl; empty_held = refl; extra = refl; paragraph = refl; checked = refl; checked_held = refl; mismatch = refl };
   checks = record { text = refl; number = refl; behind = refl; unguarded = refl; within_unguarded = refl; call = refl; argument = refl; command = refl; none = refl };
 }
