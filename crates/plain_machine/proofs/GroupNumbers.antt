@@ -45,7 +45,7 @@ module _ (number : ℕ → ℕ) where
   glue_same (val.Tokens list) = refl
   glue_same v = refl
 
-  tokens_as : (v : V) → tokens_of (value_of number v) ≡ number_of number (tokens_of v)
+  pub tokens_as : (v : V) → tokens_of (value_of number v) ≡ number_of number (tokens_of v)
   tokens_as (val.Meant m) = refl
   tokens_as (val.Tokens list) = refl
   tokens_as v = refl
@@ -81,7 +81,7 @@ module _ (number : ℕ → ℕ) where
   put_of m (loc.Tokens n) v = λ i. record (tables_of number m) { parameters = lists_set m.parameters n v i }
   put_of m (loc.Means n) v = λ i. record (tables_of number m) { meanings = meanings_set m.meanings n v i }
 
-  get_of : (m : Tables) (l : Loc) → get (tables_of number m) l ≡ value_of number (get m l)
+  pub get_of : (m : Tables) (l : Loc) → get (tables_of number m) l ≡ value_of number (get m l)
   get_of m (loc.Register register.Toks n) = ap (λ (o : Option ℕ). val.Tokens o) (get_or-map (number_of number) m.toks n None)
   get_of m (loc.Tokens n) = ap (λ (o : Option ℕ). val.Tokens o) (get_or-map (number_of number) m.parameters n None)
   get_of m (loc.Means n) = ap (λ (x : Meaning (Option ℕ)). val.Meant x) (get_or-map (meaning_of number) m.meanings n means.Undefined)
@@ -209,6 +209,10 @@ module _ (number : ℕ → ℕ) where
 
   pub groups_number : (global : Bool) (g : Groups) (l : Loc) (k : ℤ) → groups_of number (set global g l (val.Number k)) ≡ set global (groups_of number g) l (val.Number k)
   groups_number global g l k = sym (set_of global g l (val.Number k))
+
+  -- a location gets what stands at another
+  pub groups_shared : (global : Bool) (g : Groups) (l m : Loc) → groups_of number (set global g l (get g.now m)) ≡ set global (groups_of number g) l (get (tables_of number g.now) m)
+  groups_shared global g l m = sym (ap (set global (groups_of number g) l) (get_of g.now m) ∙ set_of global g l (get g.now m))
 
   -- NAMES AND GROUPS
 

@@ -21,7 +21,7 @@ use Rattle.equivalents.specs.First.{first_tables}
 use Rattle.equivalents.specs.Groups.{Groups, is_present, entry_for, set, place_of, set_placed, set_name, entered, uncovered, closed, first_groups}
 use Rattle.equivalents.specs.Holding.{list_of, value_list, with_list, lists_of, lists_of_meanings, lists_of_saved, lists_of_entries, lists_of_table, lists_held, lists_outside}
 use Rattle.plain_machine.specs.Numbers.{number_of, meaning_of, meanings_of, value_of, tables_of, saved_of, groups_of, renumbered}
-use Rattle.plain_machine.proofs.GroupNumbers.{set_name_of}
+use Rattle.plain_machine.proofs.GroupNumbers.{set_of, set_name_of}
 
 -- Each list of a map outside is held: by its location now, or by a saved value.
 abbrev pub OutsideIsHeld : Groups → Type 0
@@ -202,6 +202,13 @@ module _ (n : ℕ) where
   pub now_held : (g : Groups) → Has (lists_of_table g.now) → Has (lists_held g)
   now_held g h = join_left (lists_of_table g.now) (lists_of_entries g.entries) h
 
+  -- the list that stands at a location
+  pub value_is_held : (g : Groups) (l : Loc) → Is (value_list (get g.now l)) → Has (lists_held g)
+  value_is_held g l h = now_held g (get_held g.now l h)
+
+  pub standing_is_held : (g : Groups) (l : Loc) → Is (tokens_of (get g.now l)) → Has (lists_held g)
+  standing_is_held g l h = value_is_held g l (tokens_is (get g.now l) h)
+
   saved_held : (g : Groups) → Has (lists_of_entries g.entries) → Has (lists_held g)
   saved_held g h = join_right (lists_of_table g.now) (lists_of_entries g.entries) h
 
@@ -362,3 +369,10 @@ module _ (number : ℕ → ℕ) (id new : ℕ) where
   defined_free global g h outside name long outer =
       sym (set_name_of (renumbered number id new) global g name (means.Macro long outer (Some id)))
       ∙ ap₂ (λ (x : Groups) (k : ℕ). set_name global x name (means.Macro long outer (Some k))) (groups_renumbered g h outside) (new_number id refl)
+
+  -- and so does a location
+  pub listed_free : (global : Bool) (g : Groups) → Free (lists_held g) → Free (lists_outside g.outer) → (l : Loc) →
+      groups_of (renumbered number id new) (set global g l (val.Tokens (Some id))) ≡ set global (groups_of number g) l (val.Tokens (Some new))
+  listed_free global g h outside l =
+      sym (set_of (renumbered number id new) global g l (val.Tokens (Some id)))
+      ∙ ap₂ (λ (x : Groups) (k : ℕ). set global x l (val.Tokens (Some k))) (groups_renumbered g h outside) (new_number id refl)

@@ -24,13 +24,14 @@ use Rattle.plain_tokens.specs.Tokens.{is_space, is_outer, is_undefined, space_to
 use Rattle.plain_tokens.specs.Numerals.{whole_number, roman}
 use Rattle.plain_tokens.specs.Meanings.{name_meaning, seen_as, met as met_token, meaning_to_let}
 use Rattle.plain_tokens.specs.Printed.{Style}
-use Rattle.plain_tokens.specs.Puts.{Item, Put as PutList, call_put}
+use Rattle.plain_tokens.specs.Puts.{Item, Put as PutList, call_put, list_put}
 use Rattle.plain_tokens.specs.Arguments.{has_parameters, arguments_in, work_in}
 use Rattle.plain_tokens.specs.Arguments as call
 use Rattle.save_stack.specs.declared.GroupKind.{GroupKind}
 use Rattle.save_stack.specs.declared.GroupKind.TheVariants.{Simple, SemiSimple}
 use Rattle.equivalents.specs.declared.values.Loc.{Loc}
 use Rattle.equivalents.specs.declared.values.Val.TheVariants as val
+use Rattle.equivalents.specs.Cases.{case_codes, case_changed}
 use Rattle.equivalents.specs.First.{magnification}
 use Rattle.equivalents.specs.Locations.{SeenValue, value_seen}
 use Rattle.equivalents.specs.Parameters.{integer_in}
@@ -49,8 +50,8 @@ use Rattle.plain_readings.specs.Calls.{gathered}
 use Rattle.plain_readings.specs.Spelling.{endcsname_primitive}
 use Rattle.plain_readings.specs.Readings.{Kind, Reads, Spelling, FileName, Arguments, Reading, lists}
 use Rattle.plain_readings.specs.Scanning.{Scanning, scanning}
-use Rattle.plain_machine.specs.States.{State, Files, Move, Handed, Taken, FirstTaken, Settled, Skipped, FileClosed, FileEnds, FileOpened, Spelt, NameInProgress, Grows, Feeds, Completed, ListGrown, Set, Assigned, Defined, GroupOpened, Begun, Ended, Closed, Written, Stopped}
-use Rattle.plain_machine.specs.Plan.{Page, page_of, style_of, met, met_outer, entered, checked, check_noted, ran_away, away_text, page_behind, reported, reported_as, behind_report, reports_room, told, put_inserted, put_one, put_made, put_text, put_characters, noting, noting_kind, token_line, finish, command, register, primitive, call_of, begun, csname_primitive, jobname_primitive, input_primitive, endinput_primitive, input_met, frozen_relax, is_expandable_primitive, job_in, expansion, begingroup_primitive, endgroup_primitive, put_each, group_ended, brace_met, endgroup_met, character, unless_expanded, called, called_meaning, called_list, put_body, body_put, stomach, wanted, expanded, expanded_as, feeding_kind, grown_and_fed, first_list, grown_to, opened, in_place, argument_fed, call_fed, inner_begun, given_back, value_tokens, done, arguments_put, called_with, failed, failed_away, is_global, behind_assignment, assigned, kept_for_group, computed_to, short_meaning, acts, acts_on, acts_in, and_closed, meaning_characters, macro_defined, name_made, unless_found, input_begun, relax_if_undefined, spelt, newly_spelt, answered, number_or_glue, is_magnification, magnification_set, legal_or_not, compared}
+use Rattle.plain_machine.specs.States.{State, Files, Move, Handed, Taken, FirstTaken, Settled, Skipped, FileClosed, FileEnds, FileOpened, Spelt, NameInProgress, Grows, Feeds, Completed, ListGrown, Set, Assigned, Defined, ListSet, GroupOpened, Begun, Ended, Closed, Written, Stopped}
+use Rattle.plain_machine.specs.Plan.{Page, page_of, style_of, met, met_outer, entered, checked, check_noted, ran_away, away_text, page_behind, reported, reported_as, behind_report, reports_room, told, put_inserted, put_one, put_made, put_text, put_characters, noting, noting_kind, token_line, finish, command, register, primitive, call_of, begun, csname_primitive, jobname_primitive, input_primitive, endinput_primitive, input_met, frozen_relax, is_expandable_primitive, job_in, expansion, begingroup_primitive, endgroup_primitive, put_each, group_ended, brace_met, endgroup_met, character, unless_expanded, called, called_meaning, called_list, put_body, body_put, stomach, wanted, expanded, expanded_as, feeding_kind, grown_and_fed, first_list, grown_to, opened, in_place, argument_fed, call_fed, inner_begun, given_back, value_tokens, done, arguments_put, called_with, failed, failed_away, is_global, behind_assignment, assigned, kept_for_group, computed_to, short_meaning, acts, tokens_entered, list_given, is_copying, list_number, acts_above, list_set, acts_on, acts_in, and_closed, meaning_characters, macro_defined, name_made, unless_found, input_begun, relax_if_undefined, spelt, newly_spelt, answered, number_or_glue, is_magnification, magnification_set, legal_or_not, compared}
 use Rattle.plain_machine.specs.Runs.{step_of, steps}
 
 -- The moves that pull: they read what is pending, or open a file.
@@ -398,6 +399,7 @@ acts_none page c (effect.FutureLet n x y) =
     and_closed_none (put_one y.token ++ (put_one x.token ++ assigned page m)) (future_none page x.token y.token m refl)
 acts_none page c (effect.SetNumber l value) = closed_assigned page (Set (is_global page c) l (val.Number value)) refl
 acts_none page c (effect.SetGlue l g) = closed_assigned page (Set (is_global page c) l (val.Skip g)) refl
+acts_none page c (effect.ShareList l m) = closed_assigned page (Set (is_global page c) l (get page.now m)) refl
 acts_none page c (effect.Compute operation l d) = computed_none page c l (value_computed operation l (value_seen (get page.now l)) d)
 acts_none page c (effect.Shorthand n meant) = closed_assigned page (Assigned (is_global page c) n (short_meaning meant)) refl
 acts_none page c effect.Unassigned = and_closed_none (behind_assignment page.after) (behind_assignment_none page.after)
@@ -412,6 +414,26 @@ acts_none page c (effect.MakeValue l) =
     and_closed_none (put_characters text) (characters_none text)
 acts_none page c e = refl
 
+-- the list of a location
+list_entered_none : (ts : List Token) → pulls (tokens_entered ts) ≡ 0
+list_entered_none [] = refl
+list_entered_none (t ∷ ts) = omega (arith, list_entered_none ts)
+
+pub list_given_none : (page : Page) (copied : Bool) (o : Option ℕ) → pulls (list_given page copied o) ≡ 0
+list_given_none page copied None = refl
+list_given_none page true (Some number) = list_entered_none (slice_index_or page.macros number [])
+list_given_none page false (Some number) =
+    let p : PutList = list_put number (slice_index_or page.macros number []) in
+    body_none p p.items
+
+pub acts_above_none : (beneath : List Reading) (page : Page) (c : Call) (e : Effect) → pulls (acts_above beneath page c e) ≡ 0
+acts_above_none beneath page c (effect.PutList l) = omega (arith, list_given_none page (is_copying beneath) (list_number page l))
+acts_above_none beneath page c e = acts_none page c e
+
+pub list_set_none : (page : Page) (c : Call) (l : Loc) (ts : List Token) → pulls (list_set page c l ts) ≡ 0
+list_set_none page c l [] = omega (arith, assigned_none page (Set (is_global page c) l (val.Tokens None)) refl)
+list_set_none page c l (t ∷ ts) = assigned_none page (ListSet (is_global page c) l (t ∷ ts)) refl
+
 relax_none : (meanings : List (Meaning (Option ℕ))) (n : Name) → pulls (relax_if_undefined meanings n) ≡ 0
 relax_none meanings n = none_if (is_undefined (seen_as (name_meaning meanings n))) (Assigned false n (means.Prim relax_primitive) ∷ []) [] refl refl
 
@@ -425,6 +447,10 @@ made_name_none page characters =
 pub acts_on_none : (page : Page) (c : Call) (e : Effect) (ts : List Token) → pulls (acts_on page c e ts) ≡ 0
 acts_on_none page c effect.ErrorMessage ts = reported_as_none page ts (Closed ∷ []) refl
 acts_on_none page c effect.MakeName ts = and_closed_none (name_made page (character_codes ts)) (made_name_none page (character_codes ts))
+acts_on_none page c (effect.SetList l) ts = list_set_none page c l ts
+acts_on_none page c (effect.ChangeCase upper) ts =
+    let changed : List Token = map (case_changed (case_codes upper page.now)) ts in
+    and_closed_none (put_text changed) (text_none changed)
 acts_on_none page c e ts = refl
 
 pub macro_none : (page : Page) (c : Call) (n : Name) (ts : List Token) → pulls (macro_defined page c n ts) ≡ 0
@@ -458,7 +484,7 @@ pub answered_none : (s : State) (work : List Reading) (r : Reading) (a : Ask) �
 answered_none s work r (More want) h = absurd h
 answered_none s work r (Inner k begins) h = inner_none (Reads k) begins
 answered_none s work r (Done v back) h = done_none (page_of s) r v back
-answered_none s work r (Acts c e) h = acts_none (page_of s) c e
+answered_none s work r (Acts c e) h = acts_above_none (drop 1 work) (page_of s) c e
 answered_none s work r (ActsOn c e ts) h = acts_in_none s (page_of s) c e ts h
 answered_none s work r (Defines c n ts) h = macro_none (page_of s) c n ts
 answered_none s work r Closes h = refl

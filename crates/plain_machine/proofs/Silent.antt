@@ -8,6 +8,7 @@ use Rattle.tex_syntax.specs.declared.words.Report.TheVariants.{ArithmeticOverflo
 use Rattle.tex_syntax.specs.declared.words.Outcome.{Outcome}
 use Rattle.tex_syntax.specs.declared.words.Outcome.TheVariants.{Finished, AtFatal}
 use Rattle.tex_syntax.specs.declared.words.Scanned.TheVariants as scanned
+use Rattle.tex_syntax.specs.declared.words.Want.TheVariants.{Copied}
 use Rattle.tex_defs.specs.declared.Token.{Token}
 use Rattle.tex_defs.specs.declared.Token.TheVariants as token
 use Rattle.tex_defs.specs.declared.Seen.{Seen}
@@ -25,7 +26,7 @@ use Rattle.plain_tokens.specs.Numerals.{whole_number, roman}
 use Rattle.plain_tokens.specs.Lex.{Lexed, Gives, Invalid, UsedUp, lexed}
 use Rattle.plain_tokens.specs.LexLaws.{LeavesLess}
 use Rattle.plain_tokens.proofs.LexRests.{less}
-use Rattle.plain_tokens.specs.Puts.{Item, Put as PutList, passed, call_put}
+use Rattle.plain_tokens.specs.Puts.{Item, Put as PutList, passed, call_put, list_put}
 use Rattle.plain_tokens.specs.Pending.{Pending, Source, Progress, Begun as BegunFile, Closed as ClosedFile, beneath, from_begun, Pulled, TokenFrom, LexemeFrom, LineTaken, InvalidMet, FileOver, NothingLeft, settle, pulled, from_front, from_list, from_line, from_file}
 use Rattle.plain_tokens.specs.Arguments.{has_parameters}
 use Rattle.save_stack.specs.declared.GroupKind.{GroupKind}
@@ -33,6 +34,7 @@ use Rattle.save_stack.specs.declared.GroupKind.TheVariants.{Simple, SemiSimple}
 use Rattle.equivalents.specs.declared.values.Loc.{Loc}
 use Rattle.equivalents.specs.declared.values.Loc.TheVariants as loc
 use Rattle.equivalents.specs.declared.values.Val.TheVariants as val
+use Rattle.equivalents.specs.Cases.{case_codes, case_changed}
 use Rattle.equivalents.specs.First.{magnification}
 use Rattle.equivalents.specs.Locations.{SeenValue, value_seen}
 use Rattle.equivalents.specs.Parameters.{integer_in}
@@ -49,15 +51,16 @@ use Rattle.rows.specs.declared.command.Effect.TheVariants as effect
 use Rattle.rows.specs.Table.{has_row}
 use Rattle.rows.specs.Arithmetic.{value_computed}
 use Rattle.rows.specs.Internal.{value_text}
-use Rattle.rows.specs.Readings.{Fed, Val, Told, Cut, Ask, More, Inner, Done, Acts, ActsOn, Defines, Ends as Closes, Calls, Fails, RunsAway, Tells, Inserts, Puts, Relaxes, Fetches, Magnifies}
+use Rattle.rows.specs.Readings.{Fed, Val, Told, Cut, Entered as EntersText, Ask, More, Inner, Done, Acts, ActsOn, Defines, Ends as Closes, Calls, Fails, RunsAway, Tells, Inserts, Puts, Relaxes, Fetches, Magnifies}
 use Rattle.plain_readings.specs.Readings.{Kind, Reads, Spelling, FileName, Arguments, Behind, Reading, ask, lists, fed_with}
 use Rattle.plain_readings.specs.Spelling.{endcsname_primitive}
 use Rattle.plain_readings.specs.Scanning.{Scanning, scanning}
 use Rattle.plain_readings.specs.Laws.{IsRead}
 use Rattle.plain_readings.specs.Weights.{frame_weight, value_frame, act_frame, value_weight, act_weight, end_weight, ask_weight, weight, IsNoted, IsLast, WeightsFall}
-use Rattle.plain_machine.specs.States.{State, Files, Move, Settled, Skipped, FileClosed, FileEnds, FileOpened, Spelt, NameInProgress, Entered, Kept as KeptBytes, Grows, Feeds, Completed, Opened, ListBegun, ListGrown, Put, ListDropped, Called, Set, Assigned, Defined, GroupOpened, GroupClosed, KeptForGroup, KeptForAssignment, MagnificationSet, Written, Begun, Ended, Closed, Reported, Flawed, Stopped, Handed, made}
-use Rattle.plain_machine.specs.Plan.{Page, page_of, style_of, plan, ruled, planned, answered, handed, checked, at_line, check_noted, inserted_at, away_text, ran_away, page_behind, reported, behind_report, reports_room, finish, groups_left, stomach, command, register, primitive, begingroup_primitive, endgroup_primitive, right_brace, put_each, group_ended, brace_met, endgroup_met, character, expansion, expanded, expanded_as, csname_primitive, jobname_primitive, input_primitive, endinput_primitive, input_met, frozen_relax, unless_found, input_begun, is_expandable_primitive, job_in, begun, call_of, called_meaning, put_body, body_put, token_line, wanted, enters_names, feeding, given_back, grown_to, first_list, noting, noting_kind, put_one, put_text, put_made, put_characters, put_inserted, arguments_put, called_with, failed, failed_away, inner_begun, done, value_tokens, told, and_closed, expanded_behind, marked, meaning_characters, shown, is_global, behind_assignment, assigned, kept_for_group, number_or_glue, computed_to, short_meaning, acts, macro_defined, newly_spelt, spelt, relax_if_undefined, name_made, entered, acts_on, acts_in, is_magnification, magnification_set, legal_or_not, compared}
+use Rattle.plain_machine.specs.States.{State, Files, Move, Settled, Skipped, FileClosed, FileEnds, FileOpened, Spelt, NameInProgress, Entered, Kept as KeptBytes, Grows, Feeds, Completed, Opened, ListBegun, ListGrown, Put, ListDropped, Called, Set, Assigned, Defined, ListSet, GroupOpened, GroupClosed, KeptForGroup, KeptForAssignment, MagnificationSet, Written, Begun, Ended, Closed, Reported, Flawed, Stopped, Handed, made}
+use Rattle.plain_machine.specs.Plan.{Page, page_of, style_of, plan, ruled, planned, answered, handed, checked, at_line, check_noted, inserted_at, away_text, ran_away, page_behind, reported, behind_report, reports_room, finish, groups_left, stomach, command, register, primitive, begingroup_primitive, endgroup_primitive, right_brace, put_each, group_ended, brace_met, endgroup_met, character, expansion, expanded, expanded_as, csname_primitive, jobname_primitive, input_primitive, endinput_primitive, input_met, frozen_relax, unless_found, input_begun, is_expandable_primitive, job_in, begun, call_of, called_meaning, put_body, body_put, token_line, wanted, enters_names, feeding, given_back, grown_to, first_list, noting, noting_kind, put_one, put_text, put_made, put_characters, put_inserted, arguments_put, called_with, failed, failed_away, inner_begun, done, value_tokens, told, and_closed, expanded_behind, marked, meaning_characters, shown, is_global, behind_assignment, assigned, kept_for_group, number_or_glue, computed_to, short_meaning, value_shown, standing_shown, list_number, tokens_entered, list_given, copies, is_copying, acts_above, list_set, macro_defined, newly_spelt, spelt, relax_if_undefined, name_made, entered, acts_on, acts_in, is_magnification, magnification_set, legal_or_not, compared}
 use Rattle.plain_machine.specs.Runs.{step_of, all_made}
+use Rattle.plain_machine.proofs.Falling.{enter}
 use Rattle.plain_machine.proofs.Settling.{pulled_settled}
 
 -- an open reading
@@ -409,6 +412,24 @@ module _ (falls : WeightsFall) (s : State) (enters : Bool) (o : Option Scanning)
 rule_handed : WeightsFall → (s : State) (enters : Bool) (o : Option Scanning) (onward : Seen → List Move) → s.stopped ≡ None → Rule s (handed (page_of s) enters o onward (pulled s.groups.now.categories s.pending))
 rule_handed falls s enters o onward e = rule_pulled falls s enters o onward e (pulled s.groups.now.categories s.pending) refl (lighter s.groups.now.categories s.pending)
 
+-- A LIST ENTERS an expanded text, which goes on as one.
+module _ (n : ℕ) where
+  falls_entered : (k : Kind) (fed : List Fed) (rs : List Reading) (ts : List Token) (v : State) → v.stopped ≡ None → v.work ≡ record { kind = k; fed = fed } ∷ rs → ask k fed ≡ More Copied →
+      1 + (frame_weight k + frames rs) + check_weight * pending_weight v.pending < n → Drops n (tokens_entered ts) v
+  falls_entered k fed rs [] v e w is light = rw (e, w, is) (omega (arith, light))
+  falls_entered k fed rs (t ∷ ts) v e w is light =
+      let u : State = made (Grows t) (record v { due = Feeds (EntersText t) ∷ tokens_entered ts }) in
+      let x : State = made (Feeds (EntersText t)) (record u { due = tokens_entered ts }) in
+      falls_entered k (fed ++ EntersText t ∷ []) rs ts x e (ap (fed_with (EntersText t)) w) (enter.copies k fed t is) light
+
+  copied_is : (a : Ask) → copies a ≡ true → a ≡ More Copied
+  copied_is (More Copied) h = refl
+  copied_is a h = cc
+
+  falls_copied : (rs : List Reading) → is_copying rs ≡ true → (ts : List Token) (v : State) → v.stopped ≡ None → v.work ≡ rs → 1 + frames rs + check_weight * pending_weight v.pending < n → Drops n (tokens_entered ts) v
+  falls_copied [] is ts v e w less = cc
+  falls_copied (r ∷ rs) is ts v e w less = falls_entered r.kind r.fed rs ts v e w (copied_is (ask r.kind r.fed) is) less
+
 -- MOVES BEHIND WHICH A READING MAY BEGIN
 -- from a state v that weighs less than n, also with one reading more
 module _ (n : ℕ) (v : State) (e : v.stopped ≡ None) (less : state_weight v < n)
@@ -561,6 +582,28 @@ module _ (falls : WeightsFall) (s : State) (k : Kind) (fed : List Fed) (rs : Lis
         let u : State = made (Defined (is_global page c) name c.long c.outer (t ∷ ts)) (record s { due = behind }) in
         Falls (drops_all (state_weight s) u behind (plain_behind page.after) (λ v k. rw (k.stopped, k.work, e, w) (omega (arith, k.pending, asked_least falls rs, heavy, framed))))
 
+    -- a location gets a list
+    rule_listed : (page : Page) (c : Call) (l : Loc) (ts : List Token) → Rule s (list_set page c l ts)
+    rule_listed page c l [] =
+        let ms : List Move = assigned page (Set (is_global page c) l (val.Tokens None)) in
+        Falls (drops_all (state_weight s) (made Closed (record s { due = ms })) ms (plain_assigned page (Set (is_global page c) l (val.Tokens None)) refl)
+        (λ v k. rw (k.stopped, k.work, e, w) (omega (arith, k.pending, asked_least falls rs, heavy, framed))))
+    rule_listed page c l (t ∷ ts) =
+        let behind : List Move = behind_assignment page.after in
+        let u : State = made (ListSet (is_global page c) l (t ∷ ts)) (record s { due = behind }) in
+        Falls (drops_all (state_weight s) u behind (plain_behind page.after) (λ v k. rw (k.stopped, k.work, e, w) (omega (arith, k.pending, asked_least falls rs, heavy, framed))))
+
+    -- the list of a location is put, or enters the expanded text beneath
+    rule_given : (page : Page) (copied : Bool) → is_copying rs ≡ copied → (o : Option ℕ) → Rule s (Closed ∷ list_given page copied o)
+    rule_given page copied is None = rule_closed [] tt
+    rule_given page false is (Some number) =
+        let p : PutList = list_put number (slice_index_or page.macros number []) in
+        Falls (drops_all (state_weight s) (made Closed (record s { due = put_body p })) (put_body p) (plain_body p p.items) (λ v k. rw (k.stopped, k.work, e, w) (omega (arith, k.pending, asked_least falls rs, heavy, framed))))
+    rule_given page true is (Some number) =
+        let ms : List Move = tokens_entered (slice_index_or page.macros number []) in
+        let v : State = made Closed (record s { due = ms }) in
+        Falls (falls_copied (state_weight s) rs is (slice_index_or page.macros number []) v e (rw w refl) (rw (e, w) (omega (arith, heavy, framed))))
+
     -- the body of a call is put
     rule_put : (p : PutList) (is : List Item) → Rule s (arguments_put p is)
     rule_put p [] = rule_closed [] tt
@@ -591,6 +634,10 @@ module _ (falls : WeightsFall) (s : State) (k : Kind) (fed : List Fed) (rs : Lis
     rule_acts_on page c effect.ErrorMessage ts =
         Falls (drops_told (state_weight s) s page (error_message_bytes (style_of page) page.in_line page.line ts) (Closed ∷ []) (some_weight s e) (λ u h. falls_closed u h))
     rule_acts_on page c effect.MakeName ts = rule_closed (name_made page (character_codes ts)) (plain_name page (character_codes ts))
+    rule_acts_on page c (effect.SetList l) ts = rule_listed page c l ts
+    rule_acts_on page c (effect.ChangeCase upper) ts =
+        let changed : List Token = map (case_changed (case_codes upper page.now)) ts in
+        rule_closed (put_text changed) (plain_text changed)
     rule_acts_on page c f ts = rule_closed [] tt
 
     -- `\input`: the reading of the name ends, and the file is opened or the run ends
@@ -631,18 +678,22 @@ module _ (falls : WeightsFall) (s : State) (k : Kind) (fed : List Fed) (rs : Lis
       (drops_stays (state_weight s) v e less more v (put_one y.token) (kept_none v) (plain_one y.token)))
 
   module _ (c : Call) (page : Page) where
-    rule_acts : (f : Effect) → ask k fed ≡ Acts c f → Rule s (acts page c f)
+    rule_acts : (f : Effect) → ask k fed ≡ Acts c f → Rule s (acts_above rs page c f)
     rule_acts f is =
         by f is (subst (λ (n : ℕ). act_weight ≤ n) (sym (ap (ask_weight (end_weight k)) is)) (falls.heavy f)) (falls.ends k fed (subst IsLast (sym is) tt)) where
-          by : (f : Effect) → ask k fed ≡ Acts c f → act_weight ≤ weight k fed → frame_weight k ≡ act_frame → Rule s (acts page c f)
+          by : (f : Effect) → ask k fed ≡ Acts c f → act_weight ≤ weight k fed → frame_weight k ≡ act_frame → Rule s (acts_above rs page c f)
           by (effect.Obey x) is h a = rule_obeyed h a page x.token x.meaning
           by (effect.Show x) is h a = rule_closed h a (shown page x) (refl, (refl, tt))
+          by (effect.ShowValue l) is h a = rule_closed h a (standing_shown page l) (refl, (refl, tt))
+          by (effect.ShowNumber n) is h a = rule_closed h a (value_shown page (whole_number n) []) (refl, (refl, tt))
           by (effect.Let n x) is h a = rule_assigned h a page (Assigned (is_global page c) n (meaning_to_let page.now.meanings x)) refl
           by (effect.FutureLet n x y) is h a =
               let m : Move = Assigned (is_global page c) n (meaning_to_let page.now.meanings y) in
               rule_closed h a (put_one y.token ++ (put_one x.token ++ assigned page m)) (plain_future page x.token y.token m refl)
           by (effect.SetNumber l value) is h a = rule_assigned h a page (Set (is_global page c) l (val.Number value)) refl
           by (effect.SetGlue l g) is h a = rule_assigned h a page (Set (is_global page c) l (val.Skip g)) refl
+          by (effect.ShareList l m) is h a = rule_assigned h a page (Set (is_global page c) l (get page.now m)) refl
+          by (effect.PutList l) is h a = rule_given h a page (is_copying rs) refl (list_number page l)
           by (effect.Compute operation l d) is h a = rule_computed h a page c l (value_computed operation l (value_seen (get page.now l)) d)
           by (effect.Shorthand n meant) is h a = rule_assigned h a page (Assigned (is_global page c) n (short_meaning meant)) refl
           by effect.Unassigned is h a = rule_closed h a (behind_assignment page.after) (plain_behind page.after)

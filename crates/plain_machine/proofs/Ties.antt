@@ -1,6 +1,6 @@
 -- Lists stay under their other numbers: they are put and read, a macro is defined, a location gets a value, and a group ends.
 use Rattle.std.proofs.Common.{◌≡◌, ℕ, suc, ◌<◌, ◌≤◌, Bool, true, false, ◌||◌, ◌⊎◌, List, [], ◌∷◌, ◌++◌, length, ℤ, Option, Some, None, refl, sym, ap, ◌∙◌, subst, ⊎_elim, inl, inr, arith}
-use Rattle.std.specs.Prelude.{slice_index_or}
+use Rattle.std.specs.Prelude.{◌==◌, slice_index_or}
 use Rattle.std.proofs.Math.Bool.{or_assoc}
 use Rattle.std.proofs.lemmas.Bool.{eqb-true, eq-eqb, or_cases, or_parts, or_left, or_right, cases_eq, cases_lt, false_from_ne_true}
 use Rattle.std.proofs.lemmas.List.{get_or_at, get_or_append_left, get_or_past, length-append}
@@ -19,15 +19,17 @@ use Rattle.plain_tokens.specs.Printed.{Style, meaning_head, meaning_text, meanin
 use Rattle.save_stack.specs.declared.GroupKind.{GroupKind}
 use Rattle.equivalents.specs.declared.values.Loc.{Loc}
 use Rattle.equivalents.specs.declared.values.Val.TheVariants as val
-use Rattle.equivalents.specs.Locations.{V}
+use Rattle.equivalents.specs.Locations.{V, tokens_of}
+use Rattle.equivalents.specs.Tables.{get}
 use Rattle.equivalents.proofs.Names.{fixed_unlisted}
 use Rattle.equivalents.specs.Groups.{Groups, set, set_name, entered, opened, closed, with_token, first_groups}
 use Rattle.equivalents.specs.Holding.{list_of, value_list, lists_of_meanings, lists_held}
 use Rattle.plain_machine.specs.Plan.{macro_tokens}
-use Rattle.plain_machine.specs.Numbers.{number_of, meaning_of, meanings_of, whole_of, put_of, puts_of, groups_of, renumbered, IsHeld, Tied}
+use Rattle.plain_machine.specs.Numbers.{number_of, meaning_of, meanings_of, whole_of, put_of, puts_of, tables_of, groups_of, renumbered, IsHeld, Tied}
 use Rattle.plain_machine.proofs.Renumbering.{meaning_to_let_of}
+use Rattle.plain_machine.proofs.GroupNumbers.{get_of, tokens_as}
 use Rattle.plain_machine.proofs.MacroWords.{either}
-use Rattle.plain_machine.proofs.Holders.{is_number, OutsideIsHeld, meanings_at, names_hold, now_held, set_cases, name_cases, closed_held, outside_free, entered_lists, first_lists, other_number, new_number, defined_free}
+use Rattle.plain_machine.proofs.Holders.{is_number, OutsideIsHeld, meanings_at, names_hold, now_held, set_cases, name_cases, closed_held, outside_free, entered_lists, first_lists, other_number, new_number, defined_free, listed_free, value_is_held, standing_is_held}
 
 -- WHAT IS HELD
 
@@ -193,7 +195,7 @@ module _ (number : ℕ → ℕ) (macros : List (List Token)) where
     pub tied_begun : Tied number macros held (all_puts (with_begun p)) lists
     tied_begun = tied_puts held (all_puts p) lists t (all_puts (with_begun p)) (λ n h. put_with_begun n p h)
 
--- A MACRO IS DEFINED
+-- A MACRO IS DEFINED, and a location gets a list
 
 module _ (number : ℕ → ℕ) (id new : ℕ) where
   whole_renumbered : (w : Whole) → is_whole id w ≡ false → whole_of (renumbered number id new) w ≡ whole_of number w
@@ -223,24 +225,35 @@ module _ (number : ℕ → ℕ) (id new : ℕ) where
       let free : is_listed (lists_held g) id ≡ false = (not_held (lists_held g) puts fresh).0 in
       defined_free number id new global g free (outside_free id g outside free) name long outer
 
--- what is held then is the new macro, or was held
+  -- and so does the location
+  pub groups_listed : (global : Bool) (g : Groups) (puts : List Put) → (IsHeld id (lists_held g) puts → ⊥) → OutsideIsHeld g → (l : Loc) →
+      groups_of (renumbered number id new) (set global g l (val.Tokens (Some id))) ≡ set global (groups_of number g) l (val.Tokens (Some new))
+  groups_listed global g puts fresh outside l =
+      let free : is_listed (lists_held g) id ≡ false = (not_held (lists_held g) puts fresh).0 in
+      listed_free number id new global g free (outside_free id g outside free) l
+
+-- what is held then is the new list, or was held
+listed_then : (held held' : List ℕ) (puts : List Put) (id n : ℕ) → (is_listed held' n ≡ true → ((id == n) ≡ true) ⊎ (is_listed held n ≡ true)) → IsHeld n held' puts → (n ≡ id) ⊎ IsHeld n held puts
+listed_then held held' puts id n cases h =
+    ⊎_elim
+    (λ a. ⊎_elim (λ b. inl (let e : id ≡ n = eqb-true id n b in cc)) (λ b. inr (or_left (is_listed held n) (is_put n puts) b)) (cases a))
+    (λ a. inr (or_right (is_listed held n) (is_put n puts) a))
+    (or_cases (is_listed held' n) (is_put n puts) h)
+
 pub held_defined : (global : Bool) (g : Groups) (puts : List Put) (name : Name) (long outer : Bool) (id n : ℕ) → IsHeld n (lists_held (set_name global g name (means.Macro long outer (Some id)))) puts → (n ≡ id) ⊎ IsHeld n (lists_held g) puts
 held_defined global g puts name long outer id n h =
-    ⊎_elim
-    (λ a. ⊎_elim (λ b. inl (let e : id ≡ n = eqb-true id n b in cc)) (λ b. inr (or_left (is_listed (lists_held g) n) (is_put n puts) b)) (name_cases n global g name (means.Macro long outer (Some id)) a))
-    (λ a. inr (or_right (is_listed (lists_held g) n) (is_put n puts) a))
-    (or_cases (is_listed (lists_held (set_name global g name (means.Macro long outer (Some id)))) n) (is_put n puts) h)
+    listed_then (lists_held g) (lists_held (set_name global g name (means.Macro long outer (Some id)))) puts id n (name_cases n global g name (means.Macro long outer (Some id))) h
 
-module _ (number : ℕ → ℕ) (macros : List (List Token)) (global : Bool) (g : Groups) (puts : List Put) (lists lists' : List (List Token)) (name : Name) (long outer : Bool) (id : ℕ) (ts : List Token) where
-  abbrev after : List ℕ
-  after = lists_held (set_name global g name (means.Macro long outer (Some id)))
+pub held_listed : (global : Bool) (g : Groups) (puts : List Put) (l : Loc) (id n : ℕ) → IsHeld n (lists_held (set global g l (val.Tokens (Some id)))) puts → (n ≡ id) ⊎ IsHeld n (lists_held g) puts
+held_listed global g puts l id n h = listed_then (lists_held g) (lists_held (set global g l (val.Tokens (Some id)))) puts id n (set_cases n global g l (val.Tokens (Some id))) h
 
+module _ (number : ℕ → ℕ) (macros : List (List Token)) (held after : List ℕ) (puts : List Put) (lists lists' : List (List Token)) (id : ℕ) (ts : List Token) (cases : (n : ℕ) → IsHeld n after puts → (n ≡ id) ⊎ IsHeld n held puts) where
   abbrev numbered : ℕ → ℕ
   numbered = renumbered number id (length macros)
 
-  module _ (t : Tied number macros (lists_held g) puts lists) (there : id < length lists') (longer : length lists ≤ length lists') (here : slice_index_or lists' id [] ≡ ts) (kept : (n : ℕ) → (n ≡ id → ⊥) → IsHeld n after puts → slice_index_or lists' n [] ≡ slice_index_or lists n []) where
-    old : (n : ℕ) → (n ≡ id → ⊥) → IsHeld n after puts → IsHeld n (lists_held g) puts
-    old n other h = ⊎_elim (λ e. absurd (other e)) (λ a. a) (held_defined global g puts name long outer id n h)
+  module _ (t : Tied number macros held puts lists) (there : id < length lists') (longer : length lists ≤ length lists') (here : slice_index_or lists' id [] ≡ ts) (kept : (n : ℕ) → (n ≡ id → ⊥) → IsHeld n after puts → slice_index_or lists' n [] ≡ slice_index_or lists n []) where
+    old : (n : ℕ) → (n ≡ id → ⊥) → IsHeld n after puts → IsHeld n held puts
+    old n other h = ⊎_elim (λ e. absurd (other e)) (λ a. a) (cases n h)
 
     old_within : (n : ℕ) → (n ≡ id → ⊥) → IsHeld n after puts → numbered n < length macros
     old_within n other h =
@@ -290,14 +303,29 @@ module _ (number : ℕ → ℕ) (macros : List (List Token)) (global : Bool) (g 
         let same : number n ≡ number m = omega arith in
         t.apart n m (old n a h) (old m b i) same
 
-    -- the new macro has the next number
-    pub tied_defined : Tied numbered (macros ++ ts ∷ []) after puts lists'
-    tied_defined = record {
+    -- the new list has the next number
+    tied_more : Tied numbered (macros ++ ts ∷ []) after puts lists'
+    tied_more = record {
       inside = λ n h. inside_then n h (cases_eq n id);
       within = λ n h. within_then n h (cases_eq n id);
       tokens = λ n h. tokens_then n h (cases_eq n id);
       apart = λ n m h i e. apart_then n m h i e (cases_eq n id) (cases_eq m id);
     }
+
+module _ (number : ℕ → ℕ) (macros : List (List Token)) (global : Bool) (g : Groups) (puts : List Put) (lists lists' : List (List Token)) where
+  -- of the macro that a name becomes
+  pub tied_defined : (name : Name) (long outer : Bool) (id : ℕ) (ts : List Token) → Tied number macros (lists_held g) puts lists → id < length lists' → length lists ≤ length lists' → slice_index_or lists' id [] ≡ ts →
+      ((n : ℕ) → (n ≡ id → ⊥) → IsHeld n (lists_held (set_name global g name (means.Macro long outer (Some id)))) puts → slice_index_or lists' n [] ≡ slice_index_or lists n []) →
+      Tied (renumbered number id (length macros)) (macros ++ ts ∷ []) (lists_held (set_name global g name (means.Macro long outer (Some id)))) puts lists'
+  tied_defined name long outer id ts t there longer here kept =
+      tied_more number macros (lists_held g) (lists_held (set_name global g name (means.Macro long outer (Some id)))) puts lists lists' id ts (held_defined global g puts name long outer id) t there longer here kept
+
+  -- and of a location
+  pub tied_listed : (l : Loc) (id : ℕ) (ts : List Token) → Tied number macros (lists_held g) puts lists → id < length lists' → length lists ≤ length lists' → slice_index_or lists' id [] ≡ ts →
+      ((n : ℕ) → (n ≡ id → ⊥) → IsHeld n (lists_held (set global g l (val.Tokens (Some id)))) puts → slice_index_or lists' n [] ≡ slice_index_or lists n []) →
+      Tied (renumbered number id (length macros)) (macros ++ ts ∷ []) (lists_held (set global g l (val.Tokens (Some id)))) puts lists'
+  tied_listed l id ts t there longer here kept =
+      tied_more number macros (lists_held g) (lists_held (set global g l (val.Tokens (Some id)))) puts lists lists' id ts (held_listed global g puts l id) t there longer here kept
 
 -- A NAME MEANS WHAT ANOTHER TOKEN MEANS
 
@@ -348,6 +376,10 @@ module _ (number : ℕ → ℕ) (macros : List (List Token)) (g : Groups) (puts 
 
   pub tied_number : (global : Bool) (l : Loc) (k : ℤ) → Tied number macros (lists_held (set global g l (val.Number k))) puts lists
   tied_number global l k = tied_set global l (val.Number k) (λ n h. cc)
+
+  -- what stands at another location
+  pub tied_shared : (global : Bool) (l m : Loc) → Tied number macros (lists_held (set global g l (get g.now m))) puts lists
+  tied_shared global l m = tied_set global l (get g.now m) (λ n h. value_is_held n g m h)
 
   pub tied_let : (global : Bool) (name : Name) (x : Seen) → Tied number macros (lists_held (set_name global g name (meaning_to_let g.now.meanings x))) puts lists
   tied_let global name x = tied_assigned global name (meaning_to_let g.now.meanings x) (λ n h. name_held n g (given_meant n g.now.meanings x h))
@@ -406,3 +438,10 @@ module _ (number : ℕ → ℕ) (macros : List (List Token)) (g : Groups) (puts 
   -- by `\show`
   pub tokens_let : (x : Seen) → meaning_tokens (macro_tokens macros) (meaning_to_let (meanings_of number g.now.meanings) x) ≡ meaning_tokens (macro_tokens lists) (meaning_to_let g.now.meanings x)
   tokens_let x = ap (meaning_tokens (macro_tokens macros)) (meaning_to_let_of number g.now.meanings x) ∙ tokens_tied (meaning_to_let g.now.meanings x) (given_held x)
+
+  pub standing_held : (l : Loc) (n : ℕ) → is_number n (tokens_of (get g.now l)) ≡ true → IsHeld n (lists_held g) puts
+  standing_held l n h = or_left (is_listed (lists_held g) n) (is_put n puts) (standing_is_held n g l h)
+
+  -- the list that stands at a location
+  pub standing_tied : (l : Loc) → macro_tokens macros (tokens_of (get (tables_of number g.now) l)) ≡ macro_tokens lists (tokens_of (get g.now l))
+  standing_tied l = ap (macro_tokens macros) (ap tokens_of (get_of number g.now l) ∙ tokens_as number (get g.now l)) ∙ macro_tokens_tied (tokens_of (get g.now l)) (standing_held l)

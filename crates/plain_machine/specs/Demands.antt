@@ -10,7 +10,7 @@ use Rattle.equivalents.specs.Groups.{set_demands, name_demands, group_demands, t
 use Rattle.equivalents.specs.Holding.{lists_held, shared_words}
 use Rattle.rows.specs.Readings.{Tok}
 use Rattle.plain_readings.specs.Readings.{Reading, lists}
-use Rattle.plain_machine.specs.States.{Move, Handed, Taken, FirstTaken, FileOpened, Spelt, Entered, Kept, Grows, Opened, ListBegun, ListGrown, Put, Called, CalledWith, Set, Assigned, Defined, GroupOpened, KeptForGroup, Begun, BegunWith, State}
+use Rattle.plain_machine.specs.States.{Move, Handed, Taken, FirstTaken, FileOpened, Spelt, Entered, Kept, Grows, Opened, ListBegun, ListGrown, Put, Called, CalledWith, Set, Assigned, Defined, ListSet, GroupOpened, KeptForGroup, Begun, BegunWith, State}
 
 -- the words of main memory that are used
 abbrev pub words : State → ℕ
@@ -41,6 +41,7 @@ demands (BegunWith k) s = depth s.work ∷ memory (lists_words (lists k (Tok s.l
 demands (Set global l v) s = set_demands global s.groups l
 demands (Assigned global name m) s = name_demands global s.groups name
 demands (Defined global name long outer ts) s = name_demands global s.groups name
+demands (ListSet global l ts) s = set_demands global s.groups l
 demands (GroupOpened kind) s = group_demands s.groups
 demands (KeptForGroup t) s = token_demands s.groups
 demands m s = []

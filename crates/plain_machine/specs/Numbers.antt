@@ -1,4 +1,4 @@
--- The same state with other numbers of its macros: what they are called is seen nowhere.
+-- The same state with other numbers of its lists, of macros and of locations: what they are is seen nowhere.
 use Rattle.std.specs.Prelude.{◌≡◌, ℕ, Bool, ◌<◌, ◌==◌, ◌||◌, true, List, [], length, map, slice_index_or, Option, None, Some, if◌then◌else◌}
 use Rattle.tex_defs.specs.declared.Token.{Token}
 use Rattle.tex_defs.specs.declared.Meaning.{Meaning}
@@ -13,7 +13,7 @@ use Rattle.save_stack.specs.declared.GroupKind.{GroupKind}
 use Rattle.save_stack.specs.declared.Saved.{Saved}
 use Rattle.equivalents.specs.declared.values.Loc.{Loc}
 use Rattle.equivalents.specs.declared.values.Val.TheVariants as val
-use Rattle.equivalents.specs.Locations.{V, value_seen}
+use Rattle.equivalents.specs.Locations.{V, tokens_of, value_seen}
 use Rattle.equivalents.specs.Tables.{Tables, get}
 use Rattle.equivalents.specs.Groups.{Groups, set, set_name, entered, opened, closed, with_token, depth, kind_of, tokens_after, saves, set_demands, name_demands, group_demands, token_demands}
 use Rattle.equivalents.specs.Holding.{lists_held, shared_words}
@@ -84,8 +84,8 @@ pub record Tied (number : ℕ → ℕ) (macros : List (List Token)) (held : List
   pub tokens : (n : ℕ) → IsHeld n held puts → slice_index_or macros (number n) [] ≡ slice_index_or lists n []
   pub apart : (n m : ℕ) → IsHeld n held puts → IsHeld m held puts → number n ≡ number m → n ≡ m
 
--- What macros are called is seen nowhere: not in what is read, nor in what names mean and what `\let` gives, nor in what is fetched from a
--- location, nor in what is shown of meanings, nor in the words that are used.
+-- The numbers of lists are seen nowhere: not in what is read, nor in what names mean and what `\let` gives, nor in what is fetched from a
+-- location, nor in what is shown of meanings, nor in the list that stands at a location, nor in the words that are used.
 pub record NumbersAreFree : Type 0 where
   pub reads : (number : ℕ → ℕ) (categories : List ℕ) (p : Pending) → pulled categories (pending_of number p) ≡ pulled_of number (pulled categories p)
   pub puts : (number : ℕ → ℕ) (x : Put) (p : Pending) → put_front (put_of number x) (pending_of number p) ≡ pending_of number (put_front x p)
@@ -94,11 +94,14 @@ pub record NumbersAreFree : Type 0 where
   pub means : (number : ℕ → ℕ) (cells : List (Meaning (Option ℕ))) (t : Token) → seen (meanings_of number cells) t ≡ seen cells t
   pub meets : (number : ℕ → ℕ) (cells : List (Meaning (Option ℕ))) (t : Token) → met (meanings_of number cells) t ≡ met cells t
   pub lets : (number : ℕ → ℕ) (cells : List (Meaning (Option ℕ))) (x : Seen) → meaning_to_let (meanings_of number cells) x ≡ meaning_of number (meaning_to_let cells x)
+  pub stands : (number : ℕ → ℕ) (m : Tables) (l : Loc) → get (tables_of number m) l ≡ value_of number (get m l)
   pub fetches : (number : ℕ → ℕ) (m : Tables) (l : Loc) → value_seen (get (tables_of number m) l) ≡ value_seen (get m l)
   pub texts : (number : ℕ → ℕ) (macros : List (List Token)) (g : Groups) (puts : List Put) (lists : List (List Token)) →
       Tied number macros (lists_held g) puts lists → (style : Style) (x : Seen) → meaning_text style (macro_tokens macros) (meaning_to_let (meanings_of number g.now.meanings) x) ≡ meaning_text style (macro_tokens lists) (meaning_to_let g.now.meanings x)
   pub shows : (number : ℕ → ℕ) (macros : List (List Token)) (g : Groups) (puts : List Put) (lists : List (List Token)) →
       Tied number macros (lists_held g) puts lists → (x : Seen) → meaning_tokens (macro_tokens macros) (meaning_to_let (meanings_of number g.now.meanings) x) ≡ meaning_tokens (macro_tokens lists) (meaning_to_let g.now.meanings x)
+  pub lists : (number : ℕ → ℕ) (macros : List (List Token)) (g : Groups) (puts : List Put) (lists : List (List Token)) →
+      Tied number macros (lists_held g) puts lists → (l : Loc) → macro_tokens macros (tokens_of (get (tables_of number g.now) l)) ≡ macro_tokens lists (tokens_of (get g.now l))
   pub words : (number : ℕ → ℕ) (macros : List (List Token)) (g : Groups) (puts : List Put) (lists : List (List Token)) →
       Tied number macros (lists_held g) puts lists → shared_words 0 (lists_held (groups_of number g)) (puts_of number puts) macros ≡ shared_words 0 (lists_held g) puts lists
   -- what is assigned, where a group is opened and closed, and where a token is kept for its end

@@ -32,9 +32,10 @@ use Rattle.equivalents.specs.First.{global_definitions, magnification}
 use Rattle.save_stack.specs.declared.GroupKind.{GroupKind}
 use Rattle.save_stack.specs.declared.GroupKind.TheVariants.{Simple, SemiSimple}
 use Rattle.equivalents.specs.Groups.{Groups, depth, kind_of, tokens_after}
-use Rattle.equivalents.specs.Locations.{V, SeenValue, zero_value, value_seen}
+use Rattle.equivalents.specs.Locations.{V, SeenValue, zero_value, value_seen, tokens_of}
+use Rattle.equivalents.specs.Cases.{case_codes, case_changed}
 use Rattle.equivalents.specs.Tables.{Tables, get}
-use Rattle.plain_tokens.specs.Puts.{Item, Put as PutList, call_put}
+use Rattle.plain_tokens.specs.Puts.{Item, Put as PutList, call_put, list_put}
 use Rattle.plain_tokens.specs.Lookup.{token_of, new_name, name_among, new_among}
 use Rattle.plain_tokens.specs.Printed.{Style, meaning_text, meaning_tokens}
 use Rattle.plain_tokens.specs.Numerals.{whole_number, roman}
@@ -42,7 +43,7 @@ use Rattle.plain_tokens.specs.Lines.{first_line}
 use Rattle.plain_tokens.specs.Pending.{Pulled, TokenFrom, LexemeFrom, LineTaken, InvalidMet, FileOver, NothingLeft, bottom, pulled}
 use Rattle.plain_tokens.specs.Arguments.{has_parameters, arguments_in, work_in}
 use Rattle.plain_tokens.specs.Arguments as call
-use Rattle.plain_state.specs.Reports.{in_line_after, missing_file_bytes, fresh_line, end_in_group, report_bytes, error_message_bytes, shown_meaning_bytes, string_text, hundred_line, emergency, no_end_line, no_file_line, token_line_bytes, runaway_bytes, message_bytes}
+use Rattle.plain_state.specs.Reports.{in_line_after, missing_file_bytes, fresh_line, end_in_group, report_bytes, error_message_bytes, shown_meaning_bytes, shown_value_bytes, string_text, hundred_line, emergency, no_end_line, no_file_line, token_line_bytes, runaway_bytes, message_bytes}
 use Rattle.command_words.specs.Words.{job_name, file_name}
 use Rattle.rows.specs.declared.words.Value.{Value}
 use Rattle.rows.specs.declared.words.Value.TheVariants as value
@@ -57,13 +58,13 @@ use Rattle.rows.specs.declared.command.Effect.TheVariants as effect
 use Rattle.rows.specs.Table.{has_row}
 use Rattle.rows.specs.Arithmetic.{value_computed}
 use Rattle.rows.specs.Internal.{value_text}
-use Rattle.rows.specs.Readings.{Fed, Tok, Told, Cut, Fetched, Ask, More, Inner, Done, Acts, ActsOn, Defines, Ends as Closes, Calls, Fails, RunsAway, Tells, Inserts, Puts, Relaxes, Fetches, Magnifies}
+use Rattle.rows.specs.Readings.{Fed, Tok, Told, Cut, Fetched, Entered, Ask, More, Inner, Done, Acts, ActsOn, Defines, Ends as Closes, Calls, Fails, RunsAway, Tells, Inserts, Puts, Relaxes, Fetches, Magnifies}
 use Rattle.plain_readings.specs.Calls.{gathered, par_token}
 use Rattle.plain_readings.specs.Spelling.{endcsname_primitive}
 use Rattle.plain_readings.specs.Readings.{Kind, Reads, Spelling, FileName, Arguments, Behind, Reading, ask, lists}
 use Rattle.plain_readings.specs.Scanning.{Scanning, scanning}
 use Rattle.equivalents.specs.Parameters.{integer_in, style_in}
-use Rattle.plain_machine.specs.States.{Move, Handed, Taken, FirstTaken, Settled, Skipped, FileClosed, FileEnds, FileOpened, Spelt, NameInProgress, Files, Entered, Kept, Grows, Feeds, Completed, Opened, ListBegun, ListGrown, Put, ListDropped, Called, CalledWith, Set, Assigned, Defined, GroupOpened, GroupClosed, KeptForGroup, KeptForAssignment, MagnificationSet, Written, Begun, BegunWith, Ended, Closed, Reported, Flawed, Stopped, State, no_token, made}
+use Rattle.plain_machine.specs.States.{Move, Handed, Taken, FirstTaken, Settled, Skipped, FileClosed, FileEnds, FileOpened, Spelt, NameInProgress, Files, Entered, Kept, Grows, Feeds, Completed, Opened, ListBegun, ListGrown, Put, ListDropped, Called, CalledWith, Set, Assigned, Defined, ListSet, GroupOpened, GroupClosed, KeptForGroup, KeptForAssignment, MagnificationSet, Written, Begun, BegunWith, Ended, Closed, Reported, Flawed, Stopped, State, no_token, made}
 
 -- What the moves of a rule depend on: what stands at all locations, how many groups are open, the kind of the innermost and the tokens that come after it
 -- (the last first), the token that comes behind the next assignment, the magnification that is set for good, the names entered, the job's name, the macros' lists, the token
@@ -509,7 +510,7 @@ abbrev pub marked : Token → Token
 marked (token.Named n) = token.Marked n
 marked t = t
 
--- what names mean, with the macros' lists
+-- what names mean, with the macros' lists, and the lists of locations
 abbrev pub macro_tokens : List (List Token) → Option ℕ → List Token
 macro_tokens macros None = []
 macro_tokens macros (Some number) = slice_index_or macros number []
@@ -526,6 +527,18 @@ abbrev pub shown : Page → Seen → List Move
 shown page x =
     Written Transcript (shown_meaning_bytes (style_of page) page.in_line page.line x.token x.meaning (tokens_meant page x))
     ∷ Flawed ∷ []
+
+-- the list that stands at a location
+abbrev pub list_number : Page → Loc → Option ℕ
+list_number page l = tokens_of (get page.now l)
+
+-- `\showthe`: this too
+abbrev pub value_shown : Page → (text : List ℕ) → (ts : List Token) → List Move
+value_shown page text ts = Written Transcript (shown_value_bytes (style_of page) page.in_line page.line text ts) ∷ Flawed ∷ []
+
+-- of a location
+abbrev pub standing_shown : Page → Loc → List Move
+standing_shown page l = value_shown page (value_text l (value_seen (get page.now l))) (macro_tokens page.macros (list_number page l))
 
 -- Whether an assignment is global: where `\globaldefs` is positive, each is, and where it is negative, none is.
 abbrev pub globally : ℤ → (asked : Bool) → Bool
@@ -570,10 +583,13 @@ short_meaning (shorthand.Register kind n) = means.Register kind n
 abbrev pub acts : Page → Call → Effect → List Move
 acts page c (effect.Obey x) = Closed ∷ command page x.token x.meaning
 acts page c (effect.Show x) = and_closed (shown page x)
+acts page c (effect.ShowValue l) = and_closed (standing_shown page l)
+acts page c (effect.ShowNumber n) = and_closed (value_shown page (whole_number n) [])
 acts page c (effect.Let n x) = and_closed (assigned page (Assigned (is_global page c) n (meaning_to_let page.now.meanings x)))
 acts page c (effect.FutureLet n x y) = and_closed (put_one y.token ++ (put_one x.token ++ assigned page (Assigned (is_global page c) n (meaning_to_let page.now.meanings y))))
 acts page c (effect.SetNumber l value) = and_closed (assigned page (Set (is_global page c) l (val.Number value)))
 acts page c (effect.SetGlue l g) = and_closed (assigned page (Set (is_global page c) l (val.Skip g)))
+acts page c (effect.ShareList l m) = and_closed (assigned page (Set (is_global page c) l (get page.now m)))
 acts page c (effect.Compute operation l d) = computed_to page c l (value_computed operation l (value_seen (get page.now l)) d)
 acts page c (effect.Shorthand n s) = and_closed (assigned page (Assigned (is_global page c) n (short_meaning s)))
 acts page c effect.Unassigned = and_closed (behind_assignment page.after)
@@ -588,6 +604,38 @@ acts page c (effect.MakeString x) = and_closed (put_characters (string_text (sty
 acts page c (effect.MakeMeaning x) = and_closed (put_characters (meaning_characters page x))
 acts page c (effect.MakeValue l) = and_closed (put_characters (value_text l (value_seen (get page.now l))))
 acts page c e = Closed ∷ []
+
+-- THE LIST OF A LOCATION behind `\the`
+
+-- these tokens enter the list that the innermost reading builds
+abbrev pub tokens_entered : List Token → List Move
+tokens_entered [] = []
+tokens_entered (t ∷ ts) = Grows t ∷ Feeds (Entered t) ∷ tokens_entered ts
+
+-- In an expanded text the list enters as it stands, and else it is put in front; no list is none.
+abbrev pub list_given : Page → (copied : Bool) → Option ℕ → List Move
+list_given page copied None = []
+list_given page true (Some number) = tokens_entered (slice_index_or page.macros number [])
+list_given page false (Some number) = put_body (list_put number (slice_index_or page.macros number []))
+
+-- the innermost of these readings is an expanded text, where lists are copied
+abbrev pub copies : Ask → Bool
+copies (More Copied) = true
+copies a = false
+
+abbrev pub is_copying : List Reading → Bool
+is_copying [] = false
+is_copying (r ∷ rs) = copies (ask r.kind r.fed)
+
+-- what an act comes to above these readings
+abbrev pub acts_above : List Reading → Page → Call → Effect → List Move
+acts_above beneath page c (effect.PutList l) = Closed ∷ list_given page (is_copying beneath) (list_number page l)
+acts_above beneath page c e = acts page c e
+
+-- A location gets a list; one without tokens is none.
+abbrev pub list_set : Page → Call → Loc → List Token → List Move
+list_set page c l [] = Closed ∷ assigned page (Set (is_global page c) l (val.Tokens None))
+list_set page c l (t ∷ ts) = assigned page (ListSet (is_global page c) l (t ∷ ts))
 
 -- a name becomes a macro; a macro's list has a token, and without one the reading ends
 abbrev pub macro_defined : Page → Call → Name → List Token → List Move
@@ -623,6 +671,8 @@ abbrev pub acts_on : Page → Call → Effect → List Token → List Move
 acts_on page c effect.Message ts = and_closed (Written Transcript (message_bytes (style_of page) page.in_line ts) ∷ [])
 acts_on page c effect.ErrorMessage ts = reported_as page ts (Closed ∷ [])
 acts_on page c effect.MakeName ts = and_closed (name_made page (character_codes ts))
+acts_on page c (effect.SetList l) ts = list_set page c l ts
+acts_on page c (effect.ChangeCase upper) ts = and_closed (put_text (map (case_changed (case_codes upper page.now)) ts))
 acts_on page c e ts = Closed ∷ []
 
 -- FILES THAT ARE OPENED
@@ -672,7 +722,7 @@ abbrev pub answered : State → List Reading → Reading → Ask → List Move
 answered s work r (More want) = handed (page_of s) (enters_names want) (scanning work s.gathered) (λ x. wanted (page_of s) want (feeding r x) x) (pulled s.groups.now.categories s.pending)
 answered s work r (Inner k begins) = inner_begun (Reads k) begins
 answered s work r (Done v back) = done (page_of s) r v back
-answered s work r (Acts c e) = acts (page_of s) c e
+answered s work r (Acts c e) = acts_above (drop 1 work) (page_of s) c e
 answered s work r (ActsOn c e ts) = acts_in s.files (page_of s) c e ts
 answered s work r (Defines c n ts) = macro_defined (page_of s) c n ts
 answered s work r Closes = Closed ∷ []

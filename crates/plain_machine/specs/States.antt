@@ -10,6 +10,7 @@ use Rattle.tex_defs.specs.declared.Name.TheVariants as name
 use Rattle.tex_defs.specs.declared.Meaning.{Meaning}
 use Rattle.tex_defs.specs.declared.Meaning.TheVariants as means
 use Rattle.equivalents.specs.declared.values.Loc.{Loc}
+use Rattle.equivalents.specs.declared.values.Val.TheVariants as val
 use Rattle.equivalents.specs.Locations.{V}
 use Rattle.save_stack.specs.declared.GroupKind.{GroupKind}
 use Rattle.equivalents.specs.Groups.{Groups, entered, set, set_name, opened as group_opened, closed as group_closed, with_token}
@@ -44,7 +45,8 @@ pub data Move : Type 0 where
   Kept : (bytes : List ℕ) → Move
   -- the list that the innermost reading builds gets a token
   Grows : Token → Move
-  -- the innermost reading is fed with a token, with the note that its report was written or that a check came, or with what stands at a location
+  -- the innermost reading is fed with a token, with the note that its report was written or that a check came, with what stands at a location, or with a
+  -- token that enters its list as it stands
   Feeds : Fed → Move
   -- in a call: an argument is whole, and its outer braces have gone; the list of the next one is begun
   Completed : List Token → Move
@@ -54,14 +56,15 @@ pub data Move : Type 0 where
   ListGrown : Token → Move
   Put : List Token → Move
   ListDropped : Move
-  -- the body of a macro is put; of one with arguments, these pass from their reading, which ends
+  -- the body of a macro is put, or the list of a location; of a macro with arguments, these pass from their reading, which ends
   Called : PutList → Move
   CalledWith : PutList → Move
   -- an assignment; one to what a name means
   Set : (global : Bool) → Loc → V → Move
   Assigned : (global : Bool) → Name → Meaning (Option ℕ) → Move
-  -- a name becomes a macro, to which the list passes that the innermost reading holds; this reading ends
+  -- a name becomes a macro, or a location gets a list of tokens, to which the list passes that the innermost reading holds; this reading ends
   Defined : (global : Bool) → Name → (long outer : Bool) → List Token → Move
+  ListSet : (global : Bool) → Loc → List Token → Move
   -- a group opened; the innermost one closed; a token kept for its end
   GroupOpened : GroupKind → Move
   GroupClosed : Move
@@ -104,7 +107,8 @@ pub record State : Type 0 where
   pub names : List (List ℕ)
   -- the other strings that are kept: the job's name
   pub strings : List (List ℕ)
-  -- what stands at all locations, in all groups that are open, and the lists of all macros so far, in the order of their definitions
+  -- what stands at all locations, in all groups that are open, and the lists of all macros, token registers and token parameters so far, in the
+  -- order of their definitions and assignments
   pub groups : Groups
   pub macros : List (List Token)
   -- the token that `\afterassignment` keeps
@@ -197,6 +201,12 @@ made (Set global l v) s = record s { groups = set global s.groups l v }
 made (Assigned global name m) s = record s { groups = set_name global s.groups name m }
 made (Defined global name long outer ts) s = record s {
   groups = set_name global s.groups name (means.Macro long outer (Some (length s.macros)));
+  macros = s.macros ++ ts ∷ [];
+  work = drop 1 s.work;
+  gathered = beneath s.work s.gathered;
+}
+made (ListSet global l ts) s = record s {
+  groups = set global s.groups l (val.Tokens (Some (length s.macros)));
   macros = s.macros ++ ts ∷ [];
   work = drop 1 s.work;
   gathered = beneath s.work s.gathered;

@@ -442,7 +442,7 @@ pub fn worked_meanings()
     ensures ignored_before_a_prefix { Writes (first_line_usual ++ codes "\\ignorespaces\\global\\let\\a=b\\message{\\meaning\\a}\\global\\ignorespaces x\\end\n") (codes "the letter b\n! You can't use a prefix with `\\ignorespaces'.\nl.2\n{the letter x}\n") Finished }
 {}
 
-/// The machine run on small files that show something: `\show` and `\errmessage`.
+/// The machine run on small files that show something: `\show`, `\showthe` and `\errmessage`.
 pub fn worked_shown()
     ensures undefined { Writes (first_line_usual ++ codes "\\show\\undefd\\end\n") (codes "> \\undefd=undefined.\nl.2\n") Finished }
     ensures undefined_counts { Counts (first_line_usual ++ codes "\\show\\undefd\\end\n") 0 true }
@@ -464,6 +464,14 @@ pub fn worked_shown()
     ensures error_behind_a_prefix { Writes (first_line_usual ++ codes "\\global\\errmessage{x}\\end\n") (codes "! You can't use a prefix with `\\errmessage'.\nl.2\n! x.\nl.2\n") Finished }
     ensures error_at_the_end { Writes (first_line_usual ++ codes "\\errmessage{hi") (codes "Runaway text?\nhi \n! File ended while scanning text of \\errmessage.\nl.0\n! hi .\nl.0\n! Emergency stop.\n*** (job aborted, no legal \\end found)\n") (AtFatal NoEnd) }
     ensures hundred_errors { RunsWithin 4000 (first_line_usual ++ codes "\\def\\a{\\errmessage{x}\\a}\\a\n") (concat (replicate 100 (codes "! x.\nl.2\n")) ++ codes "(That makes 100 errors; please try again.)\n") 539 (AtFatal HundredErrors) }
+    ensures value { Writes (first_line_usual ++ codes "\\count1=5 \\showthe\\count1\\end\n") (codes "> 5.\nl.2\n") Finished }
+    ensures values_not_counted { Counts (first_line_usual ++ codes "\\showthe\\count1\\showthe\\parskip\\end\n") 0 true }
+    ensures glue { Writes (first_line_usual ++ codes "\\parskip=1pt plus 2fil \\showthe\\parskip\\thinmuskip=1mu\\showthe\\thinmuskip\\end\n") (codes "> 1.0pt plus 2.0fil.\nl.2\n> 1.0mu.\nl.2\n") Finished }
+    ensures list { Writes (first_line_usual ++ codes "\\toks1={a#\\c}\\message{x}\\showthe\\toks1 \\message{y}\\end\n") (codes "x\n> a##\\c .\nl.2\ny\n") Finished }
+    ensures no_list { Writes (first_line_usual ++ codes "\\showthe\\everypar\\end\n") (codes "> .\nl.2\n") Finished }
+    ensures given_character { Writes (first_line_usual ++ codes "\\chardef\\c=65 \\showthe\\c\\end\n") (codes "> 65.\nl.2\n") Finished }
+    ensures value_of_a_macro { Writes (first_line_usual ++ codes "\\def\\a{\\count1}\\count1=3 \\showthe\\a \\end\n") (codes "> 3.\nl.2\n") Finished }
+    ensures no_value { Writes (first_line_usual ++ codes "\\showthe\\relax\\showthe x\\end\n") (codes "! You can't use `\\relax' after \\the.\nl.2\n> 0.\nl.2\n! You can't use `the letter x' after \\the.\nl.2\n> 0.\nl.2\n") Finished }
 {}
 
 /// Small files with expansions and names that are let mean something, within small sizes.
@@ -736,6 +744,106 @@ pub fn worked_values()
     ensures no_register { Writes (first_line_usual ++ codes "\\count0=3 \\message{\\the\\count x}\\end\n") (codes "! Missing number, treated as zero.\nl.2\n3x\n") Finished }
     ensures depth { Fills (record default_sizes { expansion_depth = 3 }) (first_line_usual ++ codes "\\message{\\the\\count1}\\end") (record { table = ExpansionDepth; used = 3; size = 3 }) }
     ensures depth_fits { Fits (record default_sizes { expansion_depth = 4 }) (first_line_usual ++ codes "\\message{\\the\\count1}\\end") }
+{}
+
+/// The machine run on small files with lists of tokens: registers and parameters.
+pub fn worked_lists()
+    ensures assigned { RunsSo (first_line_usual ++ codes "\\toks1={ab}\\end\n") (codes "") 39 Finished }
+    ensures without_equals { RunsSo (first_line_usual ++ codes "\\toks1{ab}\\end\n") (codes "") 38 Finished }
+    ensures shared { RunsSo (first_line_usual ++ codes "\\toks1=\\toks2 \\end\n") (codes "") 38 Finished }
+    ensures in_an_expanded_body { RunsSo (first_line_usual ++ codes "\\toks1={ab}\\edef\\a{\\the\\toks1}\\end\n") (codes "") 47 Finished }
+    ensures put { Writes (first_line_usual ++ codes "\\toks1={ab}\\message{\\the\\toks1}\\end\n") (codes "ab\n") Finished }
+    ensures itself { Writes (first_line_usual ++ codes "\\toks0={xy}\\toks0=\\toks0 \\let\\a=\\a\\message{\\the\\toks0}\\end\n") (codes "xy\n") Finished }
+    ensures not_expanded { Writes (first_line_usual ++ codes "\\toks1={\\b}\\def\\b{c}\\edef\\a{\\the\\toks1}\\message{\\meaning\\a}\\end\n") (codes "macro:->\\b \n") Finished }
+    ensures between_expansions { Writes (first_line_usual ++ codes "\\toks1={\\b}\\def\\b{c}\\edef\\a{\\b\\the\\toks1\\b}\\message{\\meaning\\a}\\end\n") (codes "macro:->c\\b c\n") Finished }
+    ensures not_expanded_in_a_message { Writes (first_line_usual ++ codes "\\def\\b{c}\\toks1={\\b}\\message{\\the\\toks1}\\end\n") (codes "\\b \n") Finished }
+    ensures obeyed { Writes (first_line_usual ++ codes "\\toks1={\\message{m}x}\\the\\toks1 \\end\n") (codes "m\n{the letter x}\n") Finished }
+    ensures assigns { Writes (first_line_usual ++ codes "\\toks1={\\toks2={d}}\\the\\toks1\\message{\\the\\toks2}\\end\n") (codes "d\n") Finished }
+    ensures as_a_number { Writes (first_line_usual ++ codes "\\toks1={12 }\\message{\\number\\the\\toks1 3}\\end\n") (codes "123\n") Finished }
+    ensures behind_expandafter { Writes (first_line_usual ++ codes "\\toks1={ab}\\expandafter\\def\\expandafter\\a\\expandafter{\\the\\toks1}\\message{\\meaning\\a}\\end\n") (codes "macro:->ab\n") Finished }
+    ensures behind_expandafter_in_a_body { Writes (first_line_usual ++ codes "\\toks1={\\b}\\def\\b{c}\\edef\\a{\\expandafter x\\the\\toks1}\\message{\\meaning\\a}\\end\n") (codes "macro:->xc\n") Finished }
+    ensures in_a_number_in_a_body { Writes (first_line_usual ++ codes "\\toks1={\\b}\\def\\b{5}\\edef\\a{\\number\\the\\toks1}\\message{\\meaning\\a}\\end\n") (codes "macro:->5\n") Finished }
+    ensures in_a_name_in_a_body { Writes (first_line_usual ++ codes "\\toks1={\\b}\\def\\b{c}\\edef\\a{\\csname x\\the\\toks1\\endcsname}\\message{\\meaning\\a}\\end\n") (codes "macro:->\\xc \n") Finished }
+    ensures not_read_again { Writes (first_line_usual ++ codes "\\toks1={\\the\\toks2}\\toks2={z}\\edef\\a{\\the\\toks1}\\message{\\meaning\\a}\\end\n") (codes "macro:->\\the \\toks 2\n") Finished }
+    ensures in_a_name { Writes (first_line_usual ++ codes "\\toks1={ab}\\message{\\csname x\\the\\toks1\\endcsname}\\end\n") (codes "\\xab \n") Finished }
+    ensures of_what_the_list_names { Writes (first_line_usual ++ codes "\\toks1={\\toks2}\\toks2={q}\\message{\\the\\the\\toks1}\\end\n") (codes "q\n") Finished }
+    ensures braces { Writes (first_line_usual ++ codes "\\toks1={{a}b}\\edef\\a{[\\the\\toks1]}\\message{\\meaning\\a}\\end\n") (codes "macro:->[{a}b]\n") Finished }
+    ensures parameter_character { Writes (first_line_usual ++ codes "\\toks1={#1}\\edef\\a#1{(\\the\\toks1)}\\message{\\meaning\\a}\\end\n") (codes "macro:#1->(##1)\n") Finished }
+    ensures behind_a_parameter_character { Writes (first_line_usual ++ codes "\\toks1={1}\\edef\\a#1{(#\\the\\toks1)}\\message{\\meaning\\a}\\end\n") (codes "macro:#1->(#1)\n") Finished }
+    ensures copied { Writes (first_line_usual ++ codes "\\toks1={a}\\toks2={b}\\toks1=\\toks2 \\toks2={c}\\message{\\the\\toks1\\the\\toks2}\\end\n") (codes "bc\n") Finished }
+    ensures emptied { Writes (first_line_usual ++ codes "\\toks1={a}\\toks2=\\toks1 \\toks1={}\\message{[\\the\\toks1][\\the\\toks2]}\\end\n") (codes "[][a]\n") Finished }
+    ensures emptied_where_it_is_read { Writes (first_line_usual ++ codes "\\toks1={\\toks1={}\\message{x}}\\the\\toks1 \\message{[\\the\\toks1]}\\end\n") (codes "x []\n") Finished }
+    ensures appended { Writes (first_line_usual ++ codes "\\toks1={a}\\toks1=\\expandafter{\\the\\toks1 b}\\message{\\the\\toks1}\\end\n") (codes "ab\n") Finished }
+    ensures parameter { Writes (first_line_usual ++ codes "\\everypar={x}\\toks3=\\everypar\\message{\\the\\everypar\\the\\toks3}\\end\n") (codes "xx\n") Finished }
+    ensures parameter_of_a_register { Writes (first_line_usual ++ codes "\\toks1={a}\\everyjob=\\toks1 \\message{\\the\\everyjob}\\end\n") (codes "a\n") Finished }
+    ensures by_a_name { Writes (first_line_usual ++ codes "\\toksdef\\t=5 \\t={a}\\message{\\the\\toks5}\\toks1=\\t\\t{b}\\message{\\the\\toks1\\the\\t}\\end\n") (codes "a ab\n") Finished }
+    ensures no_name { Writes (first_line_usual ++ codes "\\toksdef\\t=256 \\message{\\meaning\\t}\\end\n") (codes "! Bad register code (256).\nl.2\n\\toks0\n") Finished }
+    ensures behind_relax { Writes (first_line_usual ++ codes "\\toks1=\\relax{a}\\toks2\\relax\\relax {b}\\message{\\the\\toks1\\the\\toks2}\\end\n") (codes "ab\n") Finished }
+    ensures implicit_brace { Writes (first_line_usual ++ codes "\\let\\bgroup={\\toks1=\\bgroup a}\\message{\\the\\toks1}\\end\n") (codes "a\n") Finished }
+    ensures brace_of_a_macro { Writes (first_line_usual ++ codes "\\def\\b{{a}}\\toks1=\\b\\message{\\the\\toks1}\\end\n") (codes "a\n") Finished }
+    ensures register_of_a_macro { Writes (first_line_usual ++ codes "\\def\\b{\\toks}\\toks2={k}\\toks1=\\b 2\\message{\\the\\toks1}\\end\n") (codes "k\n") Finished }
+    ensures no_brace { Writes (first_line_usual ++ codes "\\toks1=a}\\message{\\the\\toks1}\\end\n") (codes "! Missing { inserted.\nl.2\na\n") Finished }
+    ensures of_a_number { Writes (first_line_usual ++ codes "\\toks1=\\count2 }\\message{\\the\\toks1}\\end\n") (codes "! Missing { inserted.\nl.2\n\\count 2 \n") Finished }
+    ensures bad_register { Writes (first_line_usual ++ codes "\\toks256={a}\\message{\\the\\toks0}\\toks1=\\toks256 \\message{\\the\\toks1}\\end\n") (codes "! Bad register code (256).\nl.2\na\n! Bad register code (256).\nl.2\na\n") Finished }
+    ensures local { Writes (first_line_usual ++ codes "\\toks1={a}{\\toks1={b}\\message{\\the\\toks1}}\\message{\\the\\toks1}\\end\n") (codes "b a\n") Finished }
+    ensures taken_back { Writes (first_line_usual ++ codes "{\\toks1={b}\\everypar={c}}\\message{[\\the\\toks1][\\the\\everypar]}\\end\n") (codes "[][]\n") Finished }
+    ensures globally { Writes (first_line_usual ++ codes "{\\global\\toks1={b}\\global\\toks2=\\toks1 }\\message{\\the\\toks1\\the\\toks2}\\end\n") (codes "bb\n") Finished }
+    ensures all_global { Writes (first_line_usual ++ codes "\\globaldefs=1 {\\toks1={b}}\\message{\\the\\toks1}\\end\n") (codes "b\n") Finished }
+    ensures none_global { Writes (first_line_usual ++ codes "\\toks1={b}\\globaldefs=-1 {\\global\\toks1={c}}\\message{\\the\\toks1}\\end\n") (codes "b\n") Finished }
+    ensures behind_long { Writes (first_line_usual ++ codes "\\long\\toks1={a}\\message{\\the\\toks1}\\end\n") (codes "! You can't use `\\long' or `\\outer' with `\\toks'.\nl.2\na\n") Finished }
+    ensures after_assignment { Writes (first_line_usual ++ codes "\\def\\a{\\message{m}}\\afterassignment\\a\\toks1={a}\\message{\\the\\toks1}\\afterassignment\\a\\toks1={}\\afterassignment\\a\\toks1=\\toks2 \\end\n") (codes "m a m m\n") Finished }
+    ensures no_arithmetic { Writes (first_line_usual ++ codes "\\advance\\toks0\\end\n") (codes "! You can't use `\\toks' after \\advance.\nl.2\n{the character 0}\n") Finished }
+    ensures with_a_paragraph { Writes (first_line_usual ++ codes "\\toks1={a\\par b}\\message{\\the\\toks1}\\end\n") (codes "a\\par b\n") Finished }
+    ensures outer_name { Writes (first_line_usual ++ codes "\\outer\\def\\o{x}\\toks1={a\\o b}\\message{\\the\\toks1}\\end\n") (codes "Runaway text?\na\n! Forbidden control sequence found while scanning text of \\toks.\nl.2\n{the letter x}\n{the letter b}\n! Too many }'s.\nl.2\na \n") Finished }
+    ensures no_end { Writes (first_line_usual ++ codes "\\toks1={a\n") (codes "Runaway text?\na \n! File ended while scanning text of \\toks.\nl.0\n! Emergency stop.\n*** (job aborted, no legal \\end found)\n") (AtFatal NoEnd) }
+{}
+
+/// The machine run on small files that change the case of letters.
+pub fn worked_cases()
+    ensures capitals { RunsSo (first_line_usual ++ codes "\\uppercase{ab}\\end\n") (codes "{the letter A}\n{the letter B}\n") 38 Finished }
+    ensures in_a_message { Writes (first_line_usual ++ codes "\\uppercase{\\message{ab}}\\lowercase{\\message{AB}}\\end\n") (codes "AB ab\n") Finished }
+    ensures of_an_argument { Writes (first_line_usual ++ codes "\\def\\a#1{\\uppercase{\\message{#1}}}\\a{xy Z1}\\end\n") (codes "XY Z1\n") Finished }
+    ensures small_letters_of_a_list { Writes (first_line_usual ++ codes "\\toks1={AB}\\lowercase\\expandafter{\\expandafter\\message\\expandafter{\\the\\toks1}}\\end\n") (codes "ab\n") Finished }
+    ensures not_expanded { Writes (first_line_usual ++ codes "\\def\\a{b}\\uppercase{\\def\\a{c}\\message{\\a}}\\end\n") (codes "C\n") Finished }
+    ensures names_stay { Writes (first_line_usual ++ codes "\\def\\a{x}\\def\\A{y}\\uppercase{\\message{\\a}}\\end\n") (codes "x\n") Finished }
+    ensures active_character { Writes (first_line_usual ++ codes "\\catcode`\\~=13 \\uccode`\\~=`\\* \\catcode`\\*=13 \\def*{s}\\def~{t}\\uppercase{\\message{~}}\\end\n") (codes "s\n") Finished }
+    ensures active_as_another { Writes (first_line_usual ++ codes "\\catcode`\\~=13 \\lccode`\\~=`\\* \\lowercase{\\def~{q}}\\catcode`\\*=13 \\message{*}\\end\n") (codes "q\n") Finished }
+    ensures category_stays { Writes (first_line_usual ++ codes "\\uccode`\\a=`\\{ \\uppercase{\\message{a}}\\end\n") (codes "{\n") Finished }
+    ensures code_of_zero { Writes (first_line_usual ++ codes "\\uccode`\\a=0 \\uppercase{\\message{ab1}}\\end\n") (codes "aB1\n") Finished }
+    ensures in_a_group { Writes (first_line_usual ++ codes "{\\lccode`\\A=`\\x\\lowercase{\\message{A}}}\\lowercase{\\message{A}}\\end\n") (codes "x a\n") Finished }
+    ensures closes_a_group { Writes (first_line_usual ++ codes "\\begingroup\\lccode`\\*=`\\y\\lowercase{\\endgroup\\message{*}\\def\\a{*}}\\message{\\a}\\end\n") (codes "y y\n") Finished }
+    ensures empty { Writes (first_line_usual ++ codes "\\uppercase{}\\message{x}\\end\n") (codes "x\n") Finished }
+    ensures keyword { Writes (first_line_usual ++ codes "\\lowercase{\\parindent=1PT }\\message{\\the\\parindent}\\end\n") (codes "1.0pt\n") Finished }
+    ensures behind_relax { Writes (first_line_usual ++ codes "\\uppercase\\relax{\\message{ab}}\\end\n") (codes "AB\n") Finished }
+    ensures no_brace { Writes (first_line_usual ++ codes "\\uppercase x}\\end\n") (codes "! Missing { inserted.\nl.2\n{the letter X}\n") Finished }
+    ensures with_a_prefix { Writes (first_line_usual ++ codes "\\global\\uppercase{x}\\end\n") (codes "! You can't use a prefix with `\\uppercase'.\nl.2\n{the letter X}\n") Finished }
+{}
+
+/// Small files with lists of tokens within small sizes: words, levels and saved values.
+pub fn worked_list_sizes()
+    ensures words { Fills (record default_sizes { main_memory_size = 2 }) (first_line_usual ++ codes "\\toks1 ={ab}") (record { table = MainMemorySize; used = 2; size = 2 }) }
+    ensures words_fit { Fits (record default_sizes { main_memory_size = 3 }) (first_line_usual ++ codes "\\toks1 ={ab}\\end") }
+    ensures put_without_a_word { Fits (record default_sizes { main_memory_size = 3 }) (first_line_usual ++ codes "\\toks1 ={ab}\\the\\toks1 \\end") }
+    ensures shared_without_a_word { Fits (record default_sizes { main_memory_size = 3 }) (first_line_usual ++ codes "\\toks0 ={xy}\\toks1 =\\toks0 {\\toks0 =\\toks1 \\global\\toks2 =\\toks0 }\\end") }
+    ensures words_of_a_body { Fills (record default_sizes { main_memory_size = 6 }) (first_line_usual ++ codes "\\toks1 ={ab}\\edef\\a{\\the\\toks1 }") (record { table = MainMemorySize; used = 6; size = 6 }) }
+    ensures words_of_a_body_fit { Fits (record default_sizes { main_memory_size = 7 }) (first_line_usual ++ codes "\\toks1 ={ab}\\edef\\a{\\the\\toks1 }\\end") }
+    ensures words_of_a_text { Fills (record default_sizes { main_memory_size = 5 }) (first_line_usual ++ codes "\\toks1 ={ab}\\message{\\the\\toks1 }") (record { table = MainMemorySize; used = 5; size = 5 }) }
+    ensures words_of_a_text_fit { Fits (record default_sizes { main_memory_size = 6 }) (first_line_usual ++ codes "\\toks1 ={ab}\\message{\\the\\toks1 }\\end") }
+    ensures second_list { Fills (record default_sizes { main_memory_size = 5 }) (first_line_usual ++ codes "\\uppercase{ab}") (record { table = MainMemorySize; used = 5; size = 5 }) }
+    ensures second_list_fits { Fits (record default_sizes { main_memory_size = 6 }) (first_line_usual ++ codes "\\uppercase{ab}\\end") }
+    ensures beside_the_value_before { Fills (record default_sizes { main_memory_size = 5 }) (first_line_usual ++ codes "\\toks0 ={xy}\\toks0 ={zw}") (record { table = MainMemorySize; used = 5; size = 5 }) }
+    ensures beside_the_value_before_fits { Fits (record default_sizes { main_memory_size = 6 }) (first_line_usual ++ codes "\\toks0 ={xy}\\toks0 ={zw}\\toks1 ={ab}\\end") }
+    ensures let_go { Fits (record default_sizes { main_memory_size = 4 }) (first_line_usual ++ codes "\\toks0 ={xy}\\toks0 ={}\\toks1 ={abc}\\end") }
+    ensures saved_list { Fills (record default_sizes { main_memory_size = 5 }) (first_line_usual ++ codes "\\toks0 ={x}{\\toks0 ={y}\\toks1 ={z}") (record { table = MainMemorySize; used = 5; size = 5 }) }
+    ensures let_go_behind_a_group { Fits (record default_sizes { main_memory_size = 4 }) (first_line_usual ++ codes "\\toks0 ={x}{\\toks0 ={y}}\\toks1 ={z}\\end") }
+    ensures level { Fills (record default_sizes { input_stack_size = 1 }) (first_line_usual ++ codes "\\toks1 ={ab}\\the\\toks1 \\end") (record { table = InputStackSize; used = 1; size = 1 }) }
+    ensures level_fits { Fits (record default_sizes { input_stack_size = 2 }) (first_line_usual ++ codes "\\toks1 ={ab}\\the\\toks1 \\end") }
+    ensures saved_value { Fills (record default_sizes { save_size = 1 }) (first_line_usual ++ codes "{\\toks1={a}") (record { table = SaveSize; used = 1; size = 1 }) }
+    ensures saved_once { Fits (record default_sizes { save_size = 2 }) (first_line_usual ++ codes "{\\toks1={a}\\toks1=\\toks2 \\toks1={}}\\end") }
+    ensures depth { Fills (record default_sizes { expansion_depth = 1 }) (first_line_usual ++ codes "\\toks1 ={a}\\end") (record { table = ExpansionDepth; used = 1; size = 1 }) }
+    ensures depth_fits { Fits (record default_sizes { expansion_depth = 2 }) (first_line_usual ++ codes "\\toks1 ={a}\\end") }
+    ensures depth_of_the { Fills (record default_sizes { expansion_depth = 3 }) (first_line_usual ++ codes "\\message{\\the\\toks1}\\end") (record { table = ExpansionDepth; used = 3; size = 3 }) }
+    ensures depth_of_the_fits { Fits (record default_sizes { expansion_depth = 4 }) (first_line_usual ++ codes "\\message{\\the\\toks1}\\end") }
 {}
 
 /// Small files with groups within small sizes: levels, saved values and tokens, and lists that are held.
