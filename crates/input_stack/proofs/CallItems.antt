@@ -117,6 +117,17 @@ pub none_left : (args : List (Option Argument)) (ts : List Token) → None ≡ s
 none_left args [] none = refl
 none_left args (t ∷ ts) none = absurd (none-some t none)
 
+-- WITHOUT ARGUMENTS each token stands for itself
+
+pub without_arguments : (ts : List Token) → substituted [] ts ≡ map Text ts
+without_arguments [] = refl
+without_arguments (Char category code ∷ ts) = ap (λ (xs : List Item). Text (Char category code) ∷ xs) (without_arguments ts)
+without_arguments (Named name ∷ ts) = ap (λ (xs : List Item). Text (Named name) ∷ xs) (without_arguments ts)
+without_arguments (Marked name ∷ ts) = ap (λ (xs : List Item). Text (Marked name) ∷ xs) (without_arguments ts)
+without_arguments (Place c ∷ ts) = ap (λ (xs : List Item). Text (Place c) ∷ xs) (without_arguments ts)
+without_arguments (Number n ∷ ts) = ap (λ (xs : List Item). Text (Number n) ∷ xs) (without_arguments ts)
+without_arguments (EndPlaces ∷ ts) = ap (λ (xs : List Item). Text EndPlaces ∷ xs) (without_arguments ts)
+
 -- THE NEXT ITEM
 
 later_list : (n : ℕ) (ts : List Token) (ys : List Item) (t : Token) → Some t ≡ slice_get ts 0 → Some (met_as.Later t) ≡ met (first (without_gaps (map (Later n) ts ++ ys)))

@@ -1,5 +1,5 @@
 -- A list in front.
-use Rattle.std.proofs.Common.{◌≡◌, ℕ, ◌+◌, ◌<◌, ◌≤◌, List, [], ◌∷◌, length, map, Option, None, Some, Bool, true, false, not, refl, sym, ap, ap₂, ◌∙◌, subst, arith}
+use Rattle.std.proofs.Common.{◌≡◌, ℕ, ◌+◌, ◌<◌, ◌≤◌, List, [], ◌∷◌, length, map, take, Option, None, Some, Bool, true, false, not, refl, sym, ap, ap₂, ◌∙◌, subst, arith}
 use Rattle.std.specs.Prelude.{IsSome, ◌↔◌, is_some, nat_lt, nat_le}
 use Rattle.std.proofs.lemmas.Bool.Decides.{nat_tests}
 use Rattle.std.proofs.lemmas.List.{length-reverse}
@@ -9,16 +9,20 @@ use Rattle.tex_defs.specs.declared.Token.{Token}
 use Rattle.tex_defs.specs.declared.Full.{Full}
 use Rattle.token_lists.specs.Table.{Entry, tokens_at}
 use Rattle.token_lists.specs.Accounts.{holds, none, Moves, Keeps, Covers}
-use Rattle.input_stack.specs.Puts.{Text}
+use Rattle.macro_args.specs.declared.args.Args.{Args}
+use Rattle.input_stack.specs.declared.call.Call.{Call}
+use Rattle.input_stack.specs.Puts.{Item, Put, Text}
+use Rattle.input_stack.specs.Calls.{number_of, substituted}
+use Rattle.input_stack.specs.CallViews.{argument_in, put_of_call}
 use Rattle.input_stack.specs.declared.reader.Reader.{Reader}
 use Rattle.input_stack.specs.declared.level.Level.{Level}
-use Rattle.input_stack.specs.declared.level.Level.TheVariants as level
 use Rattle.input_stack.specs.declared.stack.InputStack.{InputStack}
 use Rattle.input_stack.specs.Rest.{number, rest}
-use Rattle.input_stack.specs.Pending.{Pending, settle, put, plain_put, refusal, room, parameter_room, either, used_levels, used_parameters}
-use Rattle.input_stack.specs.View.{pending_in, put_of, in_front, innermost, level_holds, held_in}
+use Rattle.input_stack.specs.Pending.{Pending, settle, put, listed_put, shared_put, refusal, room, parameter_room, either, used_levels, used_parameters}
+use Rattle.input_stack.specs.View.{pending_in, in_front, innermost, level_holds, held_in}
 use Rattle.input_stack.specs.Standing.{IsLevel, AreUnfinished, AreRead, Fits}
 use Rattle.input_stack.proofs.Kept.{Stay, leaves, pending_stays, read_stays, held_cons, holds_itself}
+use Rattle.input_stack.proofs.CallItems.{without_arguments}
 use Rattle.input_stack.proofs.Settled.{levels_used, used_settle, arguments_used, parameters_settle}
 
 pub no_tokens : (o : Option ℕ) (b : Bool) (ts : List Token) → is_some o ≡ not b → b ≡ true → IsSome o ↔ (0 < length ts) → ts ≡ []
@@ -38,11 +42,11 @@ some_tokens None false ts k is ends = cc
 pub empty_stays : (old new : List (Option Entry)) (n : ℕ) (ls : List Level) → Covers old (λ h. holds n h + held_in ls h) → Moves old new (holds n) none → Keeps old new (holds n) → Stay old new (held_in ls)
 empty_stays old new n ls covers moves keeps = leaves old new (holds n) (held_in ls) covers moves keeps
 
-pub empty_put : (n : ℕ) (ts : List Token) (p : Pending) → ts ≡ [] → put (plain_put n ts) p ≡ p
-empty_put n ts p is = rw is refl
+empty_put : (shared : Bool) (n : ℕ) (ts : List Token) (p : Pending) → ts ≡ [] → put (listed_put shared n ts) p ≡ p
+empty_put shared n ts p is = rw is refl
 
-pub empty_ok : (old new : List (Option Entry)) (n : ℕ) (ls : List Level) (ts : List Token) → Covers old (λ h. holds n h + held_in ls h) → Moves old new (holds n) none → Keeps old new (holds n) → ts ≡ [] → pending_in new ls ≡ put (plain_put n ts) (pending_in old ls)
-empty_ok old new n ls ts covers moves keeps is = pending_stays old new ls (empty_stays old new n ls covers moves keeps) ∙ sym (empty_put n ts (pending_in old ls) is)
+pub empty_ok : (shared : Bool) (old new : List (Option Entry)) (n : ℕ) (ls : List Level) (ts : List Token) → Covers old (λ h. holds n h + held_in ls h) → Moves old new (holds n) none → Keeps old new (holds n) → ts ≡ [] → pending_in new ls ≡ put (listed_put shared n ts) (pending_in old ls)
+empty_ok shared old new n ls ts covers moves keeps is = pending_stays old new ls (empty_stays old new n ls covers moves keeps) ∙ sym (empty_put shared n ts (pending_in old ls) is)
 
 pub empty_read : (old new : List (Option Entry)) (n : ℕ) (ls : List Level) → Covers old (λ h. holds n h + held_in ls h) → Moves old new (holds n) none → Keeps old new (holds n) → AreRead old ls → AreRead new ls
 empty_read old new n ls covers moves keeps a = read_stays old new ls (empty_stays old new n ls covers moves keeps) (λ h. omega (arith, covers h, moves h)) a
@@ -85,16 +89,21 @@ neither (Some full) b is = absurd (none-some full (sym is))
 pub put_tokens : (old mid : List (Option Entry)) (n : ℕ) (f : ℕ → ℕ) → Covers old (λ h. holds n h + f h) → Keeps old mid f → tokens_at mid n ≡ tokens_at old n
 put_tokens old mid n f covers keeps = keeps.tokens n (omega (arith, covers n, holds_itself n))
 
-put_is : (n : ℕ) (ts : List Token) (p : Pending) → 0 < length ts → in_front (plain_put n ts) (settle p) ≡ put (plain_put n ts) p
-put_is n [] p some = absurd (omega arith)
-put_is n (t ∷ ts) p some = refl
+put_is : (shared : Bool) (n : ℕ) (ts : List Token) (p : Pending) → 0 < length ts → in_front (listed_put shared n ts) (settle p) ≡ put (listed_put shared n ts) p
+put_is shared n [] p some = absurd (omega arith)
+put_is shared n (t ∷ ts) p some = refl
 
-same_put : (table : List (Option Entry)) (r : Reader) (n : ℕ) (ts : List Token) → number r ≡ n → rest table r ≡ ts → put_of table r ≡ plain_put n ts
-same_put table r n ts a b = ap₂ plain_put a b
+pub put_ok : (shared : Bool) (mid : List (Option Entry)) (l : Level) (n : ℕ) (us ts : List Token) (xs ls : List Level) (p : Pending) → xs ≡ l ∷ ls → pending_in mid (l ∷ ls) ≡ in_front (listed_put shared n us) (pending_in mid ls) → us ≡ ts → 0 < length ts → pending_in mid ls ≡ settle p → pending_in mid xs ≡ put (listed_put shared n ts) p
+put_ok shared mid l n us ts xs ls p is at same some q =
+    ap (pending_in mid) is ∙ at ∙ ap₂ (λ (vs : List Token) (r : Pending). in_front (listed_put shared n vs) r) same q ∙ put_is shared n ts p some
 
-pub put_ok : (mid : List (Option Entry)) (r : Reader) (n : ℕ) (ts : List Token) (xs ls : List Level) (p : Pending) → xs ≡ level.List r ∷ ls → number r ≡ n → rest mid r ≡ ts → 0 < length ts → pending_in mid ls ≡ settle p → pending_in mid xs ≡ put (plain_put n ts) p
-put_ok mid r n ts xs ls p is a b some q =
-    ap (pending_in mid) is ∙ ap₂ in_front (same_put mid r n ts a b) q ∙ put_is n ts p some
+-- a call without arguments whose reader is at the front of its list
+pub shared_is : (table : List (Option Entry)) (call : Call) (r : Reader) (args : Args) (n : ℕ) (ts : List Token) → call ≡ record { body = r; argument = None; args = args } → args.count ≡ 0 → number r ≡ n → rest table r ≡ ts → put_of_call table call ≡ shared_put n ts
+shared_is table call r args n ts is few a b =
+    ap (put_of_call table) is
+    ∙ ap (λ (k : ℕ). let xs = map (argument_in table) (take k args.lists) in let x : Put = record { list = number r; body = true; arguments = map number_of xs; reading = None; items = substituted xs (rest table r) } in x) few
+    ∙ ap₂ (λ (k : ℕ) (us : List Token). let x : Put = record { list = k; body = true; arguments = []; reading = None; items = substituted [] us } in x) a b
+    ∙ ap (λ (xs : List Item). let x : Put = record { list = n; body = true; arguments = []; reading = None; items = xs } in x) (without_arguments ts)
 
 -- a level on top of others that aren't finished
 pub put_read : (old mid : List (Option Entry)) (l : Level) (xs ls : List Level) (f : ℕ → ℕ) → xs ≡ l ∷ ls → IsLevel mid l → AreRead mid ls → AreUnfinished mid ls → Covers old (λ h. level_holds l h + f h) → Moves old mid f (held_in ls) → AreRead mid xs

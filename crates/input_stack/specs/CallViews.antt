@@ -1,4 +1,5 @@
--- A macro call that is being read: its body, and in it the arguments in their places.
+-- A macro call that is being read: its body, and in it the arguments in their places. A list that other parts may hold too is
+-- read as a body without arguments.
 use Rattle.std.specs.Prelude.{◌≡◌, ℕ, ◌+◌, ◌^◌, ◌<◌, List, [], ◌∷◌, ◌++◌, map, take, length, Option, None, Some, Bool, true, false, cond, IfSome}
 use Rattle.tex_defs.specs.declared.Token.{Token}
 use Rattle.token_lists.specs.declared.ListRef.{ListRef}
@@ -52,7 +53,7 @@ put_of_call table c = record { list = number c.body; body = true; arguments = ma
 abbrev pub arguments_hold : Args → ℕ → ℕ
 arguments_hold args h = cells_hold (take args.count args.lists) h
 
--- a call holds its macro's list, once more the argument whose level is open, and its arguments
+-- a call holds the list that it reads, once more the argument whose level is open, and its arguments
 abbrev pub call_holds : Call → ℕ → ℕ
 call_holds c h = holds (number c.body) h + (open_holds c.argument h + arguments_hold c.args h)
 

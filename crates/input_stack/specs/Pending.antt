@@ -1,6 +1,6 @@
 -- What is pending: lists in front of the innermost line, and the open files and lines of `\read`, innermost first,
 -- each with the lists that stand in front of what is beneath it.
-use Rattle.std.specs.Prelude.{◌≡◌, ℕ, ◌+◌, List, [], ◌∷◌, ◌++◌, map, Option, None, Some, false, cond, nat_lt, sum_by, nat_le, drop}
+use Rattle.std.specs.Prelude.{◌≡◌, ℕ, ◌+◌, List, [], ◌∷◌, ◌++◌, map, Option, None, Some, Bool, true, false, cond, nat_lt, sum_by, nat_le, drop}
 use Rattle.tex_defs.specs.declared.Token.{Token}
 use Rattle.tex_defs.specs.declared.Full.{Full}
 use Rattle.tex_defs.specs.declared.Table.TheVariants.{InputStackSize, ParameterStackSize}
@@ -44,9 +44,15 @@ arguments p = standing_arguments p.puts + sum_by (λ b. standing_arguments b.put
 abbrev pub used_parameters : Pending → ℕ
 used_parameters p = used_arguments p.puts + sum_by (λ b. used_arguments b.puts) p.sources
 
--- a list of these tokens that is no macro's body, without arguments
+-- A list of these tokens as it stands, without arguments: one of its own, or one that other parts may hold too.
+abbrev pub listed_put : (shared : Bool) → ℕ → List Token → Put
+listed_put shared n ts = record { list = n; body = shared; arguments = []; reading = None; items = map Text ts }
+
 abbrev pub plain_put : ℕ → List Token → Put
-plain_put n ts = record { list = n; body = false; arguments = []; reading = None; items = map Text ts }
+plain_put n ts = listed_put false n ts
+
+abbrev pub shared_put : ℕ → List Token → Put
+shared_put n ts = listed_put true n ts
 
 -- the finished lists at the top go
 abbrev pub settle : Pending → Pending

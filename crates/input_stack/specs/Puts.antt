@@ -11,8 +11,9 @@ pub data Item : Type 0 where
   Later : ℕ → Token → Item
   Gap : Item
 
--- One list that was put: its number, whether it is the body of a macro call, the numbers of the call's arguments (an
--- argument without tokens has no list), the argument whose level is open, and the items that are left.
+-- One list that was put: its number, whether other parts may hold it too, as a macro's list of which the body is read,
+-- the numbers of the call's arguments (an argument without tokens has no list), the argument whose level is open, and the
+-- items that are left.
 pub record Put : Type 0 where
   pub list : ℕ
   pub body : Bool

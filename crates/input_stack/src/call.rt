@@ -1,4 +1,4 @@
-// A macro call that is being read.
+// A macro call that is being read, or another list that is shared.
 ghost use Rattle.std.specs.Prelude.{◌≡◌, ◌+◌, ◌<◌, ◌^◌, Some, None, IfSome, IsSome, IsTrue, MatchOption, is_some, false, drop, length, slice_get};
 ghost use Rattle.token_lists.specs.Table.{IsHeld, tokens_at, holders_at};
 ghost use Rattle.token_lists.specs.Ids.{id_of};
@@ -18,7 +18,7 @@ use std::mem;
 use tex_defs::Token;
 use token_lists::{ListRef, Lists};
 
-/// A macro's body that is being read, the argument whose level stands on it, and all arguments of the call.
+/// A macro's body, or another shared list, that is being read, the argument whose level stands on it, and all arguments of the call.
 pub struct Call {
     body: Reader,
     argument: Option<Reader>,
@@ -117,7 +117,7 @@ fn is_text(next: Option<Token>) -> bool
 }
 
 impl Call {
-    /// A call that reads what is left of its macro's list.
+    /// A call that reads what is left of a list.
     pub fn new(body: Reader, args: Args) -> Call
         ensures { result ≡ record { body = body; argument = None; args = args } }
     {

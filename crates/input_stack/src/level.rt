@@ -15,7 +15,8 @@ pub struct Source {
     pub line: Line,
 }
 
-/// A level of input. An argument that is being read has a level of its own, which stands on that of its call.
+/// A level of input: a list of its own, or as a call one that other parts may hold too, a macro's or a location's. An argument
+/// that is being read has a level of its own, which stands on that of its call.
 pub enum Level {
     List(Reader),
     Call(Call),

@@ -8,11 +8,11 @@ ghost use Rattle.input_stack.specs.Calls.{call_put};
 ghost use Rattle.input_stack.specs.CallViews.{arguments_in, met, is_opening, opened, Shares, IsCountable};
 ghost use Rattle.input_stack.specs.Pushes.{pushed_holds, call_refused};
 ghost use Rattle.input_stack.specs.Levels.{is_top_passed};
-ghost use Rattle.input_stack.specs.Pending.{levels, arguments, used_parameters, without_top, either, parameter_room, settle, put, plain_put, refusal, room, used_levels, open_over, at_line, Ends};
+ghost use Rattle.input_stack.specs.Pending.{levels, arguments, used_parameters, without_top, either, parameter_room, settle, put, plain_put, shared_put, listed_put, refusal, room, used_levels, open_over, at_line, Ends};
 ghost use Rattle.input_stack.specs.Backs.{begun_holds, IsBegun, LacksMemory, PutsBack, Refuses};
-ghost use Rattle.input_stack.specs.View.{pending, held, innermost, IsSourceOnTop, level_at, level_open, level_arguments};
+ghost use Rattle.input_stack.specs.View.{pending, pending_in, in_front, held, innermost, IsSourceOnTop, level_at, level_holds, level_open, level_arguments};
 ghost use Rattle.input_stack.specs.Pulls.{Pulls, PullsTop, Passes, IsInBuffer, looks, is_ready, is_line_end};
-ghost use Rattle.input_stack.specs.Standing.{Stands, Fits, IsSized, AreUnfinished, AreRead};
+ghost use Rattle.input_stack.specs.Standing.{Stands, Fits, IsSized, IsLevel, AreUnfinished, AreRead};
 ghost use Rattle.input_stack.specs.Lasting.{Lasts, LastsBut};
 ghost use Rattle.input_stack.specs.AtOnce.{PullsAtOnce};
 
@@ -59,6 +59,23 @@ fn begun(lists: &mut Lists, token: Token) -> Result<ListRef, (Full, Begun)>
     match lists.append(&mut build, token) {
         Ok(()) => Ok(lists.finish(build)),
         Err(full) => Err((full, Begun::Build(build))),
+    }
+}
+
+// A level that reads a list, as one of its own or as one that others may hold too.
+fn list_level(lists: &Lists, list: ListRef, shared: bool) -> Level
+    requires { IsHeld lists.now (id_of list) }
+    ensures stands { IsLevel lists.now result }
+    ensures closed { level_open result ≡ 0 }
+    ensures no_arguments { level_arguments result ≡ 0 }
+    ensures held { (h : ℕ) → level_holds result h ≡ holds (id_of list) h }
+    ensures put { (levels : List Level) → pending_in lists.now (result ∷ levels) ≡ in_front (listed_put shared (id_of list) (tokens_at lists.now (id_of list))) (pending_in lists.now levels) }
+{
+    let reader = Reader::new(lists, list);
+    if shared {
+        Level::Call(Call::new(reader, Args::none()))
+    } else {
+        Level::List(reader)
     }
 }
 
@@ -312,7 +329,7 @@ impl InputStack {
         self.full()
     }
 
-    /// Puts a list in front; one without tokens is let go.
+    /// Puts a list of its own in front; one without tokens is let go.
     ///
     /// # Errors
     /// The levels are at the size of the input stack, once the finished lists on top have gone. The list is handed back.
@@ -330,6 +347,51 @@ impl InputStack {
         ensures size { self.new.size ≡ self.old.size }
         ensures parameter_size { self.new.parameter_size ≡ self.old.parameter_size }
     {
+        self.push(lists, list, false)
+    }
+
+    /// Puts a list in front that others may hold too, as it stands: a parameter number stands for itself. Nothing is
+    /// copied, and one without tokens is let go.
+    ///
+    /// # Errors
+    /// The levels are at the size of the input stack, once the finished lists on top have gone. The list is handed back.
+    pub fn push_shared(&mut self, lists: &mut Lists, list: ListRef) -> Result<(), (Full, ListRef)>
+        requires stands { Stands lists.old self.old }
+        requires held { Covers lists.old (λ h. holds (id_of list) h + held self.old h) }
+        ensures stands { Stands lists.new self.new }
+        ensures ok { OnOk result (pending lists.new self.new ≡ put (shared_put (id_of list) (tokens_at lists.old (id_of list))) (pending lists.old self.old)) }
+        ensures err { OnErr result (pending lists.new self.new ≡ settle (pending lists.old self.old)) }
+        ensures refused { MatchResult result (λ _. refusal self.old.size (map Text (tokens_at lists.old (id_of list))) (pending lists.old self.old) ≡ None) (λ e. (refusal self.old.size (map Text (tokens_at lists.old (id_of list))) (pending lists.old self.old) ≡ Some e.0) × (e.1 ≡ list)) }
+        ensures tokens { 0 < length (tokens_at lists.old (id_of list)) → tokens_at lists.new (id_of list) ≡ tokens_at lists.old (id_of list) }
+        ensures account { MatchResult result (λ _. Moves lists.old lists.new (λ h. holds (id_of list) h + held self.old h) (held self.new)) (λ _. Moves lists.old lists.new (held self.old) (held self.new)) }
+        ensures kept { MatchResult result (λ _. Keeps lists.old lists.new (λ h. holds (id_of list) h + held self.old h)) (λ _. Keeps lists.old lists.new (held self.old)) }
+        ensures lasting { Lasts lists.old lists.new }
+        ensures size { self.new.size ≡ self.old.size }
+        ensures parameter_size { self.new.parameter_size ≡ self.old.parameter_size }
+    {
+        self.push(lists, list, true)
+    }
+
+    // Puts a list in front, as one of its own or as one that others may hold too; one without tokens is let go.
+    fn push(
+        &mut self,
+        lists: &mut Lists,
+        list: ListRef,
+        shared: bool,
+    ) -> Result<(), (Full, ListRef)>
+        requires stands { Stands lists.old self.old }
+        requires held { Covers lists.old (λ h. holds (id_of list) h + held self.old h) }
+        ensures stands { Stands lists.new self.new }
+        ensures ok { OnOk result (pending lists.new self.new ≡ put (listed_put shared (id_of list) (tokens_at lists.old (id_of list))) (pending lists.old self.old)) }
+        ensures err { OnErr result (pending lists.new self.new ≡ settle (pending lists.old self.old)) }
+        ensures refused { MatchResult result (λ _. refusal self.old.size (map Text (tokens_at lists.old (id_of list))) (pending lists.old self.old) ≡ None) (λ e. (refusal self.old.size (map Text (tokens_at lists.old (id_of list))) (pending lists.old self.old) ≡ Some e.0) × (e.1 ≡ list)) }
+        ensures tokens { 0 < length (tokens_at lists.old (id_of list)) → tokens_at lists.new (id_of list) ≡ tokens_at lists.old (id_of list) }
+        ensures account { MatchResult result (λ _. Moves lists.old lists.new (λ h. holds (id_of list) h + held self.old h) (held self.new)) (λ _. Moves lists.old lists.new (held self.old) (held self.new)) }
+        ensures kept { MatchResult result (λ _. Keeps lists.old lists.new (λ h. holds (id_of list) h + held self.old h)) (λ _. Keeps lists.old lists.new (held self.old)) }
+        ensures lasting { Lasts lists.old lists.new }
+        ensures size { self.new.size ≡ self.old.size }
+        ensures parameter_size { self.new.parameter_size ≡ self.old.parameter_size }
+    {
         if lists.first(&list).is_none() {
             let_go(lists, list);
             return Ok(());
@@ -338,8 +400,8 @@ impl InputStack {
         if let Some(full) = self.full() {
             return Err((full, list));
         }
-        let reader = Reader::new(lists, list);
-        self.put(Level::List(reader));
+        let level = list_level(lists, list, shared);
+        self.put(level);
         Ok(())
     }
 

@@ -1,6 +1,6 @@
 -- What an assignment does to the lists of the memory.
 use Rattle.std.proofs.Common.{◌≡◌, ℕ, zero, suc, ◌+◌, ◌≤◌, List, [], ◌∷◌, length, Option, None, Some, Bool, true, false, cond, refl, ap, arith, rules}
-use Rattle.std.specs.Prelude.{slice_set, ℤ}
+use Rattle.std.specs.Prelude.{slice_set}
 use Rattle.std.proofs.lemmas.Bool.Decides.{nat_tests}
 use Rattle.std.proofs.lemmas.List.{length-set}
 use Rattle.tex_defs.specs.declared.RegisterKind.TheVariants as register
@@ -8,18 +8,15 @@ use Rattle.token_lists.specs.Table.{Entry, entry_at, holders_at, holders_of, one
 use Rattle.token_lists.specs.Accounts.{holds, Moves, Keeps}
 use Rattle.meanings.specs.Holding.{list_holds, without_holder, Lasts}
 use Rattle.equivalents.specs.declared.values.CodeKind.TheVariants as code
-use Rattle.equivalents.specs.declared.values.Glue.{Glue}
 use Rattle.equivalents.specs.declared.values.Loc.{Loc}
 use Rattle.equivalents.specs.declared.values.Loc.TheVariants as loc
 use Rattle.equivalents.specs.declared.values.Val.TheVariants as val
-use Rattle.equivalents.specs.Locations.{V, Suits}
-use Rattle.equivalents.specs.Tables.{get}
-use Rattle.equivalents.specs.Groups.{Groups, is_present, set, set_local}
-use Rattle.equivalents.specs.Holding.{value_list, lists_held}
+use Rattle.equivalents.specs.Locations.{V, Suits, IsMeaning}
+use Rattle.equivalents.specs.Tables.{Tables, get, put}
+use Rattle.equivalents.specs.Groups.{Groups, is_present, set}
+use Rattle.equivalents.specs.Holding.{value_list}
 use Rattle.eqtb_save.specs.Table.{Table}
 use Rattle.eqtb_save.specs.Holding.{val_holds, held, replaced_list}
-use Rattle.input_stack.specs.Pending.{times}
-use Rattle.input_state.proofs.NamesHeld.{location_within}
 
 -- A HOLDER LESS
 
@@ -62,22 +59,17 @@ without_length (Some id) old new is = rw is (length-set old id (one_less (entry_
 
 -- THE NEW VALUE IS HELD
 
-old_within : (g : Groups) (k h : ℕ) → list_holds (value_list (get g.now (loc.Means k))) h ≤ times h (lists_held g)
-old_within g k h = location_within g k h
+replaced_within : (b : Bool) (g : Groups) (l : Loc) (h : ℕ) → list_holds (cond b (value_list (get g.now l)) None) h ≤ list_holds (value_list (get g.now l)) h
+replaced_within true g l h = omega arith
+replaced_within false g l h = omega arith
 
-replaced_within : (b : Bool) (g : Groups) (k h : ℕ) → list_holds (cond b (value_list (get g.now (loc.Means k))) None) h ≤ times h (lists_held g)
-replaced_within true g k h = old_within g k h
-replaced_within false g k h = omega arith
+-- where the old one was
+module _ (old new : List (Option Entry)) (t u : Table) (v : V) (place : Loc) (within : (h : ℕ) → val_holds (get t.groups.now place) h ≤ held t h) (moves : Moves old new (λ h. val_holds v h + held t h) (held u)) where
+  pub stored_all : new ≡ without_holder (value_list (get t.groups.now place)) old → (h : ℕ) → val_holds v h ≤ held u h
+  stored_all is h = omega (arith, moves h, without_left (value_list (get t.groups.now place)) old new is h, within h)
 
-pub stored_all : (old new : List (Option Entry)) (t u : Table) (v : V) (place : Loc) → new ≡ without_holder (value_list (get t.groups.now place)) old → Moves old new (λ h. val_holds v h + held t h) (held u) → (k : ℕ) → place ≡ loc.Means k → (h : ℕ) → val_holds v h ≤ held u h
-stored_all old new t u v place is moves k at h =
-    let left = without_left (value_list (get t.groups.now place)) old new is h in
-    omega (arith, moves h, left, ap (λ (l : Loc). list_holds (value_list (get t.groups.now l)) h) at, old_within t.groups k h)
-
-pub stored_here : (old new : List (Option Entry)) (t u : Table) (v : V) (place : Loc) → new ≡ without_holder (replaced_list t.groups place) old → Moves old new (λ h. val_holds v h + held t h) (held u) → (k : ℕ) → place ≡ loc.Means k → (h : ℕ) → val_holds v h ≤ held u h
-stored_here old new t u v place is moves k at h =
-    let left = without_left (replaced_list t.groups place) old new is h in
-    omega (arith, moves h, left, ap (λ (l : Loc). list_holds (replaced_list t.groups l) h) at, replaced_within (is_present t.groups (loc.Means k)) t.groups k h)
+  pub stored_here : new ≡ without_holder (replaced_list t.groups place) old → (h : ℕ) → val_holds v h ≤ held u h
+  stored_here is h = omega (arith, moves h, without_left (replaced_list t.groups place) old new is h, replaced_within (is_present t.groups place) t.groups place h, within h)
 
 -- WHAT CHANGES
 
@@ -93,48 +85,44 @@ pub record Assigned (old new : List (Option Entry)) (t u : Table) (v : V) : Type
   pub fewer : (h : ℕ) → holders_at new h ≤ holders_at old h
   pub size : length new ≡ length old
 
--- a number is no meaning
-set_local_number : (g : Groups) (l : Loc) (n : ℤ) → Suits l (val.Number n) → (set_local g l (val.Number n)).now.meanings ≡ g.now.meanings
-set_local_number g (loc.Code code.Category c) n suits = refl
-set_local_number g (loc.Code code.Lowercase c) n suits = refl
-set_local_number g (loc.Code code.Uppercase c) n suits = refl
-set_local_number g (loc.Code code.SpaceFactor c) n suits = refl
-set_local_number g (loc.Code code.Math c) n suits = refl
-set_local_number g (loc.Code code.Delimiter c) n suits = refl
-set_local_number g (loc.Integer i) n suits = refl
-set_local_number g (loc.Dimension i) n suits = refl
-set_local_number g (loc.Glue i) n suits = absurd suits
-set_local_number g (loc.Register register.Count i) n suits = refl
-set_local_number g (loc.Register register.Dimen i) n suits = refl
-set_local_number g (loc.Register register.Skip i) n suits = absurd suits
-set_local_number g (loc.Register register.Muskip i) n suits = absurd suits
-set_local_number g (loc.Register register.Toks i) n suits = absurd suits
-set_local_number g (loc.Tokens i) n suits = absurd suits
-set_local_number g (loc.Means i) n suits = absurd suits
+-- no name means anything else where a value is no meaning
+put_other : (m : Tables) (l : Loc) (v : V) → Suits l v → (IsMeaning v → ⊥) → (put m l v).meanings ≡ m.meanings
+put_other m (loc.Code code.Category c) v suits other = refl
+put_other m (loc.Code code.Lowercase c) v suits other = refl
+put_other m (loc.Code code.Uppercase c) v suits other = refl
+put_other m (loc.Code code.SpaceFactor c) v suits other = refl
+put_other m (loc.Code code.Math c) v suits other = refl
+put_other m (loc.Code code.Delimiter c) v suits other = refl
+put_other m (loc.Integer i) v suits other = refl
+put_other m (loc.Dimension i) v suits other = refl
+put_other m (loc.Glue i) v suits other = refl
+put_other m (loc.Register register.Count i) v suits other = refl
+put_other m (loc.Register register.Dimen i) v suits other = refl
+put_other m (loc.Register register.Skip i) v suits other = refl
+put_other m (loc.Register register.Muskip i) v suits other = refl
+put_other m (loc.Register register.Toks i) v suits other = refl
+put_other m (loc.Tokens i) v suits other = refl
+put_other m (loc.Means i) v suits other = absurd (other suits)
 
-pub set_number : (global : Bool) (g : Groups) (l : Loc) (n : ℤ) → Suits l (val.Number n) → (set global g l (val.Number n)).now.meanings ≡ g.now.meanings
-set_number true g l n suits = set_local_number g l n suits
-set_number false g l n suits = set_local_number g l n suits
+pub set_other : (global : Bool) (g : Groups) (l : Loc) (v : V) → Suits l v → (IsMeaning v → ⊥) → (set global g l v).now.meanings ≡ g.now.meanings
+set_other true g l v suits other = put_other g.now l v suits other
+set_other false g l v suits other = put_other g.now l v suits other
 
--- nor is glue
-set_local_glue : (g : Groups) (l : Loc) (x : Glue) → Suits l (val.Skip x) → (set_local g l (val.Skip x)).now.meanings ≡ g.now.meanings
-set_local_glue g (loc.Code code.Category c) x suits = absurd suits
-set_local_glue g (loc.Code code.Lowercase c) x suits = absurd suits
-set_local_glue g (loc.Code code.Uppercase c) x suits = absurd suits
-set_local_glue g (loc.Code code.SpaceFactor c) x suits = absurd suits
-set_local_glue g (loc.Code code.Math c) x suits = absurd suits
-set_local_glue g (loc.Code code.Delimiter c) x suits = absurd suits
-set_local_glue g (loc.Integer i) x suits = absurd suits
-set_local_glue g (loc.Dimension i) x suits = absurd suits
-set_local_glue g (loc.Glue i) x suits = refl
-set_local_glue g (loc.Register register.Count i) x suits = absurd suits
-set_local_glue g (loc.Register register.Dimen i) x suits = absurd suits
-set_local_glue g (loc.Register register.Skip i) x suits = refl
-set_local_glue g (loc.Register register.Muskip i) x suits = refl
-set_local_glue g (loc.Register register.Toks i) x suits = absurd suits
-set_local_glue g (loc.Tokens i) x suits = absurd suits
-set_local_glue g (loc.Means i) x suits = absurd suits
-
-pub set_glue : (global : Bool) (g : Groups) (l : Loc) (x : Glue) → Suits l (val.Skip x) → (set global g l (val.Skip x)).now.meanings ≡ g.now.meanings
-set_glue true g l x suits = set_local_glue g l x suits
-set_glue false g l x suits = set_local_glue g l x suits
+-- a location that takes one list takes each
+pub list_suits : (l : Loc) (o : Option ℕ) → Suits l (val.Tokens None) → Suits l (val.Tokens o)
+list_suits (loc.Code code.Category c) o suits = suits
+list_suits (loc.Code code.Lowercase c) o suits = suits
+list_suits (loc.Code code.Uppercase c) o suits = suits
+list_suits (loc.Code code.SpaceFactor c) o suits = suits
+list_suits (loc.Code code.Math c) o suits = suits
+list_suits (loc.Code code.Delimiter c) o suits = suits
+list_suits (loc.Integer i) o suits = suits
+list_suits (loc.Dimension i) o suits = suits
+list_suits (loc.Glue i) o suits = suits
+list_suits (loc.Register register.Count i) o suits = suits
+list_suits (loc.Register register.Dimen i) o suits = suits
+list_suits (loc.Register register.Skip i) o suits = suits
+list_suits (loc.Register register.Muskip i) o suits = suits
+list_suits (loc.Register register.Toks i) o suits = suits
+list_suits (loc.Tokens i) o suits = suits
+list_suits (loc.Means i) o suits = suits

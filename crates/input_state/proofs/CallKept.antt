@@ -1,7 +1,6 @@
 -- A macro is called: its list has a holder more, or the call is refused.
-use Rattle.std.proofs.Common.{◌≡◌, ℕ, ◌+◌, ◌<◌, ◌≤◌, ◌^◌, List, [], ◌∷◌, map, take, reverse, length, Option, None, Some, true, cond, inl, inr, refl, sym, ap, ap₂, ◌∙◌, subst, arith}
+use Rattle.std.proofs.Common.{◌≡◌, ℕ, ◌+◌, ◌<◌, ◌≤◌, ◌^◌, List, [], ◌∷◌, map, take, length, Option, None, Some, true, cond, refl, sym, ap, ap₂, ◌∙◌, subst, arith}
 use Rattle.std.specs.Prelude.{sum_by, nat_le}
-use Rattle.std.proofs.lemmas.Bool.{cases_eq}
 use Rattle.std.proofs.lemmas.List.Sums.{sum_by-cons}
 use Rattle.tex_defs.specs.declared.Token.{Token}
 use Rattle.tex_defs.specs.declared.Name.{Name}
@@ -9,7 +8,6 @@ use Rattle.tex_defs.specs.declared.Full.{Full}
 use Rattle.tex_defs.specs.declared.Sizes.{Sizes}
 use Rattle.plain_tokens.specs.Meanings.{name_meaning}
 use Rattle.plain_tokens.specs.Puts as plain
-use Rattle.plain_tokens.specs.Tables.{refused}
 use Rattle.token_lists.specs.declared.Build.{Build}
 use Rattle.token_lists.specs.declared.ListRef.{ListRef}
 use Rattle.token_lists.specs.Ids.{id_of}
@@ -24,7 +22,7 @@ use Rattle.input_stack.specs.Calls.{Argument, call_put, substituted, body_of}
 use Rattle.input_stack.specs.CallViews.{argument_in, arguments_in, Shares}
 use Rattle.input_stack.specs.Pushes.{pushed_holds, call_refused}
 use Rattle.input_stack.specs.Pending as stack
-use Rattle.input_stack.specs.Pending.{Pending, Below, settle, put, times, used_parameters, used_levels, parameters_full, either, room}
+use Rattle.input_stack.specs.Pending.{Pending, Below, settle, put, listed_put, used_parameters, used_levels, parameters_full, either, room}
 use Rattle.input_stack.specs.View.{pending, held, innermost}
 use Rattle.input_stack.proofs.Settled.{arguments_are}
 use Rattle.input_stack.specs.Standing.{Stands}
@@ -33,22 +31,18 @@ use Rattle.input_stack.specs.declared.stack.InputStack.{InputStack}
 use Rattle.input_stack.proofs.Helds.{others}
 use Rattle.input_stack.proofs.Bounds.{held_few}
 use Rattle.input_stack.proofs.Kept.{holds_itself}
-use Rattle.input_state.specs.HeldLists.{HeldLists, covered_puts, call_refusal, level_held}
+use Rattle.input_state.specs.HeldLists.{HeldLists, call_refusal}
 use Rattle.input_state.specs.Macros.{KeepsLists}
-use Rattle.input_state.specs.Calls.{called_put, called, when_called}
-use Rattle.input_state.specs.HeldViews.{Named, calling_of, text, made_text, texts, front, fronts, plain_item, covers, lists_of, all_builds, bodies, cells_of, puts_in, AreFronts, IsApart, IsDefined, IsShared, IsSound}
-use Rattle.input_state.proofs.Counting.{times_cons, holds_other}
+use Rattle.input_state.specs.Calls.{called_put, called}
+use Rattle.input_state.specs.HeldViews.{Named, texts, front, lists_of, all_builds, IsShared, IsSound}
 use Rattle.input_state.proofs.Ranges.{hash_greatest, save_greatest, input_greatest, parameters_greatest}
-use Rattle.input_state.proofs.Shares.{apart_fewer, fewer_put_in}
-use Rattle.input_state.proofs.Levels.{flat_put, flat_is, simple_put, levels_used}
-use Rattle.input_state.proofs.CallStays.{call_stays}
-use Rattle.input_state.proofs.Sharing.{Moved, moved, text_at}
-use Rattle.input_state.proofs.ListViews.{held_lists, moved_view, macros_moved}
-use Rattle.input_state.proofs.Sounds.{sized_now, settled_sound, settled_view, settled_macros}
-use Rattle.input_state.proofs.Refusing.{le_test, levels_refused}
+use Rattle.input_stack.proofs.CallItems.{without_arguments}
+use Rattle.input_state.proofs.Sharing.{text_at}
+use Rattle.input_state.proofs.Sounds.{settled_sound, settled_view, settled_macros}
+use Rattle.input_state.proofs.Refusing.{le_test}
 use Rattle.input_state.proofs.Sources.{all_fronts}
-use Rattle.input_state.proofs.Settling.{settled_levels_in}
-use Rattle.input_state.proofs.Calling.{stack_texts, flat_call, plain_call, put_of_name, fronts_called}
+use Rattle.input_state.proofs.Calling.{listed_call, plain_call, put_of_name}
+use Rattle.input_state.proofs.SharedPut.{shared_refused, shared_sound, shared_macros, shared_view}
 
 -- the holders of a list can be counted
 pub countable_now : (table : List (Option Entry)) (s : InputStack) (making : Option Build) (gathered : List Build) (m : Named) (sizes : Sizes) (capacity : ℕ) → IsSound table s making gathered m sizes capacity → ((h : ℕ) → eqtb.held m.table h ≤ eqtb.most_holders m.table) → (k : ℕ) → holders_at table k + 1 < 2 ^ 32
@@ -93,7 +87,7 @@ module _ (old mid : List (Option Entry)) (s : InputStack) (making : Option Build
   no_arguments = ap (λ (n : ℕ). map (argument_in mid) (take n args.lists)) few
 
   -- the body that is put
-  pub put_is : front old (flat_put true (id_of body) (body_of (tokens_at old (id_of body)))) ≡ called_put v.lists (name_meaning v.groups.now.meanings name)
+  pub put_is : front old (listed_put true (id_of body) (body_of (tokens_at old (id_of body)))) ≡ called_put v.lists (name_meaning v.groups.now.meanings name)
   put_is =
       plain_call old (id_of body) (tokens_at old (id_of body))
       ∙ ap (λ (ts : List Token). plain.call_put (id_of body) ts []) (sym (text_at old (id_of body)))
@@ -102,120 +96,57 @@ module _ (old mid : List (Option Entry)) (s : InputStack) (making : Option Build
 
   items_are : substituted (arguments_in mid args) (body_of (tokens_at mid (id_of body))) ≡ map Text us
   unfolding us
-  items_are = ap₂ (λ (xs : List (Option Argument)) (ts : List Token). substituted xs (body_of ts)) no_arguments (shares.tokens (id_of body)) ∙ stack_texts (body_of (tokens_at old (id_of body)))
+  items_are = ap₂ (λ (xs : List (Option Argument)) (ts : List Token). substituted xs (body_of ts)) no_arguments (shares.tokens (id_of body)) ∙ without_arguments (body_of (tokens_at old (id_of body)))
 
   parameters_fit : cond (nat_le (used_parameters (pending old s) + 0) s.parameter_size) None (Some (parameters_full (used_parameters (pending old s)) s.parameter_size)) ≡ None
   parameters_fit = ap (λ b. cond b None (Some (parameters_full (used_parameters (pending old s)) s.parameter_size))) (le_test (used_parameters (pending old s) + 0) s.parameter_size (omega (arith, parameters_within old s sound.shared.stands)))
 
-  was : HeldLists
-  was = lists_of old (pending old s) making gathered m sizes
-
-  level_refused : room s.size (used_levels (pending old s)) ≡ refused sizes (level_held (record was { puts = plain.settled was.puts }) ∷ [])
-  unfolding was
-  level_refused = levels_refused sizes (used_levels (pending old s)) _ s.size (levels_used old (pending old s) ∙ sym (ap (λ (n : ℕ). n + length (covers old (pending old s).sources)) (settled_levels_in (fronts old (pending old s).puts) (covered_puts (covers old (pending old s).sources))))) sound.sized.levels
-
-  by_items : (ts : List Token) → stack.call_refusal s.size s.parameter_size 0 (map Text ts) (pending old s) ≡ refused sizes (when_called (map plain_item (map Text ts)) (level_held (record was { puts = plain.settled was.puts })))
+  -- there is room for no arguments
+  by_items : (ts : List Token) → stack.call_refusal s.size s.parameter_size 0 (map Text ts) (pending old s) ≡ stack.refusal s.size (map Text ts) (pending old s)
   by_items [] = refl
-  by_items (t ∷ ts) = ap (λ (o : Option Full). either o (room s.size (used_levels (pending old s)))) parameters_fit ∙ level_refused
+  by_items (t ∷ ts) = ap (λ (o : Option Full). either o (room s.size (used_levels (pending old s)))) parameters_fit
 
   pub refusal_is : call_refused s mid body args ≡ call_refusal (called_put v.lists (name_meaning v.groups.now.meanings name)) v
-  unfolding us was
+  unfolding us
   refusal_is =
       ap (λ (n : ℕ). stack.call_refusal s.size s.parameter_size n (substituted (arguments_in mid args) (body_of (tokens_at mid (id_of body)))) (pending mid s)) few
       ∙ ap₂ (λ (xs : List Item) (p : Pending). stack.call_refusal s.size s.parameter_size 0 xs p) items_are (shared_stands old mid s (all_builds making gathered) m (id_of body) sound.shared shares).1
       ∙ by_items (body_of (tokens_at old (id_of body)))
-      ∙ ap (λ (p : plain.Put). call_refusal p (lists_of old (pending old s) making gathered m sizes)) put_is
-      ∙ ap (call_refusal (called_put v.lists (name_meaning v.groups.now.meanings name))) is
+      ∙ shared_refused old s making gathered m sizes capacity sound (id_of body) (body_of (tokens_at old (id_of body))) (called_put v.lists (name_meaning v.groups.now.meanings name)) v put_is is
 
 -- THE BODY IS PUT
 
 module _ (old mid new : List (Option Entry)) (s t : InputStack) (making : Option Build) (gathered : List Build) (m : Named) (sizes : Sizes) (capacity : ℕ) (sound : IsSound old s making gathered m sizes capacity) (body : ListRef) (is_meant : 0 < eqtb.held m.table (id_of body)) (shares : Shares old mid (holds (id_of body))) (args : Args) (few : args.count ≡ 0) (free : (h : ℕ) → args_hold args h ≡ 0) (stands : Stands new t) (after : pending new t ≡ put (call_put (id_of body) (tokens_at mid (id_of body)) (arguments_in mid args)) (pending mid s)) (moves : Moves mid new (λ h. pushed_holds body args h + held s h) (held t)) (keeps : Keeps mid new (λ h. pushed_holds body args h + held s h)) (lasts : Lasts mid new) (size : t.size ≡ s.size) (parameters : t.parameter_size ≡ s.parameter_size) where
-  k : ℕ
-  k = id_of body
-
-  bs : List Build
-  bs = all_builds making gathered
-
-  x : Put
-  x = flat_put true (id_of body) (body_of (tokens_at old (id_of body)))
+  body_tokens : List Token
+  body_tokens = body_of (tokens_at old (id_of body))
 
   no_cells : arguments_in mid args ≡ []
   no_cells = ap (λ (n : ℕ). map (argument_in mid) (take n args.lists)) few
 
-  now : pending new t ≡ put x (pending old s)
-  unfolding x
+  now : pending new t ≡ put (listed_put true (id_of body) body_tokens) (pending old s)
+  unfolding body_tokens
   now =
       after
       ∙ ap₂ (λ (ts : List Token) (xs : List (Option Argument)). put (call_put (id_of body) ts xs) (pending mid s)) (shares.tokens (id_of body)) no_cells
-      ∙ ap₂ put (flat_call (id_of body) (tokens_at old (id_of body))) (shared_stands old mid s (all_builds making gathered) m (id_of body) sound.shared shares).1
+      ∙ ap₂ put (listed_call (id_of body) (tokens_at old (id_of body))) (shared_stands old mid s (all_builds making gathered) m (id_of body) sound.shared shares).1
 
-  pushed : (h : ℕ) → pushed_holds body args h ≡ holds k h
-  unfolding k
-  pushed h = omega (arith, free h)
+  moves_put : Moves mid new (λ h. holds (id_of body) h + held s h) (held t)
+  moves_put h = omega (arith, moves h, free h)
 
-  -- the macro's body is read once more
-  apart_first : IsApart (x ∷ puts_in (pending old s)) bs m
-  unfolding x k bs
-  apart_first = record {
-    sole = λ h. sound.shared.apart.sole h;
-    apart = λ h more. elim (cases_eq h (id_of body)) [
-      | inl is ↦
-          let none = sound.shared.apart.apart h more in
-          absurd (omega (arith, none, ap (eqtb.held m.table) is, is_meant))
-      | inr other ↦ omega (arith, sound.shared.apart.apart h more, times_cons h (id_of body) (bodies (puts_in (pending old s))), holds_other (id_of body) h (λ e. other (sym e)))
-    ];
-  }
-
-  apart_now : IsApart (puts_in (pending new t)) bs m
-  apart_now = subst (λ (p : Pending). IsApart (puts_in p) bs m) (sym now) (apart_fewer (puts_in (put x (pending old s))) (x ∷ puts_in (pending old s)) bs m (fewer_put_in x (pending old s)) apart_first)
-
-  simple_now : AreFronts (puts_in (pending new t))
-  unfolding x
-  simple_now = subst (λ (p : Pending). AreFronts (puts_in p)) (sym now) (simple_put (flat_put true (id_of body) (body_of (tokens_at old (id_of body)))) (pending old s) (flat_is true (id_of body) (body_of (tokens_at old (id_of body)))) sound.shared.fronts)
-
-  macros_now : (h : ℕ) → 0 < eqtb.held m.table h → IsDefined (tokens_at new h)
-  unfolding k
-  macros_now h more =
-      let there : 0 < holders_at new h = omega (arith, more, moves h, pushed h, shares.holders h, sound.shared.counted h) in
-      subst IsDefined (sym (lasts.tokens h there ∙ shares.tokens h)) (sound.shared.macros h more)
-
-  moved_now : Moved old new t m bs
-  unfolding bs k x
-  moved_now =
-      moved old new s t m m [] (all_builds making gathered) sound.shared stands simple_now apart_now
-      (λ h some. sound.shared.listed h (omega (arith, (fewer_put_in (flat_put true (id_of body) (body_of (tokens_at old (id_of body)))) (pending old s)).cells h, subst (λ (p : Pending). 0 < times h (cells_of (puts_in p))) now some)))
-      (λ h. omega (arith, moves h, pushed h, shares.holders h))
-      (record {
-        tokens = λ h l. keeps.tokens h (omega (arith, l, pushed h, shares.holders h)) ∙ shares.tokens h;
-        places = λ h l. keeps.places h (omega (arith, l, pushed h, shares.holders h)) ∙ shares.places h;
-      })
-      (λ h some. lasts.tokens h some ∙ shares.tokens h) macros_now (λ h. refl)
+  keeps_put : Keeps mid new (λ h. holds (id_of body) h + held s h)
+  keeps_put = record { tokens = λ h l. keeps.tokens h (omega (arith, l, free h)); places = λ h l. keeps.places h (omega (arith, l, free h)) }
 
   pub call_sound : IsSound new t making gathered m sizes capacity
-  unfolding bs
-  call_sound = record {
-    shared = moved_now.reheld.shared;
-    sized = sized_now old new s t m sizes capacity capacity sound.sized (lasts.size ∙ shares.size) size parameters refl;
-    call =
-        let now = moved_now.reheld.shared.counted in
-        let there : (h : ℕ) → 0 < eqtb.held m.table h → pushed_holds body args h + held s h < holders_at mid h = λ h some. omega (arith, some, pushed h, shares.holders h, sound.shared.counted h) in
-        call_stays old new m.table m.table m.call refl moved_now.called (record { tokens = λ h some. keeps.tokens h (there h some) ∙ shares.tokens h; places = λ h some. keeps.places h (there h some) ∙ shares.places h })
-        (record { covers = λ h. omega (arith, now h); outside = λ h some. omega (arith, now h, some) }) sound.call;
-  }
+  call_sound = shared_sound old mid new s t making gathered m sizes capacity sound (id_of body) body_tokens is_meant shares stands now moves_put keeps_put lasts size parameters
 
   module _ (v : HeldLists) (is : lists_of old (pending old s) making gathered m sizes ≡ v) where
     pub call_macros : KeepsLists (lists_held m.table.groups) (all_fronts new (pending new t)) v.lists (texts new)
-    call_macros = macros_moved old new t m sizes bs v.lists moved_now (ap (λ (w : HeldLists). w.lists) is)
+    call_macros = shared_macros old mid new s t making gathered m sizes capacity sound (id_of body) body_tokens is_meant shares stands now moves_put keeps_put lasts size parameters v is
 
     pub call_view : (name : Name) → list_of (name_meaning m.table.groups.now.meanings name) ≡ Some (id_of body) → lists_of new (pending new t) making gathered m sizes ≡ record v { puts = called (called_put v.lists (name_meaning v.groups.now.meanings name)) v.puts; lists = texts new }
-    unfolding bs x
+    unfolding body_tokens
     call_view name list_is =
-        let ps = (pending old s).puts in
-        let what = put_is old mid s making gathered m sizes capacity sound body shares args few v is name list_is in
-        moved_view old new t m sizes making gathered moved_now
-        ∙ ap (λ (p : Pending). record (lists_of old p making gathered m sizes) { lists = texts new }) now
-        ∙ ap (λ (qs : List plain.Put). held_lists qs (made_text old making) (calling_of old m.call) (map (text old) (reverse gathered)) (covers old (pending old s).sources) m.table sizes (texts new)) (fronts_called old (id_of body) (body_of (tokens_at old (id_of body))) ps ∙ ap (λ (p : plain.Put). called p (fronts old ps)) what)
-        ∙ ap (λ (w : HeldLists). record w { puts = called (called_put v.lists (name_meaning v.groups.now.meanings name)) w.puts; lists = texts new }) is
+        shared_view old mid new s t making gathered m sizes capacity sound (id_of body) (body_of (tokens_at old (id_of body))) is_meant shares stands now moves_put keeps_put lasts size parameters v is (called_put v.lists (name_meaning v.groups.now.meanings name)) (put_is old mid s making gathered m sizes capacity sound body shares args few v is name list_is)
 
 -- THE LIST IS GIVEN BACK
 

@@ -10,14 +10,15 @@ use Rattle.plain_tokens.specs.Arguments.{has_parameters}
 use Rattle.plain_tokens.specs.Puts as plain
 use Rattle.token_lists.specs.Table.{Entry}
 use Rattle.equivalents.specs.Holding.{list_of}
-use Rattle.input_stack.specs.Puts.{Put, Item, Text, put_in_front}
-use Rattle.input_stack.specs.Calls.{call_put, substituted, body_of}
+use Rattle.input_stack.specs.Puts.{Put, Item}
+use Rattle.input_stack.specs.Calls.{call_put, body_of}
+use Rattle.input_stack.specs.Pending.{listed_put}
+use Rattle.input_stack.proofs.CallItems.{without_arguments}
 use Rattle.input_state.specs.Macros.{list_at}
 use Rattle.input_state.specs.declared.answer.CallKind.TheVariants as kind
-use Rattle.input_state.specs.Calls.{is_end_mark, call_kind, called_put, called}
-use Rattle.input_state.specs.HeldViews.{front, fronts}
-use Rattle.input_state.proofs.Fronts.{texts_are, fronts_settled}
-use Rattle.input_state.proofs.Levels.{flat_put}
+use Rattle.input_state.specs.Calls.{is_end_mark, call_kind, called_put}
+use Rattle.input_state.specs.HeldViews.{front}
+use Rattle.input_state.proofs.Fronts.{texts_are}
 
 -- the first token decides whether there is a parameter text
 
@@ -89,15 +90,6 @@ same_body (token.Place c ∷ ts) = same_body ts
 same_body (token.Number n ∷ ts) = same_body ts
 same_body (token.EndPlaces ∷ ts) = refl
 
-pub stack_texts : (ts : List Token) → substituted [] ts ≡ map Text ts
-stack_texts [] = refl
-stack_texts (token.Char category code ∷ ts) = ap (λ (xs : List Item). Text (token.Char category code) ∷ xs) (stack_texts ts)
-stack_texts (token.Named name ∷ ts) = ap (λ (xs : List Item). Text (token.Named name) ∷ xs) (stack_texts ts)
-stack_texts (token.Marked name ∷ ts) = ap (λ (xs : List Item). Text (token.Marked name) ∷ xs) (stack_texts ts)
-stack_texts (token.Place c ∷ ts) = ap (λ (xs : List Item). Text (token.Place c) ∷ xs) (stack_texts ts)
-stack_texts (token.Number n ∷ ts) = ap (λ (xs : List Item). Text (token.Number n) ∷ xs) (stack_texts ts)
-stack_texts (token.EndPlaces ∷ ts) = ap (λ (xs : List Item). Text token.EndPlaces ∷ xs) (stack_texts ts)
-
 plain_texts : (ts : List Token) → plain.substituted [] ts ≡ map plain.Text ts
 plain_texts [] = refl
 plain_texts (token.Char category code ∷ ts) = ap (λ (xs : List plain.Item). plain.Text (token.Char category code) ∷ xs) (plain_texts ts)
@@ -108,10 +100,10 @@ plain_texts (token.Number n ∷ ts) = ap (λ (xs : List plain.Item). plain.Text 
 plain_texts (token.EndPlaces ∷ ts) = ap (λ (xs : List plain.Item). plain.Text token.EndPlaces ∷ xs) (plain_texts ts)
 
 -- a call without arguments
-pub flat_call : (n : ℕ) (ts : List Token) → call_put n ts [] ≡ flat_put true n (body_of ts)
-flat_call n ts = ap (λ (xs : List Item). let p : Put = record { list = n; body = true; arguments = []; reading = None; items = xs } in p) (stack_texts (body_of ts))
+pub listed_call : (n : ℕ) (ts : List Token) → call_put n ts [] ≡ listed_put true n (body_of ts)
+listed_call n ts = ap (λ (xs : List Item). let p : Put = record { list = n; body = true; arguments = []; reading = None; items = xs } in p) (without_arguments (body_of ts))
 
-pub plain_call : (table : List (Option Entry)) (n : ℕ) (ts : List Token) → front table (flat_put true n (body_of ts)) ≡ plain.call_put n ts []
+pub plain_call : (table : List (Option Entry)) (n : ℕ) (ts : List Token) → front table (listed_put true n (body_of ts)) ≡ plain.call_put n ts []
 plain_call table n ts =
     ap (λ (xs : List plain.Item). let p : plain.Put = record { list = plain.Macro n; arguments = []; items = xs } in p) (texts_are (body_of ts) ∙ sym (plain_texts (body_of ts)) ∙ ap (plain.substituted []) (sym (same_body ts)))
 
@@ -126,7 +118,3 @@ put_of_name lists (means.Register r n) k is = absurd (none-some k is)
 put_of_name lists (means.Prim number) k is = absurd (none-some k is)
 put_of_name lists (means.Macro long outer None) k is = absurd (none-some k is)
 put_of_name lists (means.Macro long outer (Some i)) k is = ap (λ (n : ℕ). plain.call_put n (list_at lists n) []) (same_Some i k is)
-
-pub fronts_called : (table : List (Option Entry)) (n : ℕ) (us : List Token) (ps : List Put) → fronts table (put_in_front (flat_put true n us) ps) ≡ called (front table (flat_put true n us)) (fronts table ps)
-fronts_called table n [] ps = refl
-fronts_called table n (u ∷ us) ps = ap (λ (qs : List plain.Put). front table (flat_put true n (u ∷ us)) ∷ qs) (fronts_settled table ps)

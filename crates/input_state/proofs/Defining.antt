@@ -1,4 +1,4 @@
--- A list that was gathered becomes a macro's.
+-- A list that was gathered becomes a macro's, or a location's.
 use Rattle.std.proofs.Common.{◌≡◌, ℕ, ◌+◌, ◌<◌, ◌≤◌, List, [], ◌∷◌, ◌++◌, map, reverse, drop, Bool, true, false, length, Option, Some, inl, inr, sym, ap, ap₂, ◌∙◌, subst, arith}
 use Rattle.std.specs.Prelude.{cond, option_to_list, ◌||◌}
 use Rattle.std.proofs.lemmas.Bool.{cases_eq, false_from_ne_true}
@@ -14,6 +14,7 @@ use Rattle.token_lists.specs.Ids.{build_id, IsBuilding}
 use Rattle.token_lists.specs.Table.{Entry, tokens_at, holders_at}
 use Rattle.token_lists.specs.Accounts.{holds, Covers}
 use Rattle.meanings.specs.Holding.{list_holds}
+use Rattle.equivalents.specs.declared.values.Loc.{Loc}
 use Rattle.equivalents.specs.declared.values.Loc.TheVariants as loc
 use Rattle.equivalents.specs.declared.values.Val.TheVariants as val
 use Rattle.equivalents.specs.Locations.{V}
@@ -29,15 +30,16 @@ use Rattle.input_stack.specs.declared.stack.InputStack.{InputStack}
 use Rattle.input_stack.proofs.Helds.{others}
 use Rattle.input_stack.proofs.Kept.{holds_itself}
 use Rattle.input_state.specs.HeldLists.{HeldLists, puts_held, first_list}
-use Rattle.input_state.specs.Macros.{is_shared, KeepsLists}
+use Rattle.input_state.specs.Macros.{list_at, is_shared, KeepsLists}
+use Rattle.input_state.specs.Standing.{SetsList}
 use Rattle.input_state.specs.Calls.{Defines}
 use Rattle.input_state.specs.HeldViews.{Named, named, call_holds, calling_of, IsCall, text, made_text, texts, fronts, covers, lists_of, all_builds, built, bodies, cells_of, puts_in, AreFronts, IsApart, IsDefined, IsShared, IsSound}
 use Rattle.input_state.specs.Callings.{NotCalling}
 use Rattle.input_state.specs.declared.gathering.Gathering as code
-use Rattle.input_state.specs.declared.gathering.Gathering.TheVariants as call
 use Rattle.input_state.proofs.Counting.{some_none, is_none, holds_other}
 use Rattle.input_state.proofs.Shares.{held_parts, macro_once}
-use Rattle.input_state.proofs.Sharing.{Moved, moved, own_alone, text_at, built_cons, built_append, all_left, all_right}
+use Rattle.input_state.proofs.CallStays.{call_stays}
+use Rattle.input_state.proofs.Sharing.{Moved, Stay, moved, own_alone, text_at, built_cons, built_append, all_left, all_right}
 use Rattle.input_state.proofs.Sources.{all_fronts, fronts_in}
 use Rattle.input_state.proofs.ListViews.{held_lists, moved_view, macros_moved, reverse_push}
 use Rattle.input_state.proofs.Sounds.{push_builds}
@@ -133,20 +135,14 @@ module _ (old new : List (Option Entry)) (s : InputStack) (m n : Named) (b : Bui
 -- THE INNERMOST LIST IS TAKEN OVER
 
 -- its holder and the table's are counted
-pub covered_now : (table : List (Option Entry)) (s : InputStack) (m : Named) (making : Option Build) (items rest : List Build) (b : Build) → items ≡ rest ++ b ∷ [] → IsShared table s (all_builds making items) m → (long outer : Bool) (id : ℕ) → id ≡ build_id b → Covers table (λ h. val_holds (val.Meant (means.Macro long outer (Some id))) h + eqtb.held m.table h)
-covered_now table s m making items rest b pops shared long outer id is h =
+pub covered_now : (table : List (Option Entry)) (s : InputStack) (m : Named) (making : Option Build) (items rest : List Build) (b : Build) → items ≡ rest ++ b ∷ [] → IsShared table s (all_builds making items) m → (value : V) → value_list value ≡ Some (build_id b) → Covers table (λ h. val_holds value h + eqtb.held m.table h)
+covered_now table s m making items rest b pops shared value list h =
     let now = front_shared table s (option_to_list making) (reverse rest) b m (subst (λ (us : List Build). IsShared table s us m) (push_builds making items rest b pops) shared) in
-    omega (arith, now.counted h, built_cons b (option_to_list making ++ reverse rest) h, ap (λ (k : ℕ). holds k h) is)
+    omega (arith, now.counted h, built_cons b (option_to_list making ++ reverse rest) h, ap (λ (o : Option ℕ). list_holds o h) list)
 
-module _ (old new : List (Option Entry)) (s : InputStack) (m n : Named) (making : Option Build) (items rest : List Build) (b : Build) (pops : items ≡ rest ++ b ∷ []) (sizes : Sizes) (capacity now : ℕ) (sound : IsSound old s making items m sizes capacity) (same : now ≡ capacity) (v : HeldLists) (is : lists_of old (pending old s) making items m sizes ≡ v) (name : Name) (long outer global : Bool) (id k : ℕ) (id_is : id ≡ build_id b) (calls : v.call ≡ NotCalling) (list : IsDefined (first_list v.builds)) (placed : location name ≡ Some k) (after : n.table ≡ record m.table { groups = set global m.table.groups (loc.Means k) (val.Meant (means.Macro long outer (Some id))) }) (same_gathering : n.call ≡ m.call) (assigned : Assigned old new m.table n.table (val.Meant (means.Macro long outer (Some id)))) (stored : (h : ℕ) → val_holds (val.Meant (means.Macro long outer (Some id))) h ≤ eqtb.held n.table h) where
+module _ (old new : List (Option Entry)) (s : InputStack) (m n : Named) (making : Option Build) (items rest : List Build) (b : Build) (pops : items ≡ rest ++ b ∷ []) (sizes : Sizes) (capacity now : ℕ) (sound : IsSound old s making items m sizes capacity) (same : now ≡ capacity) (v : HeldLists) (is : lists_of old (pending old s) making items m sizes ≡ v) (value : V) (list_is : value_list value ≡ Some (build_id b)) (list : IsDefined (first_list v.builds)) (global : Bool) (place : Loc) (after : n.table ≡ record m.table { groups = set global m.table.groups place value }) (same_gathering : n.call ≡ m.call) (assigned : Assigned old new m.table n.table value) (stored : (h : ℕ) → val_holds value h ≤ eqtb.held n.table h) where
   bs : List Build
   bs = all_builds making rest
-
-  value : V
-  value = val.Meant (means.Macro long outer (Some id))
-
-  none : m.call ≡ call.None
-  none = no_call old m.call (ap (λ (w : HeldLists). w.call) is ∙ calls)
 
   same_call : (h : ℕ) → call_holds n.call h ≡ call_holds m.call h
   same_call h = ap (λ (g : code.Gathering). call_holds g h) same_gathering
@@ -161,21 +157,15 @@ module _ (old new : List (Option Entry)) (s : InputStack) (m n : Named) (making 
   text_is : IsDefined (tokens_at old (build_id b))
   text_is = subst IsDefined first_is list
 
-  list_is : value_list value ≡ Some (build_id b)
-  unfolding value
-  list_is = ap (λ (h : ℕ). Some h) id_is
-
   moved_now : Moved old new s n bs
-  unfolding value
   moved_now = defined_moved old new s m n b bs shared value list_is same_call assigned stored text_is
 
   still : pending new s ≡ pending old s
-  unfolding value
   still = defined_still old new s m n b bs shared value list_is same_call assigned stored text_is
 
-  pub define_sound : IsSound new s making rest n sizes now
+  pub taken_sound : IsCall new n.table n.call → IsSound new s making rest n sizes now
   unfolding bs
-  define_sound = record {
+  taken_sound called = record {
     shared = moved_now.reheld.shared;
     sized = record {
       memory = assigned.size ∙ sound.sized.memory;
@@ -185,12 +175,31 @@ module _ (old new : List (Option Entry)) (s : InputStack) (m n : Named) (making 
       room = omega (arith, sound.sized.room, same);
       ranges = sound.sized.ranges;
     };
-    call = subst (λ (g : code.Gathering). IsCall new n.table g) (sym (same_gathering ∙ none)) tt;
+    call = called;
   }
 
-  pub define_view : lists_of new (pending new s) making rest n sizes ≡ record v { builds = drop 1 v.builds; groups = n.table.groups; lists = texts new }
+  -- where no call was gathered, none is
+  pub taken_uncalled : v.call ≡ NotCalling → IsCall new n.table n.call
+  taken_uncalled calls = subst (λ (g : code.Gathering). IsCall new n.table g) (sym (same_gathering ∙ no_call old m.call (ap (λ (w : HeldLists). w.call) is ∙ calls))) tt
+
+  -- what is still held has its words where it had them
+  there : (h : ℕ) → 0 < eqtb.held n.table h → 0 < holders_at new h
+  there h some = omega (arith, some, moved_now.reheld.shared.counted h)
+
+  -- where no name means anything else, the call goes on
+  pub taken_called : n.table.groups.now.meanings ≡ m.table.groups.now.meanings → IsCall new n.table n.call
+  taken_called meanings =
+      let counted = moved_now.reheld.shared.counted in
+      subst (λ (k : code.Gathering). IsCall new n.table k) (sym same_gathering) (
+      call_stays old new m.table n.table m.call meanings
+      (subst (λ (k : code.Gathering). Stay old new (call_holds k)) same_gathering moved_now.called)
+      (record { tokens = λ h some. assigned.lasting.tokens h (there h some); places = λ h some. assigned.lasting.places h (there h some) })
+      (record { covers = λ h. omega (arith, counted h, same_call h); outside = λ h some. omega (arith, counted h, some, same_call h) })
+      sound.call)
+
+  pub taken_view : lists_of new (pending new s) making rest n sizes ≡ record v { builds = drop 1 v.builds; groups = n.table.groups; lists = texts new }
   unfolding bs
-  define_view =
+  taken_view =
       let p = pending old s in
       let was : lists_of old p making items m sizes ≡ held_lists (fronts old p.puts) (made_text old making) (calling_of old m.call) (text old b ∷ map (text old) (reverse rest)) (covers old p.sources) m.table sizes (texts old) = ap (λ (us : List Build). held_lists (fronts old p.puts) (made_text old making) (calling_of old m.call) (map (text old) us) (covers old p.sources) m.table sizes (texts old)) (reverse_push items rest b pops) in
       moved_view old new s n sizes making rest moved_now
@@ -198,21 +207,54 @@ module _ (old new : List (Option Entry)) (s : InputStack) (m n : Named) (making 
       ∙ ap₂ (λ (t : Table) (g : code.Gathering). record (lists_of old p making rest (named t g) sizes) { groups = n.table.groups; lists = texts new }) after same_gathering
       ∙ ap (λ (w : HeldLists). record w { builds = drop 1 w.builds; groups = n.table.groups; lists = texts new }) (sym was ∙ is)
 
-  pub define_macros : KeepsLists (lists_held n.table.groups) (all_fronts new (pending new s)) v.lists (texts new)
-  define_macros = macros_moved old new s n sizes bs v.lists moved_now (ap (λ (w : HeldLists). w.lists) is)
+  pub taken_macros : KeepsLists (lists_held n.table.groups) (all_fronts new (pending new s)) v.lists (texts new)
+  taken_macros = macros_moved old new s n sizes bs v.lists moved_now (ap (λ (w : HeldLists). w.lists) is)
 
-  pub define_defines : k < length v.groups.now.meanings → ((h : ℕ) → is_listed (lists_outside v.groups.outer) h ≡ true → is_listed (lists_held v.groups) h ≡ true) → Defines global v.groups n.table.groups (puts_held v) v.lists (texts new) (first_list v.builds) name long outer
+  -- what the list is then
+  module _ (id : ℕ) (id_is : id ≡ build_id b) where
+    pub taken_free : is_shared id (lists_held v.groups) (puts_held v) ≡ false
+    taken_free =
+        ap (λ (w : HeldLists). is_shared id (lists_held w.groups) (puts_held w)) (sym is) ∙ ap (λ (h : ℕ). is_shared h (lists_held m.table.groups) (all_fronts old (pending old s))) id_is
+        ∙ defined_free old new s m n b bs shared value list_is same_call assigned stored text_is old
+
+    pub taken_outside : ((h : ℕ) → is_listed (lists_outside v.groups.outer) h ≡ true → is_listed (lists_held v.groups) h ≡ true) → is_listed (lists_outside v.groups.outer) id ≡ false
+    taken_outside outer_held =
+        let none = taken_free in
+        false_from_ne_true (is_listed (lists_outside v.groups.outer) id) (λ a. (let e : is_shared id (lists_held v.groups) (puts_held v) ≡ true = ap (λ (x : Bool). x || is_put id (puts_held v)) (outer_held id a) in cc))
+
+    pub taken_text : list_at (texts new) id ≡ first_list v.builds
+    taken_text = text_at new id ∙ ap (tokens_at new) id_is ∙ defined_text old new s m n b bs shared value list_is same_call assigned stored text_is ∙ sym first_is
+
+-- THE LIST OF A MACRO
+
+module _ (old new : List (Option Entry)) (s : InputStack) (m n : Named) (making : Option Build) (items rest : List Build) (b : Build) (pops : items ≡ rest ++ b ∷ []) (sizes : Sizes) (capacity now : ℕ) (sound : IsSound old s making items m sizes capacity) (same : now ≡ capacity) (v : HeldLists) (is : lists_of old (pending old s) making items m sizes ≡ v) (name : Name) (long outer global : Bool) (id k : ℕ) (id_is : id ≡ build_id b) (list : IsDefined (first_list v.builds)) (placed : location name ≡ Some k) (after : n.table ≡ record m.table { groups = set global m.table.groups (loc.Means k) (val.Meant (means.Macro long outer (Some id))) }) (same_gathering : n.call ≡ m.call) (assigned : Assigned old new m.table n.table (val.Meant (means.Macro long outer (Some id)))) (stored : (h : ℕ) → val_holds (val.Meant (means.Macro long outer (Some id))) h ≤ eqtb.held n.table h) (within : k < length v.groups.now.meanings) (outer_held : (h : ℕ) → is_listed (lists_outside v.groups.outer) h ≡ true → is_listed (lists_held v.groups) h ≡ true) where
+  value : V
+  value = val.Meant (means.Macro long outer (Some id))
+
+  pub defines_now : Defines global v.groups n.table.groups (puts_held v) v.lists (texts new) (first_list v.builds) name long outer
   unfolding value
-  define_defines within outer_held =
-      let free = defined_free old new s m n b bs shared value list_is same_call assigned stored text_is old in
-      let kept = defined_text old new s m n b bs shared value list_is same_call assigned stored text_is in
-      let none : is_shared id (lists_held v.groups) (puts_held v) ≡ false = ap (λ (w : HeldLists). is_shared id (lists_held w.groups) (puts_held w)) (sym is) ∙ ap (λ (h : ℕ). is_shared h (lists_held m.table.groups) (all_fronts old (pending old s))) id_is ∙ free in
+  defines_now =
+      let list_is : value_list value ≡ Some (build_id b) = ap (λ (h : ℕ). Some h) id_is in
       record {
         id = id;
-        free = none;
-        outside = false_from_ne_true (is_listed (lists_outside v.groups.outer) id) (λ a. (let e : is_shared id (lists_held v.groups) (puts_held v) ≡ true = ap (λ (x : Bool). x || is_put id (puts_held v)) (outer_held id a) in cc));
+        free = taken_free old new s m n making items rest b pops sizes capacity now sound same v is value list_is list global (loc.Means k) after same_gathering assigned stored id id_is;
+        outside = taken_outside old new s m n making items rest b pops sizes capacity now sound same v is value list_is list global (loc.Means k) after same_gathering assigned stored id id_is outer_held;
         means = ap (λ (t : Table). t.groups) after
             ∙ ap (λ (w : HeldLists). set global w.groups (loc.Means k) (val.Meant (means.Macro long outer (Some id)))) is
             ∙ ap (λ (o : Option ℕ). set_placed global v.groups o (means.Macro long outer (Some id))) (sym (place_found v.groups name k placed within));
-        list = text_at new id ∙ ap (tokens_at new) id_is ∙ kept ∙ sym first_is;
+        list = taken_text old new s m n making items rest b pops sizes capacity now sound same v is value list_is list global (loc.Means k) after same_gathering assigned stored id id_is;
+      }
+
+-- THE LIST OF A LOCATION
+
+module _ (old new : List (Option Entry)) (s : InputStack) (m n : Named) (making : Option Build) (items rest : List Build) (b : Build) (pops : items ≡ rest ++ b ∷ []) (sizes : Sizes) (capacity now : ℕ) (sound : IsSound old s making items m sizes capacity) (same : now ≡ capacity) (v : HeldLists) (is : lists_of old (pending old s) making items m sizes ≡ v) (global : Bool) (place : Loc) (id : ℕ) (id_is : id ≡ build_id b) (list : IsDefined (first_list v.builds)) (after : n.table ≡ record m.table { groups = set global m.table.groups place (val.Tokens (Some id)) }) (same_gathering : n.call ≡ m.call) (assigned : Assigned old new m.table n.table (val.Tokens (Some id))) (stored : (h : ℕ) → val_holds (val.Tokens (Some id)) h ≤ eqtb.held n.table h) (outer_held : (h : ℕ) → is_listed (lists_outside v.groups.outer) h ≡ true → is_listed (lists_held v.groups) h ≡ true) where
+  pub sets_now : SetsList global v.groups n.table.groups (puts_held v) v.lists (texts new) (first_list v.builds) place
+  sets_now =
+      let list_is : value_list (val.Tokens (Some id)) ≡ Some (build_id b) = ap (λ (h : ℕ). Some h) id_is in
+      record {
+        id = id;
+        free = taken_free old new s m n making items rest b pops sizes capacity now sound same v is (val.Tokens (Some id)) list_is list global place after same_gathering assigned stored id id_is;
+        outside = taken_outside old new s m n making items rest b pops sizes capacity now sound same v is (val.Tokens (Some id)) list_is list global place after same_gathering assigned stored id id_is outer_held;
+        sets = ap (λ (t : Table). t.groups) after ∙ ap (λ (w : HeldLists). set global w.groups place (val.Tokens (Some id))) is;
+        list = taken_text old new s m n making items rest b pops sizes capacity now sound same v is (val.Tokens (Some id)) list_is list global place after same_gathering assigned stored id id_is;
       }

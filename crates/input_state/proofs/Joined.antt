@@ -1,5 +1,5 @@
 -- What is said of the lists that are held, of all that is stored.
-use Rattle.std.proofs.Common.{◌≡◌, ℕ, ◌+◌, List, [], ◌∷◌, ◌++◌, length, Option, None, Some, Result, true, refl, sym, ap, ap₂, ◌∙◌, subst}
+use Rattle.std.proofs.Common.{◌≡◌, ℕ, ◌+◌, ◌≤◌, List, [], ◌∷◌, ◌++◌, length, Option, None, Some, Result, true, refl, sym, ap, ap₂, ◌∙◌, subst}
 use Rattle.std.specs.Prelude.{Bool, MatchResult, option_to_list}
 use Rattle.tex_defs.specs.declared.Token.{Token}
 use Rattle.tex_defs.specs.declared.Full.{Full}
@@ -9,6 +9,7 @@ use Rattle.plain_tokens.specs.Pending.{all_puts}
 use Rattle.plain_tokens.specs.Tables.{Demand, memory, level, refused, held_words, is_put}
 use Rattle.tex_defs.specs.declared.Table.TheVariants.{ParameterStackSize}
 use Rattle.token_lists.specs.Table.{Entry}
+use Rattle.equivalents.specs.declared.values.Loc.{Loc}
 use Rattle.equivalents.specs.Groups.{Groups}
 use Rattle.equivalents.specs.Holding.{lists_held, shared_words}
 use Rattle.input_state.specs.FileLeft.{FilesLeft}
@@ -19,6 +20,8 @@ use Rattle.input_state.specs.Stored.{Stored, KeepsMacros, words, call_refusal, p
 use Rattle.input_state.specs.Counted.{HaveHolders, AreCounted}
 use Rattle.input_state.specs.Macros.{KeepsLists}
 use Rattle.input_state.specs.Calls.{Defines, when_called, when_put}
+use Rattle.input_state.specs.HeldAppends.{HeldShort}
+use Rattle.input_state.specs.Standing.{SetsList, AppendsShort}
 use Rattle.input_state.proofs.Files.{keeps_twice}
 use Rattle.input_state.proofs.Rooms.{all_puts_are, level_is, rooms_length}
 
@@ -55,6 +58,12 @@ module _ (h : HeldLists) (b : List ℕ) (f : FilesLeft) (s : Stored) (is : store
       subst (λ (v : Stored). Defines global v.groups groups (all_puts v.pending) v.lists lists ts name long outer) is
       (subst (λ (ps : List Put). Defines global h.groups groups ps h.lists lists ts name long outer) (sym (all_puts_are h b f.files f.next)) k)
 
+  pub listed : (global : Bool) (groups : Groups) (lists : List (List Token)) (ts : List Token) (l : Loc) →
+      SetsList global h.groups groups (puts_held h) h.lists lists ts l → SetsList global s.groups groups (all_puts s.pending) s.lists lists ts l
+  listed global groups lists ts l k =
+      subst (λ (v : Stored). SetsList global v.groups groups (all_puts v.pending) v.lists lists ts l) is
+      (subst (λ (ps : List Put). SetsList global h.groups groups ps h.lists lists ts l) (sym (all_puts_are h b f.files f.next)) k)
+
   module _ (tied : IsTied h b f) where
     same_length : length f.files ≡ length h.below
     same_length = rooms_length h.below f.files tied.lines
@@ -76,6 +85,20 @@ module _ (h : HeldLists) (b : List ℕ) (f : FilesLeft) (s : Stored) (is : store
     put_refused p =
         ap₂ (λ (d e : Demand). refused h.sizes (when_put p.items (d ∷ e ∷ []))) (parameters_are (length p.arguments)) (sym settled_level)
         ∙ ap (put_refusal p) is
+
+-- LISTS THAT GET TOKENS
+
+module _ (h now : HeldLists) (b : List ℕ) (f : FilesLeft) (held_grown : List Token → HeldLists → HeldLists) (grown : List Token → Stored → Stored) (same : (front : List Token) (lists : List (List Token)) → stored_of (record (held_grown front h) { lists = lists }) b f ≡ record (grown front (stored_of h b f)) { lists = lists }) where
+  pub stops_short : (ts : List Token) (full : Full) → HeldShort held_grown ts h now full → AppendsShort grown ts (stored_of h b f) (stored_of now b f) full
+  stops_short ts full k = record {
+    front = k.front;
+    next = k.next;
+    rest = k.rest;
+    split = k.split;
+    after = ap (λ (w : HeldLists). stored_of w b f) k.after ∙ same k.front now.lists;
+    fits = subst (λ (n : ℕ). n + length k.front ≤ h.sizes.main_memory_size) (words_are_held h b f (stored_of h b f) refl) k.fits;
+    refused_then = subst (λ (n : ℕ). refused now.sizes (memory 1 n ∷ []) ≡ Some full) (words_are_held now b f (stored_of now b f) refl) k.refused_then;
+  }
 
 -- THE LIST THAT IS MADE
 

@@ -12,7 +12,7 @@ use Rattle.token_lists.specs.Table.{Entry, tokens_at, holders_at}
 use Rattle.token_lists.specs.Accounts.{none, Moves, Keeps, Covers}
 use Rattle.meanings.specs.Holding.{with_holder}
 use Rattle.equivalents.specs.declared.values.Loc.{Loc}
-use Rattle.equivalents.specs.Locations.{V}
+use Rattle.equivalents.specs.Locations.{V, IsTokens, IsMeaning}
 use Rattle.equivalents.specs.declared.values.Val.TheVariants as val
 use Rattle.equivalents.specs.Groups.{Groups, set, placed, place_of, set_placed, set_name}
 use Rattle.equivalents.specs.Holding.{lists_held}
@@ -43,6 +43,13 @@ with_length (Some id) table = length-set table id _
 pub if_each : (P : ℕ → Type 0) (o : Option ℕ) → ((k : ℕ) → P k) → IfSome o P
 if_each P None all = tt
 if_each P (Some k) all = all k
+
+-- a list is no meaning
+pub no_meaning : (v : V) → IsTokens v → IsMeaning v → ⊥
+no_meaning (val.Number n) is m = is
+no_meaning (val.Skip g) is m = is
+no_meaning (val.Meant x) is m = is
+no_meaning (val.Tokens o) is m = m
 
 -- what the table holds is counted
 pub table_covered : (table : List (Option Entry)) (s : InputStack) (making : Option Build) (gathered : List Build) (m : Named) (sizes : Sizes) (capacity : ℕ) → IsSound table s making gathered m sizes capacity → Covers table (eqtb.held m.table)

@@ -10,7 +10,7 @@ use Rattle.plain_tokens.specs.Puts.{list_of_tokens}
 use Rattle.plain_tokens.specs.Tables.{put_words, whole_words, argument_words, list_words, lists_words}
 use Rattle.token_lists.specs.Table.{Entry, tokens_at}
 use Rattle.input_stack.specs.Puts.{Put, Item, Text, First, Later, Gap, argument_of, later_of, numbers, used_of, settled, settled_top, put_top, put_in_front, without_gaps, pulled, pulled_top}
-use Rattle.input_stack.specs.Pending.{Pending, Below, settle, put, used_levels, times}
+use Rattle.input_stack.specs.Pending.{Pending, Below, settle, put, listed_put, used_levels, times}
 use Rattle.input_stack.proofs.Kept.{holds_itself}
 use Rattle.input_state.specs.HeldLists.{Covered}
 use Rattle.input_state.specs.HeldViews.{plain_item, whole_of, argument_text, front, fronts, own_of, owns, opens, cells_of, covers, puts_below, puts_in, IsOf, AreOf, IsFront, AreFronts}
@@ -19,18 +19,14 @@ use Rattle.input_state.proofs.Fronts.{front_levels}
 use Rattle.input_state.proofs.Shares.{owns_append}
 use Rattle.input_state.proofs.Sources.{all_fronts, fronts_in, levels_in, covers_length}
 
--- these tokens of a list, a macro's or its own
-abbrev pub flat_put : Bool → ℕ → List Token → Put
-flat_put body n ts = record { list = n; body = body; arguments = []; reading = None; items = map Text ts }
-
 -- THE ARGUMENTS THAT ARE READ
 
 pub texts_of : (cells : List (Option ℕ)) (ts : List Token) → AreOf cells (map Text ts)
 texts_of cells [] = tt
 texts_of cells (t ∷ ts) = (tt, texts_of cells ts)
 
-pub flat_is : (body : Bool) (n : ℕ) (ts : List Token) → IsFront (flat_put body n ts)
-flat_is body n ts = record { reading = tt; items = texts_of [] ts }
+pub listed_is : (shared : Bool) (n : ℕ) (ts : List Token) → IsFront (listed_put shared n ts)
+listed_is shared n ts = record { reading = tt; items = texts_of [] ts }
 
 later_is : (cells : List (Option ℕ)) (x : Item) → IsOf cells (argument_of x) → IsOf cells (later_of x)
 later_is cells (Text t) is = tt

@@ -24,7 +24,9 @@ pub mod Called
 pub mod Putting
 pub mod Opening
 pub mod Calling
+pub mod SharedPut
 pub mod CallKept
+pub mod StandingPut
 pub mod PutItems
 pub mod PutKept
 pub mod Assigning
@@ -44,4 +46,7 @@ pub mod Grouping
 pub mod Closing
 pub mod Walking
 pub mod ListNumbers
+pub mod Innermost
 pub mod AtOnce
+pub mod Copying
+pub mod Lengthening

@@ -2,7 +2,7 @@
 use Rattle.std.proofs.Common.{◌≡◌, ℕ, ◌+◌, ◌≤◌, List, Option, None, refl, ap, ◌∙◌, arith}
 use Rattle.tex_defs.specs.declared.Meaning.{Meaning}
 use Rattle.tex_defs.specs.declared.Meaning.TheVariants as means
-use Rattle.token_lists.specs.Table.{Entry, holders_at}
+use Rattle.token_lists.specs.Table.{Entry}
 use Rattle.token_lists.specs.Accounts.{none, Moves, Covers}
 use Rattle.meanings.specs.Kept.{without_list}
 use Rattle.meanings.specs.Holding.{list_holds}

@@ -26,7 +26,7 @@ use Rattle.input_state.proofs.Shares.{apart_fewer, fewer_put_in}
 use Rattle.input_state.proofs.Sources.{all_fronts}
 use Rattle.input_state.proofs.Sounds.{sized_now}
 use Rattle.input_state.proofs.Fronts.{token_front, fronts_put}
-use Rattle.input_state.proofs.Levels.{levels_used, simple_put, flat_is}
+use Rattle.input_state.proofs.Levels.{levels_used, simple_put, listed_is}
 use Rattle.input_state.proofs.CallStays.{call_stays}
 use Rattle.input_state.proofs.Sharing.{Moved, moved, built_cons}
 use Rattle.input_state.proofs.ListViews.{held_lists, moved_view, macros_moved}
@@ -60,7 +60,7 @@ module _ (old new : List (Option Entry)) (s t : InputStack) (a : Build) (gathere
     moved_now : Moved old new t m (reverse gathered)
     moved_now =
         moved old new s t m m (a ∷ []) (reverse gathered) shared_now stands
-        (subst (λ (p : Pending). AreFronts (puts_in p)) (sym after) (simple_put (plain_put n (tokens_at old n)) (pending old s) (flat_is false n (tokens_at old n)) sound.shared.fronts))
+        (subst (λ (p : Pending). AreFronts (puts_in p)) (sym after) (simple_put (plain_put n (tokens_at old n)) (pending old s) (listed_is false n (tokens_at old n)) sound.shared.fronts))
         apart_now
         (λ h some. sound.shared.listed h (omega (arith, (fewer_put_in (plain_put n (tokens_at old n)) (pending old s)).cells h, subst (λ (p : Pending). 0 < times h (cells_of (puts_in p))) after some)))
         (λ h. omega (arith, moves h, own_now h))

@@ -45,7 +45,7 @@ abbrev pub called_put : List (List Token) → Meaning (Option ℕ) → Put
 called_put lists (means.Macro long outer (Some id)) = call_put id (list_at lists id) []
 called_put lists m = token_put []
 
--- A macro without a body changes nothing; else the finished lists in front go, and its body is in front.
+-- A list without items, as of a macro without a body, changes nothing; else the finished lists in front go, and it is in front.
 abbrev pub called_top : Put → List Item → List Put → List Put
 called_top p [] puts = puts
 called_top p (x ∷ xs) puts = p ∷ settled puts

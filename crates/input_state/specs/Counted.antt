@@ -1,5 +1,5 @@
--- Who holds the lists of the memory. A macro's list is held by each location and each saved value that has it and by each list in front that is
--- its body, any other list by the one place where it is shown, and an argument that is read once more, by its level.
+-- Who holds the lists of the memory. A shared list, a macro's or a location's, is held by each location and each saved value that has it and by each
+-- list in front that is it or its body, any other list by the one place where it is shown, and an argument that is read once more, by its level.
 use Rattle.std.specs.Prelude.{◌≡◌, ℕ, ◌+◌, ◌<◌, ◌≤◌, List, [], ◌∷◌, ◌++◌, map, drop, Option, None, Some, IfSome, option_to_list}
 use Rattle.std.specs.List.{AllZip, filter_map, flat_map}
 use Rattle.tex_defs.specs.declared.Token.{Token}
@@ -13,12 +13,12 @@ use Rattle.input_state.specs.Stored.{Stored, gathered}
 
 -- A LIST IN FRONT
 
--- a list that was put for itself; a body is its macro's list
+-- a list that was put for itself; a shared list has its number
 abbrev pub own_list : Whole → List (List Token)
 own_list (Own ts) = ts ∷ []
 own_list (Macro number) = []
 
--- the macro whose body it is
+-- the number of a shared list, of a macro whose body it is or of a location
 abbrev pub macro_of : Whole → Option ℕ
 macro_of (Own ts) = None
 macro_of (Macro number) = Some number
@@ -44,7 +44,7 @@ HasNoMoreLevels p n = levels_of p.items ≡ 1 + count_of n.reading
 
 -- ALL HOLDERS, by the numbers of the lists that they hold
 
--- the locations and saved values that have a list, and the lists in front that are a macro's body
+-- the locations and saved values that have a list, and the lists in front that are shared
 abbrev pub shared_numbers : (held : List ℕ) → List Put → List ℕ
 shared_numbers held puts = held ++ filter_map (λ p. macro_of p.list) puts
 
@@ -65,7 +65,7 @@ pub record HaveHolders (table : List (Option Entry)) (held : List ℕ) (puts : L
   pub beneath : AllZip HasNoMoreLevels (drop 1 puts) (drop 1 fronts)
   pub elsewhere : map (tokens_at table) rest ≡ others
   pub counts : AreHolders table (shared_numbers held puts ++ (own_numbers fronts rest ++ reading_numbers fronts))
-  -- each of these lists has that one place, and is no macro's
+  -- each of these lists has that one place, and isn't shared
   pub sole : (h : ℕ) → 0 < times h (own_numbers fronts rest) → times h (shared_numbers held puts ++ own_numbers fronts rest) ≡ 1
 
 -- The others are the list that is made, the call's, and those that are gathered.

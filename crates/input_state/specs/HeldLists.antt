@@ -72,7 +72,7 @@ words_held s = shared_words 0 (lists_held s.groups) (puts_held s) s.lists + held
 
 -- MACROS
 
--- each macro whose list is held then keeps its tokens
+-- each shared list that is held then keeps its tokens
 abbrev pub KeepsHeld : HeldLists → HeldLists → Type 0
 KeepsHeld old new = KeepsLists (lists_held new.groups) (puts_held new) old.lists new.lists
 
@@ -84,7 +84,7 @@ settle_held s = record s { puts = settled s.puts }
 abbrev pub level_held : HeldLists → Demand
 level_held s = record { table = InputStackSize; used = put_levels (puts_held s) + length s.below; need = 1 }
 
--- why the body of a macro isn't put, once the finished lists in front have gone
+-- why a macro's body or another list isn't put, once the finished lists in front have gone
 abbrev pub call_refusal : Put → HeldLists → Option Full
 call_refusal p s = refused s.sizes (when_called p.items (level_held (settle_held s)))
 

@@ -1,4 +1,4 @@
--- The lists in main memory as plain lists: those of macros may be shared, and each other list is held in one place.
+-- The lists in main memory as plain lists: those of macros and locations may be shared, and each other list is held in one place.
 use Rattle.std.specs.Prelude.{◌≡◌, ℕ, ◌+◌, ◌<◌, ◌≤◌, Bool, true, false, List, [], ◌∷◌, ◌++◌, map, reverse, length, Option, None, Some, All, option_to_list, sum_by}
 use Rattle.tex_defs.specs.declared.Token.{Token}
 use Rattle.tex_defs.specs.declared.Sizes.{Sizes}
@@ -35,7 +35,7 @@ plain_item (First n t) = plain.First t
 plain_item (Later n t) = plain.Later t
 plain_item Gap = plain.Gap
 
--- a macro's body that was put has the list of its macro, another list its own
+-- a list that was put and may be shared has its number, another its own tokens
 abbrev pub whole_of : Bool → ℕ → List Token → plain.Whole
 whole_of true n ts = plain.Macro n
 whole_of false n ts = plain.Own ts
@@ -44,7 +44,7 @@ abbrev pub argument_text : List (Option Entry) → Option ℕ → List Token
 argument_text table None = []
 argument_text table (Some n) = tokens_at table n
 
--- a list in front: its tokens or its macro, the arguments of its call, and the items that are left
+-- a list in front: its tokens or its number, the arguments of its call, and the items that are left
 abbrev pub front : List (Option Entry) → Put → plain.Put
 front table x = record { list = whole_of x.body x.list (tokens_at table x.list); arguments = map (argument_text table) x.arguments; items = map plain_item x.items }
 
@@ -139,7 +139,7 @@ built bs h = sum_by (λ b. holds (build_id b) h) bs
 
 -- WHO HOLDS A LIST
 
--- the lists that a list in front has for itself: its own, where it is no macro's body, and its call's arguments
+-- the lists that a list in front has for itself: its own, where it isn't shared, and its call's arguments
 abbrev pub own_of : Bool → ℕ → List ℕ → List ℕ
 own_of true n ns = ns
 own_of false n ns = n ∷ ns
@@ -152,7 +152,7 @@ abbrev pub body_of : Bool → ℕ → List ℕ
 body_of true n = n ∷ []
 body_of false n = []
 
--- the lists of the macros whose bodies are in front
+-- the shared lists that are in front, macros' with their bodies
 abbrev pub bodies : List Put → List ℕ
 bodies [] = []
 bodies (p ∷ ps) = body_of p.body p.list ++ bodies ps
@@ -187,12 +187,12 @@ call_holds (call.Gathered name args) h = args_hold args h
 abbrev pub names_hold : Named → ℕ → ℕ
 names_hold m h = eqtb.held m.table h + call_holds m.call h
 
--- A list in front of its own, an argument, a list of the call or one that is being built is that in one place, and no macro's.
+-- A list in front of its own, an argument, a list of the call or one that is being built is that in one place, and isn't shared.
 pub record IsApart (ps : List Put) (bs : List Build) (m : Named) : Type 0 where
   pub sole : (h : ℕ) → times h (owns ps) + (built bs h + call_holds m.call h) ≤ 1
   pub apart : (h : ℕ) → 0 < times h (owns ps) + (built bs h + call_holds m.call h) → times h (bodies ps) + eqtb.held m.table h ≡ 0
 
--- a macro's list has a token, its end mark
+-- a shared list has a token, a macro's its end mark
 pub record IsDefined (ts : List Token) : Type 0 where
   pub some : 0 < length ts
 

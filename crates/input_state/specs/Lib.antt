@@ -1,3 +1,6 @@
+pub mod Standing
+pub mod HeldAppends
+pub mod Appends
 pub mod Stored
 pub mod Counted
 pub mod NextBytes

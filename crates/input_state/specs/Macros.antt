@@ -23,7 +23,7 @@ pub record IsPlaceOf (groups : Groups) (name : Name) (l : Loc) : Type 0 where
 abbrev pub list_at : List (List Token) → ℕ → List Token
 list_at lists id = slice_index_or lists id []
 
--- a location or a saved value holds this list, or it is in front as a body
+-- a location or a saved value holds this list, or it is in front, as itself or as a body
 abbrev pub is_shared : ℕ → (held : List ℕ) → List Put → Bool
 is_shared id held puts = is_listed held id || is_put id puts
 

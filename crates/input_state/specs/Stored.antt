@@ -40,11 +40,11 @@ gathered s = call_lists s.call ++ s.builds
 abbrev pub words : Stored → ℕ
 words s = shared_words 0 (lists_held s.groups) (all_puts s.pending) s.lists + held_words (all_puts s.pending) s.making (gathered s)
 
--- each macro whose list is held then keeps its tokens
+-- each shared list that is held then keeps its tokens
 abbrev pub KeepsMacros : Stored → Stored → Type 0
 KeepsMacros old new = KeepsLists (lists_held new.groups) (all_puts new.pending) old.lists new.lists
 
--- why the body of a macro isn't put, once the finished lists in front have gone
+-- why a macro's body or another list isn't put, once the finished lists in front have gone
 abbrev pub call_refusal : Put → Stored → Option Full
 call_refusal p s = refused s.sizes (when_called p.items (level (settle s.pending)))
 

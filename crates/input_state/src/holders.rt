@@ -1,5 +1,5 @@
 // Lists with more than one holder.
-ghost use Rattle.std.specs.Prelude.{◌≡◌, ℕ, ◌+◌, ◌<◌, ◌^◌};
+ghost use Rattle.std.specs.Prelude.{◌≡◌, ℕ, ◌+◌, ◌<◌, ◌^◌, None, Some, IfSome, MatchOption};
 ghost use Rattle.plain_tokens.specs.Arguments.{has_parameters};
 ghost use Rattle.token_lists.specs.Table.{IsHeld, holders_at, tokens_at};
 ghost use Rattle.token_lists.specs.Ids.{id_of};
@@ -8,7 +8,13 @@ ghost use Rattle.macro_args.specs.Args.{args_hold};
 ghost use Rattle.input_stack.specs.CallViews.{Shares};
 ghost use Rattle.input_stack.specs.Lasting.{Lasts};
 ghost use Rattle.input_state.specs.Calls.{is_end_mark};
+ghost use Rattle.input_state.specs.Standing.{list_number};
+ghost use Rattle.equivalents.specs.Groups.{IsLocation};
+ghost use Rattle.equivalents.specs.Locations.{tokens_of};
+ghost use Rattle.eqtb_save.specs.Values.{numbered};
+ghost use Rattle.eqtb_save.specs.Holding.{held};
 
+use eqtb_save::{Eqtb, Loc, Val, Value};
 use macro_args::Args;
 use tex_defs::Token;
 use token_lists::{ListRef, Lists};
@@ -61,4 +67,23 @@ pub fn give_back(lists: &mut Lists, list: ListRef, args: Args)
 {
     let_go(lists, list);
     args.release(lists);
+}
+
+// The list of a value that is one.
+fn list_of(value: &Value) -> Option<&ListRef>
+    ensures { MatchOption result (tokens_of (numbered value.now) ≡ None) (λ r. tokens_of (numbered value.now) ≡ Some (id_of r.now)) }
+{
+    match value {
+        Val::Tokens(Some(list)) => Some(list),
+        _ => None,
+    }
+}
+
+/// The list that stands at a location, if one does.
+pub fn standing(table: &Eqtb, loc: Loc) -> Option<&ListRef>
+    requires { IsLocation table.now.groups loc }
+    ensures list { MatchOption result (list_number table.now.groups loc ≡ None) (λ r. list_number table.now.groups loc ≡ Some (id_of r.now)) }
+    ensures held { IfSome result (λ r. 0 < held table.now (id_of r.now)) }
+{
+    list_of(table.get(loc))
 }

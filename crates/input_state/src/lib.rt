@@ -9,6 +9,7 @@
 #![tactic(auto)]
 
 mod answer;
+mod appending;
 mod bytes;
 mod file;
 mod gathering;

@@ -1,15 +1,15 @@
 // The lists in front, those that are being made and gathered, the lines of the files beneath them, and what stands at all locations.
-ghost use Rattle.std.specs.Prelude.{◌≡◌, ◌≢◌, ℕ, ◌≤◌, ◌<◌, ◌+◌, ◌++◌, ◌↔◌, true, List, [], ◌∷◌, Option, None, Some, Ok, IsSome, IfSome, IsTrue, IfOk, OnOk, OnErr, IfErr, MatchResult, MatchBool, MatchOption, length, drop, replicate, option_to_list, vec_capacity, slice_index_or, pos};
+ghost use Rattle.std.specs.Prelude.{◌≡◌, ◌≢◌, ℕ, ◌≤◌, ◌<◌, ◌+◌, ◌++◌, ◌↔◌, true, List, [], ◌∷◌, Option, None, Some, Ok, IsSome, IfSome, IsTrue, IfOk, OnOk, OnErr, IfErr, MatchResult, MatchBool, MatchOption, length, drop, replicate, option_to_list, vec_capacity, slice_index_or, pos, map};
 ghost use Rattle.tex_defs.specs.Sizes.{first_out_of_range};
 ghost use Rattle.plain_tokens.specs.Meanings.{is_listed, location, name_meaning, seen, met, meaning_to_let};
-ghost use Rattle.equivalents.specs.declared.values.Loc.TheVariants as loc;
 ghost use Rattle.equivalents.specs.declared.values.Val.TheVariants as val;
-ghost use Rattle.equivalents.specs.Locations.{Suits, value_seen};
+ghost use Rattle.equivalents.specs.Locations.{Suits, IsTokens, value_seen};
 ghost use Rattle.equivalents.specs.Tables.{get};
 ghost use Rattle.equivalents.specs.Groups.{first_groups, entered, set, set_name, set_demands, name_demands, group_demands, token_demands, opened, with_token, closed, tokens_after, kind_of, depth, IsLocation};
 ghost use Rattle.equivalents.specs.Parameters.{integer_in};
 ghost use Rattle.equivalents.specs.Holding.{lists_held, lists_outside};
 ghost use Rattle.equivalents.specs.Laws.{AreAlike};
+ghost use Rattle.equivalents.specs.Cases.{case_codes, case_changed};
 ghost use Rattle.eqtb_save.specs.Values.{numbered};
 ghost use Rattle.eqtb_save.specs.Holding.{val_holds, held};
 ghost use Rattle.meanings.specs.Holding.{Lasts};
@@ -24,11 +24,13 @@ ghost use Rattle.token_lists.specs.Refusals.{IsFull};
 ghost use Rattle.input_state.specs.Counted.{HaveHolders};
 ghost use Rattle.input_state.specs.HeldLists.{HeldLists, KeepsHeld, call_refusal, put_refusal, first_list, is_empty, made, words_held, gathered_held, level_held, puts_held, settle_held, pending_of, outer_in, ahead_of, AreInBuffer, GoFurther, over_held, at_line, opened_over};
 ghost use Rattle.input_state.specs.FileLeft.{FileLeft};
+ghost use Rattle.input_state.specs.HeldAppends.{HeldShort, held_appended, held_appended_made};
 ghost use Rattle.meanings.specs.Kept.{IsPlaced, without_list};
 ghost use Rattle.input_state.specs.HeldViews.{IsDefined};
 ghost use Rattle.input_state.specs.Macros.{HasNameRoom, IsPlaceOf, list_at};
 ghost use Rattle.input_state.specs.Calls.{call_kind, called_put, called, put_of, text_of, begun_lists, Defines};
 ghost use Rattle.input_state.specs.declared.answer.CallKind.TheVariants.{AtOnce, Gathers};
+ghost use Rattle.input_state.specs.Standing.{SetsList, standing_put, standing_tokens, appended, appended_made};
 ghost use Rattle.input_state.specs.Callings.{NotCalling, IsComplete};
 ghost use Rattle.input_state.specs.Callings as calls;
 ghost use Rattle.input_state.specs.CallFeeds.{IsTaking, Feeds, CutShort, growth, with_scan, call_work};
@@ -40,14 +42,16 @@ ghost use Rattle.input_state.specs.Reads.{GivesTo, step_demands};
 ghost use Rattle.input_state.specs.AtOnce.{GivesAtOnce};
 ghost use Rattle.input_state.specs.Given.{GivesMore, GivesOrRefuses, answer_of, told};
 
+use crate::appending::{Change, append, append_from};
 use crate::gathering::{Gathering, begin as begin_call, feed};
-use crate::holders::{give_back, has_parameters, let_go, share};
+use crate::holders::{give_back, has_parameters, let_go, share, standing};
 use crate::places::behind;
 use crate::{CallKind, CallTold, Pulled};
 use eqtb_save::{Closed, Eqtb, Glue, GroupKind, Loc, Val, Value, name_loc};
 use input_stack::{InputStack, Pulled as Given};
 use line_lexer::{Ahead, Lexed, Line};
 use macro_args::Args;
+use macro_call::{at_first, at_first_built};
 use meanings::without_list;
 use std::alloc::{AllocError, Global};
 use std::marker::Model;
@@ -100,9 +104,10 @@ fn assign(table: &mut Eqtb, lists: &mut Lists, global: bool, place: Loc, value: 
     ensures kept { Keeps lists.old lists.new (λ h. val_holds (numbered value) h + held table.old h) }
     ensures lasting { Lasts lists.old lists.new }
     ensures fewer { (h : ℕ) → holders_at lists.new h ≤ holders_at lists.old h }
-    ensures stored { (k : ℕ) → place ≡ loc.Means k → (h : ℕ) → val_holds (numbered value) h ≤ held table.new h }
+    ensures stored { (h : ℕ) → val_holds (numbered value) h ≤ held table.new h }
     ensures length { length lists.new ≡ length lists.old }
 {
+    let _old = table.get(place);
     if global {
         table.gdefine(lists, place, value);
         return;
@@ -129,28 +134,6 @@ fn begin(lists: &mut Lists) -> Result<Build, Full>
         Ok(build) => {
             let _words = lists.used();
             Ok(build)
-        }
-        Err(full) => Err(full),
-    }
-}
-
-// Appends a token. What is used then says that there was room for it.
-fn append(lists: &mut Lists, build: &mut Build, token: Token) -> Result<(), Full>
-    requires { IsBuilding lists.old build.old }
-    ensures same { build_id build.new ≡ build_id build.old }
-    ensures building { IsBuilding lists.new build.new }
-    ensures grown { OnOk result (tokens_at lists.new (build_id build.old) ≡ tokens_at lists.old (build_id build.old) ++ token ∷ []) }
-    ensures others { IsOnly lists.old lists.new (build_id build.old) }
-    ensures account { Moves lists.old lists.new none none }
-    ensures room { OnOk result (words lists.old < length lists.old) }
-    ensures err { OnErr result (lists.new ≡ lists.old) }
-    ensures full { IfErr result (λ f. IsFull f lists.old) }
-    ensures length { length lists.new ≡ length lists.old }
-{
-    match lists.append(build, token) {
-        Ok(()) => {
-            let _words = lists.used();
-            Ok(())
         }
         Err(full) => Err(full),
     }
@@ -279,6 +262,38 @@ impl Held {
         grown
     }
 
+    /// The innermost gathered list gets the tokens of the list that stands at a location.
+    ///
+    /// # Errors
+    /// The main memory is full: some of the tokens are there, from the first on, and nothing else has changed.
+    pub fn copy_list(&mut self, loc: Loc) -> Result<(), Full>
+        requires some { self.old.builds ≢ [] }
+        requires within { IsLocation self.old.groups loc }
+        ensures ok { OnOk result (self.new ≡ record self.old { builds = appended (standing_tokens self.old.lists self.old.groups loc) self.old.builds; lists = self.new.lists }) }
+        ensures fits { OnOk result (words_held self.old + length (standing_tokens self.old.lists self.old.groups loc) ≤ self.old.sizes.main_memory_size) }
+        ensures err { IfErr result (λ full. HeldShort held_appended (standing_tokens self.old.lists self.old.groups loc) self.old self.new full) }
+        ensures macros { KeepsHeld self.old self.new }
+    {
+        let _old_words = self.lists.used();
+        let Some(list) = standing(&self.table, loc) else {
+            return Ok(());
+        };
+        let from = at_first(&self.lists, list);
+        let Some(mut build) = self.builds.pop() else {
+            unreachable!()
+        };
+        let copied = append_from(
+            &mut self.lists,
+            &mut build,
+            from,
+            &self.table,
+            Change::Nothing,
+        );
+        let _words = self.lists.used();
+        self.builds.push_reserved(build);
+        copied
+    }
+
     /// The innermost gathered list goes.
     pub fn drop_list(&mut self)
         requires { self.old.builds ≢ [] }
@@ -377,6 +392,37 @@ impl Held {
             unreachable!()
         };
         let grown = append(&mut self.lists, &mut build, token);
+        match self.making.replace(build) {
+            None => grown,
+            Some(_other) => unreachable!(),
+        }
+    }
+
+    /// The list that is made gets the tokens of the innermost gathered list, its characters as capital letters, or as small ones.
+    ///
+    /// # Errors
+    /// The main memory is full: some of the tokens are there, from the first on, and nothing else has changed.
+    pub fn grow_changed(&mut self, upper: bool) -> Result<(), Full>
+        requires some { self.old.builds ≢ [] }
+        requires making { IsSome self.old.making }
+        ensures ok { OnOk result (self.new ≡ record self.old { making = appended_made (map (case_changed (case_codes upper self.old.groups.now)) (first_list self.old.builds)) self.old.making; lists = self.new.lists }) }
+        ensures fits { OnOk result (words_held self.old + length (map (case_changed (case_codes upper self.old.groups.now)) (first_list self.old.builds)) ≤ self.old.sizes.main_memory_size) }
+        ensures err { IfErr result (λ full. HeldShort held_appended_made (map (case_changed (case_codes upper self.old.groups.now)) (first_list self.old.builds)) self.old self.new full) }
+        ensures macros { KeepsHeld self.old self.new }
+    {
+        let _old_words = self.lists.used();
+        let from = at_first_built(&self.lists, &self.builds[self.builds.len() - 1]);
+        let Some(mut build) = self.making.take() else {
+            unreachable!()
+        };
+        let grown = append_from(
+            &mut self.lists,
+            &mut build,
+            from,
+            &self.table,
+            Change::Case(upper),
+        );
+        let _words = self.lists.used();
         match self.making.replace(build) {
             None => grown,
             Some(_other) => unreachable!(),
@@ -777,6 +823,82 @@ impl Held {
         Ok(())
     }
 
+    /// A location gets the innermost gathered list, which has a token.
+    ///
+    /// # Errors
+    /// The save stack is full; nothing has changed.
+    pub fn set_list(&mut self, loc: Loc, global: bool) -> Result<(), Full>
+        requires some { self.old.builds ≢ [] }
+        requires list { IsDefined (first_list self.old.builds) }
+        requires within { IsLocation self.old.groups loc }
+        requires suits { Suits loc (val.Tokens None) }
+        ensures refused { MatchResult result (λ _. refused self.old.sizes (set_demands global self.old.groups loc) ≡ None) (λ full. refused self.old.sizes (set_demands global self.old.groups loc) ≡ Some full) }
+        ensures ok { OnOk result (self.new ≡ record self.old { builds = drop 1 self.old.builds; groups = self.new.groups; lists = self.new.lists }) }
+        ensures sets { OnOk result (SetsList global self.old.groups self.new.groups (puts_held self.old) self.old.lists self.new.lists (first_list self.old.builds) loc) }
+        ensures err { OnErr result (self.new ≡ self.old) }
+        ensures macros { KeepsHeld self.old self.new }
+    {
+        self.table.recall();
+        self.set_room(global, loc)?;
+        let Some(build) = self.builds.pop() else {
+            unreachable!()
+        };
+        let list = Some(self.lists.finish(build));
+        assign(
+            &mut self.table,
+            &mut self.lists,
+            global,
+            loc,
+            Val::Tokens(list),
+        );
+        Ok(())
+    }
+
+    /// A location gets what stands at another: a list has a holder more then, and no word is taken.
+    ///
+    /// # Errors
+    /// The save stack is full; nothing has changed.
+    pub fn share_list(&mut self, loc: Loc, from: Loc, global: bool) -> Result<(), Full>
+        requires within { IsLocation self.old.groups loc }
+        requires from_within { IsLocation self.old.groups from }
+        requires suits { Suits loc (get self.old.groups.now from) }
+        requires list { IsTokens (get self.old.groups.now from) }
+        ensures refused { MatchResult result (λ _. refused self.old.sizes (set_demands global self.old.groups loc) ≡ None) (λ full. refused self.old.sizes (set_demands global self.old.groups loc) ≡ Some full) }
+        ensures ok { OnOk result (self.new ≡ record self.old { groups = set global self.old.groups loc (get self.old.groups.now from); lists = self.new.lists }) }
+        ensures err { OnErr result (self.new ≡ self.old) }
+        ensures macros { KeepsHeld self.old self.new }
+    {
+        self.set_room(global, loc)?;
+        self.table.recall();
+        let _from = self.table.get(from);
+        let value = self.table.shared(&mut self.lists, from);
+        assign(&mut self.table, &mut self.lists, global, loc, value);
+        Ok(())
+    }
+
+    /// A register of `\toks` or a token parameter gets a list without tokens, which is none.
+    ///
+    /// # Errors
+    /// The save stack is full; nothing has changed.
+    pub fn set_no_list(&mut self, loc: Loc, global: bool) -> Result<(), Full>
+        requires within { IsLocation self.old.groups loc }
+        requires suits { Suits loc (val.Tokens None) }
+        ensures refused { MatchResult result (λ _. refused self.old.sizes (set_demands global self.old.groups loc) ≡ None) (λ full. refused self.old.sizes (set_demands global self.old.groups loc) ≡ Some full) }
+        ensures ok { OnOk result (self.new ≡ record self.old { groups = set global self.old.groups loc (val.Tokens None); lists = self.new.lists }) }
+        ensures err { OnErr result (self.new ≡ self.old) }
+        ensures macros { KeepsHeld self.old self.new }
+    {
+        self.set_room(global, loc)?;
+        assign(
+            &mut self.table,
+            &mut self.lists,
+            global,
+            loc,
+            Val::Tokens(None),
+        );
+        Ok(())
+    }
+
     /// The category codes, by their characters.
     pub fn categories(&self) -> &[u8; 256]
         ensures { result.now ≡ self.now.groups.now.categories }
@@ -820,6 +942,15 @@ impl Held {
         ensures tokens { MatchOption result.1 (text_of self.now.lists self.now.groups.now.meanings name ≡ []) (λ r. tokens_at result.0.now (id_of r.now) ≡ text_of self.now.lists self.now.groups.now.meanings name) }
     {
         (&self.lists, self.table.list(name))
+    }
+
+    /// The list of tokens that stands at a location, if one does, and the memory in which all lists stand.
+    pub fn standing_list(&self, loc: Loc) -> (&Lists, Option<&ListRef>)
+        requires { IsLocation self.now.groups loc }
+        ensures held { IfSome result.1 (λ r. IsHeld result.0.now (id_of r.now)) }
+        ensures tokens { MatchOption result.1 (standing_tokens self.now.lists self.now.groups loc ≡ []) (λ r. tokens_at result.0.now (id_of r.now) ≡ standing_tokens self.now.lists self.now.groups loc) }
+    {
+        (&self.lists, standing(&self.table, loc))
     }
 
     /// Each list that a location or a saved value has, has a token. The call does nothing.
@@ -873,6 +1004,31 @@ impl Held {
             Ok(()) => Ok(()),
             Err((full, body, args)) => {
                 give_back(&mut self.lists, body, args);
+                Err(full)
+            }
+        }
+    }
+
+    /// Puts the list that stands at a location in front; where none stands, nothing changes. The list is shared, not copied.
+    ///
+    /// # Errors
+    /// The input stack is full, once the finished lists in front have gone; nothing else has changed.
+    pub fn put_list(&mut self, loc: Loc) -> Result<(), Full>
+        requires { IsLocation self.old.groups loc }
+        ensures refused { MatchResult result (λ _. call_refusal (standing_put self.old.lists self.old.groups loc) self.old ≡ None) (λ full. call_refusal (standing_put self.old.lists self.old.groups loc) self.old ≡ Some full) }
+        ensures ok { OnOk result (self.new ≡ record self.old { puts = called (standing_put self.old.lists self.old.groups loc) self.old.puts; lists = self.new.lists }) }
+        ensures err { OnErr result (self.new ≡ record self.old { puts = settled self.old.puts; lists = self.new.lists }) }
+        ensures macros { KeepsHeld self.old self.new }
+    {
+        let Some(list) = standing(&self.table, loc) else {
+            return Ok(());
+        };
+        self.table.recall();
+        let list = share(&mut self.lists, list);
+        match self.stack.push_shared(&mut self.lists, list) {
+            Ok(()) => Ok(()),
+            Err((full, list)) => {
+                let_go(&mut self.lists, list);
                 Err(full)
             }
         }

@@ -1,12 +1,12 @@
 // The input of a run.
-ghost use Rattle.std.specs.Prelude.{◌≡◌, ◌≢◌, ℕ, true, false, ◌≤◌, ◌<◌, ◌+◌, ◌^◌, ◌++◌, [], ◌∷◌, None, Some, IsSome, IfSome, IsTrue, IfOk, IfErr, OnOk, OnErr, MatchResult, MatchBool, MatchOption, length, drop, replicate, vec_capacity, slice_index_or, pos};
+ghost use Rattle.std.specs.Prelude.{◌≡◌, ◌≢◌, ℕ, true, false, ◌≤◌, ◌<◌, ◌+◌, ◌^◌, ◌++◌, [], ◌∷◌, None, Some, IsSome, IfSome, IsTrue, IfOk, IfErr, OnOk, OnErr, MatchResult, MatchBool, MatchOption, length, drop, replicate, vec_capacity, slice_index_or, pos, map};
 ghost use Rattle.std.specs.Bool.{OnTrue};
 ghost use Rattle.std.specs.Option.{option_map};
 ghost use Rattle.tex_defs.specs.Sizes.{first_out_of_range};
 ghost use Rattle.plain_tokens.specs.Tokens.{character_codes};
 ghost use Rattle.plain_tokens.specs.Meanings.{is_listed, location, name_meaning, seen, met, meaning_to_let};
 ghost use Rattle.equivalents.specs.declared.values.Val.TheVariants as val;
-ghost use Rattle.equivalents.specs.Locations.{Suits, value_seen};
+ghost use Rattle.equivalents.specs.Locations.{Suits, IsTokens, value_seen};
 ghost use Rattle.equivalents.specs.Tables.{get};
 ghost use Rattle.equivalents.specs.Groups.{first_groups, entered, set, set_name, set_demands, name_demands, group_demands, token_demands, opened, with_token, closed as group_closed, tokens_after, kind_of, depth, IsLocation};
 ghost use Rattle.equivalents.specs.Holding.{lists_held, lists_outside};
@@ -35,6 +35,8 @@ ghost use Rattle.input_state.specs.NextBytes.{KnowsNext, NeedsBytes, KnowsFirst,
 ghost use Rattle.input_state.specs.Counted.{AreCounted};
 ghost use Rattle.input_state.specs.Stored.{KeepsMacros, call_refusal, put_refusal, words, spelt};
 ghost use Rattle.input_state.specs.Walks.{to_come};
+ghost use Rattle.input_state.specs.Standing.{SetsList, AppendsShort, standing_put, standing_tokens, appended, appended_made, with_appended, with_appended_made};
+ghost use Rattle.equivalents.specs.Cases.{case_codes, case_changed};
 ghost use Rattle.equivalents.specs.Parameters.{integer_in, end_of_line};
 ghost use Rattle.input_state.specs.declared.answer.Pulled.TheVariants as answer;
 ghost use Rattle.input_state.specs.Reads.{GivesTo, TakesLine, Pulls, pull_refusal, RefusesLine, gives_step};
@@ -178,6 +180,21 @@ impl Input {
         self.held.grow_list(token)
     }
 
+    /// The innermost gathered list gets the tokens of the list that stands at a location. *TeX: The Program*, part 27 (`the_toks`).
+    ///
+    /// # Errors
+    /// The main memory is full: some of the tokens are there, from the first on, and nothing else has changed.
+    pub fn copy_list(&mut self, loc: Loc) -> Result<(), Full>
+        requires some { self.old.builds ≢ [] }
+        requires within { IsLocation self.old.groups loc }
+        ensures ok { OnOk result (self.new ≡ record self.old { builds = appended (standing_tokens self.old.lists self.old.groups loc) self.old.builds; lists = self.new.lists }) }
+        ensures fits { OnOk result (words self.old + length (standing_tokens self.old.lists self.old.groups loc) ≤ self.old.sizes.main_memory_size) }
+        ensures err { IfErr result (λ full. AppendsShort with_appended (standing_tokens self.old.lists self.old.groups loc) self.old self.new full) }
+        ensures macros { KeepsMacros self.old self.new }
+    {
+        self.held.copy_list(loc)
+    }
+
     /// The innermost gathered list goes.
     pub fn drop_list(&mut self)
         requires { self.old.builds ≢ [] }
@@ -314,6 +331,22 @@ impl Input {
         ensures macros { KeepsMacros self.old self.new }
     {
         self.held.grow_made(token)
+    }
+
+    /// The list that is made gets the tokens of the innermost gathered list, its characters as capital letters, or as small ones.
+    /// *TeX: The Program*, part 49 (`shift_case`).
+    ///
+    /// # Errors
+    /// The main memory is full: some of the tokens are there, from the first on, and nothing else has changed.
+    pub fn grow_changed(&mut self, upper: bool) -> Result<(), Full>
+        requires some { self.old.builds ≢ [] }
+        requires making { IsSome self.old.making }
+        ensures ok { OnOk result (self.new ≡ record self.old { making = appended_made (map (case_changed (case_codes upper self.old.groups.now)) (first_list self.old.builds)) self.old.making; lists = self.new.lists }) }
+        ensures fits { OnOk result (words self.old + length (map (case_changed (case_codes upper self.old.groups.now)) (first_list self.old.builds)) ≤ self.old.sizes.main_memory_size) }
+        ensures err { IfErr result (λ full. AppendsShort with_appended_made (map (case_changed (case_codes upper self.old.groups.now)) (first_list self.old.builds)) self.old self.new full) }
+        ensures macros { KeepsMacros self.old self.new }
+    {
+        self.held.grow_changed(upper)
     }
 
     /// The list that is made goes.
@@ -750,6 +783,58 @@ impl Input {
         self.held.set_glue(loc, glue, global)
     }
 
+    /// A location gets the innermost gathered list, which has a token. The list that stood there is let go, or saved for the
+    /// group's end. *The TeXbook*, chapter 24; *TeX: The Program*, part 49.
+    ///
+    /// # Errors
+    /// The save stack is full; nothing has changed.
+    pub fn set_list(&mut self, loc: Loc, global: bool) -> Result<(), Full>
+        requires some { self.old.builds ≢ [] }
+        requires list { IsDefined (first_list self.old.builds) }
+        requires within { IsLocation self.old.groups loc }
+        requires suits { Suits loc (val.Tokens None) }
+        ensures refused { MatchResult result (λ _. refused self.old.sizes (set_demands global self.old.groups loc) ≡ None) (λ full. refused self.old.sizes (set_demands global self.old.groups loc) ≡ Some full) }
+        ensures ok { OnOk result (self.new ≡ record self.old { builds = drop 1 self.old.builds; groups = self.new.groups; lists = self.new.lists }) }
+        ensures sets { OnOk result (SetsList global self.old.groups self.new.groups (all_puts self.old.pending) self.old.lists self.new.lists (first_list self.old.builds) loc) }
+        ensures err { OnErr result (self.new ≡ self.old) }
+        ensures macros { KeepsMacros self.old self.new }
+    {
+        self.held.set_list(loc, global)
+    }
+
+    /// A location gets what stands at another: a list has a holder more then, and no word is taken. *The TeXbook*, chapter
+    /// 24; *TeX: The Program*, part 49 (`prefixed_command`).
+    ///
+    /// # Errors
+    /// The save stack is full; nothing has changed.
+    pub fn share_list(&mut self, loc: Loc, from: Loc, global: bool) -> Result<(), Full>
+        requires within { IsLocation self.old.groups loc }
+        requires from_within { IsLocation self.old.groups from }
+        requires suits { Suits loc (get self.old.groups.now from) }
+        requires list { IsTokens (get self.old.groups.now from) }
+        ensures refused { MatchResult result (λ _. refused self.old.sizes (set_demands global self.old.groups loc) ≡ None) (λ full. refused self.old.sizes (set_demands global self.old.groups loc) ≡ Some full) }
+        ensures ok { OnOk result (self.new ≡ record self.old { groups = set global self.old.groups loc (get self.old.groups.now from); lists = self.new.lists }) }
+        ensures err { OnErr result (self.new ≡ self.old) }
+        ensures macros { KeepsMacros self.old self.new }
+    {
+        self.held.share_list(loc, from, global)
+    }
+
+    /// A register of `\toks` or a token parameter gets a list without tokens, which is none.
+    ///
+    /// # Errors
+    /// The save stack is full; nothing has changed.
+    pub fn set_no_list(&mut self, loc: Loc, global: bool) -> Result<(), Full>
+        requires within { IsLocation self.old.groups loc }
+        requires suits { Suits loc (val.Tokens None) }
+        ensures refused { MatchResult result (λ _. refused self.old.sizes (set_demands global self.old.groups loc) ≡ None) (λ full. refused self.old.sizes (set_demands global self.old.groups loc) ≡ Some full) }
+        ensures ok { OnOk result (self.new ≡ record self.old { groups = set global self.old.groups loc (val.Tokens None); lists = self.new.lists }) }
+        ensures err { OnErr result (self.new ≡ self.old) }
+        ensures macros { KeepsMacros self.old self.new }
+    {
+        self.held.set_no_list(loc, global)
+    }
+
     /// Opens a group. Nothing is copied. *The TeXbook*, chapter 24; *TeX: The Program*, part 19 (`new_save_level`).
     ///
     /// # Errors
@@ -862,6 +947,15 @@ impl Input {
         self.held.macro_list(name)
     }
 
+    /// The list of tokens that stands at a location, if one does, and the memory in which all lists stand.
+    pub fn standing_list(&self, loc: Loc) -> (&Lists, Option<&ListRef>)
+        requires { IsLocation self.now.groups loc }
+        ensures held { IfSome result.1 (λ r. IsHeld result.0.now (id_of r.now)) }
+        ensures tokens { MatchOption result.1 (standing_tokens self.now.lists self.now.groups loc ≡ []) (λ r. tokens_at result.0.now (id_of r.now) ≡ standing_tokens self.now.lists self.now.groups loc) }
+    {
+        self.held.standing_list(loc)
+    }
+
     /// Each list that a location or a saved value has, has a token. The call does nothing.
     pub fn macros_are_lists(&self)
         ensures { (id : ℕ) → is_listed (lists_held self.now.groups) id ≡ true → IsDefined (list_at self.now.lists id) }
@@ -898,6 +992,21 @@ impl Input {
         ensures macros { KeepsMacros self.old self.new }
     {
         self.held.call_macro(name)
+    }
+
+    /// Puts the list that stands at a location in front of all that is pending; where none stands, nothing changes. The
+    /// list is shared, not copied. *TeX: The Program*, part 27 (`ins_the_toks`).
+    ///
+    /// # Errors
+    /// The input stack is full, once the finished lists in front have gone; nothing else has changed.
+    pub fn put_list(&mut self, loc: Loc) -> Result<(), Full>
+        requires { IsLocation self.old.groups loc }
+        ensures refused { MatchResult result (λ _. call_refusal (standing_put self.old.lists self.old.groups loc) self.old ≡ None) (λ full. call_refusal (standing_put self.old.lists self.old.groups loc) self.old ≡ Some full) }
+        ensures ok { OnOk result (self.new ≡ record self.old { pending = after_call (standing_put self.old.lists self.old.groups loc) self.old.pending; lists = self.new.lists }) }
+        ensures err { OnErr result (self.new ≡ record self.old { pending = settle self.old.pending; lists = self.new.lists }) }
+        ensures macros { KeepsMacros self.old self.new }
+    {
+        self.held.put_list(loc)
     }
 
     /// A call of a macro with a parameter text begins: its arguments are gathered. Where the text begins with a place, the

@@ -1,15 +1,13 @@
 use Rattle.std.proofs.Common.{◌≡◌, ◌<◌, ◌+◌, ◌∙◌, sym, ap, refl, arith, length, ℕ, List, [], map}
 use Rattle.tex_defs.specs.declared.Token.{Token}
 use Rattle.token_lists.specs.Ids.{id_of}
-use Rattle.token_lists.specs.Accounts.{holds}
 use Rattle.token_lists.specs.Table.{tokens_at}
-use Rattle.input_stack.specs.declared.level.Level.TheVariants as level
 use Rattle.input_stack.specs.Pending.{room, refusal}
 use Rattle.input_stack.specs.Puts.{Text}
 use Rattle.input_stack.specs.View.{innermost, pending, held}
 use Rattle.input_stack.proofs.Kept.{holds_itself}
 use Rattle.input_stack.proofs.Pushed.{no_tokens, some_tokens, empty_ok, empty_read, refused, used_is, room_left, put_tokens, put_ok, put_read, put_moves}
-use Rattle.input_stack.proofs.stack.InputStack.push_list.Goals as goal
+use Rattle.input_stack.proofs.stack.InputStack.push.Goals as goal
 
 pub drop_finished-requires : goal.drop_finished-requires
 drop_finished-requires c = c.requires.stands
@@ -19,9 +17,6 @@ full-requires c = c.drop_finished.ensures.stands.fits
 
 pub put-requires-clause-fits : goal.put-requires-clause-fits
 put-requires-clause-fits c = c.drop_finished.ensures.stands.fits
-
-pub put-requires-clause-closed : goal.put-requires-clause-closed
-put-requires-clause-closed c = refl
 
 pub returns-then-is_none-clause-err : goal.returns-then-is_none-clause-err
 returns-then-is_none-clause-err c = tt
@@ -68,13 +63,13 @@ first-requires c = omega (arith, c.requires.held (id_of c.args.list), holds_itse
 pub let_go-requires : goal.let_go-requires
 let_go-requires c = omega (arith, c.requires.held (id_of c.args.list), holds_itself (id_of c.args.list))
 
-pub new-reader-requires : goal.new-reader-requires
-new-reader-requires c =
+pub list_level-level-requires : goal.list_level-level-requires
+list_level-level-requires c =
     let n = id_of c.args.list in
     omega (arith, c.requires.held n, holds_itself n, c.drop_finished.ensures.account n)
 
 pub put-requires-clause-few : goal.put-requires-clause-few
-put-requires-clause-few c = omega (arith, c.drop_finished.ensures.stands.fits.few)
+put-requires-clause-few c = omega (arith, c.drop_finished.ensures.stands.fits.few, c.list_level-level.ensures.no_arguments)
 
 pub returns-then-is_none-clause-account : goal.returns-then-is_none-clause-account
 returns-then-is_none-clause-account c = λ h. omega (arith, c.let_go.ensures.account h)
@@ -121,7 +116,7 @@ pub returns-then-is_none-clause-ok : goal.returns-then-is_none-clause-ok
 returns-then-is_none-clause-ok c =
     let n = id_of c.args.list in
     let t = c.args.lists.now in
-    empty_ok t c.let_go.new.lists n (innermost c.args.self.now) (tokens_at t n) c.requires.held c.let_go.ensures.account c.let_go.ensures.kept (no_tokens c.first.result c.is_none.result (tokens_at t n) c.is_none.ensures c.if-is_none.true c.first.ensures.ends)
+    empty_ok c.args.shared t c.let_go.new.lists n (innermost c.args.self.now) (tokens_at t n) c.requires.held c.let_go.ensures.account c.let_go.ensures.kept (no_tokens c.first.result c.is_none.result (tokens_at t n) c.is_none.ensures c.if-is_none.true c.first.ensures.ends)
 
 pub returns-in-Some-clause-refused : goal.returns-in-Some-clause-refused
 returns-in-Some-clause-refused c =
@@ -156,12 +151,11 @@ put-requires-clause-room c =
 
 pub returns-clause-stands : goal.returns-clause-stands
 returns-clause-stands c =
-    let t = c.args.lists.now in
     let s = c.drop_finished.new.self in
-    let u = c.put.new.self in
     let e = c.drop_finished.ensures in
+    let l = c.list_level-level.ensures in
     record {
-      read = put_read t c.drop_finished.new.lists (level.List c.new-reader.result) (innermost u) (innermost s) (held c.args.self.now) c.put.ensures.list c.new-reader.ensures.at_front e.stands.read e.unfinished (λ h. omega (arith, c.requires.held h, ap (λ (n : ℕ). holds n h) c.new-reader.ensures.same)) e.account;
+      read = put_read c.args.lists.now c.drop_finished.new.lists c.list_level-level.result (innermost c.put.new.self) (innermost s) (held c.args.self.now) c.put.ensures.list l.stands e.stands.read e.unfinished (λ h. omega (arith, c.requires.held h, l.held h)) e.account;
       fits = c.put.ensures.fits;
     }
 
@@ -170,16 +164,13 @@ returns-clause-ok c =
     let n = id_of c.args.list in
     let t = c.args.lists.now in
     let s = c.drop_finished.new.self in
-    let u = c.put.new.self in
     let e = c.drop_finished.ensures in
     let some : 0 < length (tokens_at t n) = some_tokens c.first.result c.is_none.result (tokens_at t n) c.is_none.ensures c.if-is_none.false c.first.ensures.ends in
-    let same = put_tokens t c.drop_finished.new.lists n (held c.args.self.now) c.requires.held e.kept in
-    put_ok c.drop_finished.new.lists c.new-reader.result n (tokens_at t n) (innermost u) (innermost s) (pending t c.args.self.now) c.put.ensures.list c.new-reader.ensures.same (c.new-reader.ensures.whole ∙ same) some e.after
+    put_ok c.args.shared c.drop_finished.new.lists c.list_level-level.result n (tokens_at c.drop_finished.new.lists n) (tokens_at t n) (innermost c.put.new.self) (innermost s) (pending t c.args.self.now) c.put.ensures.list (c.list_level-level.ensures.put (innermost s)) (put_tokens t c.drop_finished.new.lists n (held c.args.self.now) c.requires.held e.kept) some e.after
 
 pub returns-clause-account : goal.returns-clause-account
 returns-clause-account c = λ h.
-    let e = c.drop_finished.ensures in
-    omega (arith, put_moves c.args.lists.now c.drop_finished.new.lists (level.List c.new-reader.result) (innermost c.put.new.self) (innermost c.drop_finished.new.self) (held c.args.self.now) c.put.ensures.list e.account h, ap (λ (n : ℕ). holds n h) c.new-reader.ensures.same)
+    omega (arith, put_moves c.args.lists.now c.drop_finished.new.lists c.list_level-level.result (innermost c.put.new.self) (innermost c.drop_finished.new.self) (held c.args.self.now) c.put.ensures.list c.drop_finished.ensures.account h, c.list_level-level.ensures.held h)
 
 pub returns-then-is_none-clause-tokens : goal.returns-then-is_none-clause-tokens
 returns-then-is_none-clause-tokens c = λ some.

@@ -1,0 +1,19 @@
+use Rattle.std.proofs.Common.{◌∙◌, ap}
+use Rattle.input_state.specs.Standing.{standing_put}
+use Rattle.input_state.specs.Stored.{Stored, call_refusal}
+use Rattle.input_state.proofs.Joined.{keeps, call_refused, refused_same}
+use Rattle.input_state.proofs.state.Input.put_list.Goals as goal
+
+pub returns-clause-macros : goal.returns-clause-macros
+returns-clause-macros c =
+    let i = c.self.inside in
+    keeps i.held c.put_list.new.self i.buffer.items i.buffer.items i.files i.files c.args.self.now c.self.view_is c.put_list.ensures.macros
+
+pub returns-clause-refused : goal.returns-clause-refused
+returns-clause-refused c =
+    let i = c.self.inside in
+    let s = c.args.self.now in
+    let same =
+    call_refused i.held i.buffer.items i.files s c.self.view_is c.self.invariant (standing_put i.held.lists i.held.groups c.args.loc)
+    ∙ ap (λ (v : Stored). call_refusal (standing_put v.lists v.groups c.args.loc) s) c.self.view_is in
+    refused_same c.put_list.result _ _ same c.put_list.ensures.refused

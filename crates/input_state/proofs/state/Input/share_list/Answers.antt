@@ -1,0 +1,7 @@
+use Rattle.input_state.proofs.Joined.{keeps}
+use Rattle.input_state.proofs.state.Input.share_list.Goals as goal
+
+pub returns-clause-macros : goal.returns-clause-macros
+returns-clause-macros c =
+    let i = c.self.inside in
+    keeps i.held c.share_list.new.self i.buffer.items i.buffer.items i.files i.files c.args.self.now c.self.view_is c.share_list.ensures.macros
