@@ -1,6 +1,7 @@
 pub mod Uncalled
 pub mod CallKept
 pub mod Cells
+pub mod Changing
 pub mod Checking
 pub mod CheckingMoves
 pub mod CheckingNotes
@@ -13,6 +14,8 @@ pub mod Joining
 pub mod GroupEnds
 pub mod Grouping
 pub mod Known
+pub mod ListsCopied
+pub mod ListsGiven
 pub mod MadeTexts
 pub mod ValueTexts
 pub mod MeaningTexts
@@ -24,6 +27,7 @@ pub mod ReadingEnds
 pub mod ReadingsFed
 pub mod ReadingsOpened
 pub mod Reporting
+pub mod SharedPut
 pub mod Showing
 pub mod Standing
 pub mod Stopping

@@ -1,8 +1,8 @@
 -- A made text that is put in front.
-use Rattle.std.proofs.Common.{◌≡◌, ℕ, ◌+◌, ◌<◌, ◌≤◌, List, [], ◌∷◌, ◌++◌, length, take, drop, get_or, map, refl, sym, ap, ◌∙◌, subst, append_assoc, append-nil, add-one, take_all}
+use Rattle.std.proofs.Common.{◌≡◌, ℕ, ◌+◌, ◌<◌, ◌≤◌, List, [], ◌∷◌, ◌++◌, length, take, drop, get_or, map, refl, sym, ap, ◌∙◌, subst, append_assoc, append-nil, add-one, take_all, arith}
 use Rattle.std.specs.Prelude.{Option, Some, None, IsSome}
 use Rattle.std.proofs.Math.Seq.{take-suc}
-use Rattle.std.proofs.lemmas.List.{map-append, take-append-drop}
+use Rattle.std.proofs.lemmas.List.{length-append, map-append, take-append-drop}
 use Rattle.tex_defs.specs.declared.Token.{Token}
 use Rattle.tex_defs.specs.declared.Sizes.{Sizes}
 use Rattle.tex_defs.specs.declared.Full.{Full}
@@ -18,14 +18,16 @@ use Rattle.plain_machine.specs.Numbers.{pending_of}
 use Rattle.plain_machine.specs.Does.{Did}
 use Rattle.plain_machine.proofs.Doing.{did_join, did_one, did_none}
 use Rattle.plain_machine.proofs.Renumbering.{settle_of, level_of, put_front_of}
+use Rattle.input_state.specs.Standing.{appended_made, AppendsShort, with_appended_made}
 use Rattle.input_state.specs.Stored.{Stored, KeepsMacros, words as stored_words}
 use Rattle.input_state.specs.HeldLists.{made as made_list}
+use Rattle.input_state.proofs.Refusing.{memory_room}
 use Rattle.engine_state.specs.Steps.{pending_weight}
 use Rattle.engine_state.specs.declared.broken.Broken.{Broken}
 use Rattle.engine_state.specs.declared.broken.Broken.TheVariants as broken
 use Rattle.engine_state.specs.declared.engine.Engine.{Engine}
 use Rattle.engine_state.specs.Book.{Book}
-use Rattle.engine_state.specs.Making.{grown_with, HasGrown, GrowsNot, IsInFront}
+use Rattle.engine_state.specs.Making.{HasGrown, GrowsNot, IsInFront}
 use Rattle.engine_state.specs.Stands.{IsSound, SameStore, state_of, page_of}
 use Rattle.engine_state.specs.Rules.{Cuts}
 use Rattle.engine_state.proofs.Cutting.{cuts_by, later_cuts, full_cuts}
@@ -51,24 +53,24 @@ module _ (sizes : Sizes) (e : Engine) (w : World) (book : Book) where
 
 -- THE LIST GROWS
 
-with_none : (o : Option (List Token)) → grown_with [] o ≡ o
+with_none : (o : Option (List Token)) → appended_made [] o ≡ o
 with_none None = refl
 with_none (Some ts) = ap (λ (us : List Token). Some us) (append-nil ts)
 
-with_one : (t : Token) (o : Option (List Token)) → grown_by t o ≡ grown_with (t ∷ []) o
+with_one : (t : Token) (o : Option (List Token)) → grown_by t o ≡ appended_made (t ∷ []) o
 with_one t None = refl
 with_one t (Some ts) = refl
 
-with_both : (ts us : List Token) (o : Option (List Token)) → grown_with us (grown_with ts o) ≡ grown_with (ts ++ us) o
+with_both : (ts us : List Token) (o : Option (List Token)) → appended_made us (appended_made ts o) ≡ appended_made (ts ++ us) o
 with_both ts us None = refl
 with_both ts us (Some before) = ap (λ (vs : List Token). Some vs) (append_assoc before ts us)
 
-pub with_some : (ts : List Token) (o : Option (List Token)) → IsSome o → IsSome (grown_with ts o)
+pub with_some : (ts : List Token) (o : Option (List Token)) → IsSome o → IsSome (appended_made ts o)
 with_some ts None h = cc
 with_some ts (Some us) h = h
 
 growth_store : (i j : Stored) (ts : List Token) → HasGrown i j ts → SameStore i j
-growth_store i j ts h = store_making i j (grown_with ts i.making) h.is h.macros
+growth_store i j ts h = store_making i j (appended_made ts i.making) h.is h.macros
 
 pub grown_none : (i : Stored) → HasGrown i i []
 grown_none i = record {
@@ -97,7 +99,7 @@ module _ (i j k : Stored) (ts us : List Token) (h : HasGrown i j ts) where
 
   pub grown_both : HasGrown j k us → HasGrown i k (ts ++ us)
   grown_both g = record {
-    is = g.is ∙ ap (λ (x : Stored). record x { making = grown_with us x.making; lists = k.lists }) h.is ∙ ap (λ (o : Option (List Token)). record i { making = o; lists = k.lists }) (with_both ts us i.making);
+    is = g.is ∙ ap (λ (x : Stored). record x { making = appended_made us x.making; lists = k.lists }) h.is ∙ ap (λ (o : Option (List Token)). record i { making = o; lists = k.lists }) (with_both ts us i.making);
     macros = (store_join i j k (growth_store i j ts h) (growth_store j k us g)).lists;
     did = λ sizes e w book sound.
         subst (λ (ms : List Move). Did sizes (state_of (record e { input = i }) book) (state_of (record e { input = k }) book) w w ms) (sym (map-append ListGrown ts us))
@@ -126,6 +128,39 @@ first_not i k ts us full g = record {
 
 pub not_by : (i k : Stored) (ts us : List Token) (full : Full) → us ≡ ts → GrowsNot i k ts full → GrowsNot i k us full
 not_by i k ts us full is g = subst (λ (x : List Token). GrowsNot i k x full) (sym is) g
+
+-- ALL OF THESE TOKENS AT ONCE
+
+-- one word more
+one_more : (i : Stored) (t : Token) → IsSome i.making → stored_words (record i { making = grown_by t i.making }) ≡ stored_words i + 1
+one_more i t some = by_making i.making some where
+  by_making : (o : Option (List Token)) → IsSome o → stored_words (record i { making = grown_by t o }) ≡ stored_words (record i { making = o }) + 1
+  by_making None h = cc
+  by_making (Some us) h = omega (arith, length-append us (t ∷ []))
+
+grown_whole : (ts : List Token) (i : Stored) → IsSome i.making → stored_words i + length ts ≤ i.sizes.main_memory_size → HasGrown i (record i { making = appended_made ts i.making }) ts
+grown_whole [] i some fits = subst (λ (o : Option (List Token)). HasGrown i (record i { making = o }) []) (sym (with_none i.making)) (grown_none i)
+grown_whole (t ∷ ts) i some fits =
+    let j : Stored = record i { making = grown_by t i.making } in
+    let one : appended_made (t ∷ []) i.making ≡ j.making = sym (with_one t i.making) in
+    let first : HasGrown i j (t ∷ []) = grown_one i j t refl (store_same i).lists (memory_room i.sizes (stored_words i) 1 (omega (arith, fits))) in
+    let rest : HasGrown j (record j { making = appended_made ts j.making }) ts = grown_whole ts j (subst IsSome one (with_some (t ∷ []) i.making some)) (omega (arith, fits, one_more i t some)) in
+    let joined : appended_made ts j.making ≡ appended_made (t ∷ ts) i.making = ap (appended_made ts) (with_one t i.making) ∙ with_both (t ∷ []) ts i.making in
+    subst (λ (o : Option (List Token)). HasGrown i (record i { making = o }) (t ∷ ts)) joined (grown_both i j (record j { making = appended_made ts j.making }) (t ∷ []) ts first rest)
+
+pub grown_at_once : (i j : Stored) (ts : List Token) → j ≡ record i { making = appended_made ts i.making; lists = j.lists } → KeepsMacros i j → IsSome i.making → stored_words i + length ts ≤ i.sizes.main_memory_size → HasGrown i j ts
+grown_at_once i j ts is kept some fits = record {
+  is = is;
+  macros = kept;
+  did = λ sizes e w book sound. subst (λ (x : Stored). Did sizes (state_of (record e { input = i }) book) (state_of (record e { input = x }) book) w w (map ListGrown ts)) (sym is) ((grown_whole ts i some fits).did sizes e w book sound);
+}
+
+-- one of them has no room
+pub short_not : (i j : Stored) (ts : List Token) (full : Full) → AppendsShort with_appended_made ts i j full → KeepsMacros i j → IsSome i.making → GrowsNot i j ts full
+short_not i j ts full h kept some =
+    let front : HasGrown i j h.front = grown_at_once i j h.front h.after kept some h.fits in
+    not_by i j ((h.front ++ h.next ∷ []) ++ h.rest) ts full (h.split ∙ sym (append_assoc h.front (h.next ∷ []) h.rest))
+    (first_not i j (h.front ++ h.next ∷ []) h.rest full (later_not i j j h.front (h.next ∷ []) front full (grown_not j j h.next full refl h.refused_then)))
 
 -- A TEXT, CHARACTER BY CHARACTER
 
@@ -283,7 +318,7 @@ some_made None h = cc
 some_made (Some ts) h = refl
 
 pub made_with : (i j : Stored) (ts : List Token) → i.making ≡ Some [] → HasGrown i j ts → j.making ≡ Some ts
-made_with i j ts empty h = ap (λ (x : Stored). x.making) h.is ∙ ap (grown_with ts) empty
+made_with i j ts empty h = ap (λ (x : Stored). x.making) h.is ∙ ap (appended_made ts) empty
 
 -- A TEXT IN FRONT, of an engine whose list is begun and grows to it
 module _ (e e1 : Engine) (i2 : Stored) (ts : List Token) (begun : e1.input.making ≡ Some []) (front : IsInFront e e1) (same : e1.input.pending ≡ settle e.input.pending) where
@@ -292,7 +327,7 @@ module _ (e e1 : Engine) (i2 : Stored) (ts : List Token) (begun : e1.input.makin
     grown_making = made_with e1.input i2 ts begun grown
 
     pub grown_front : IsInFront e (with_input e1 i2)
-    grown_front = front_join e e1 (with_input e1 i2) front (making_front e1 i2 (grown_with ts e1.input.making) grown.is grown.macros)
+    grown_front = front_join e e1 (with_input e1 i2) front (making_front e1 i2 (appended_made ts e1.input.making) grown.is grown.macros)
 
     pub grown_settled : i2.pending ≡ settle i2.pending
     grown_settled = settled_still e.input.pending i2.pending (ap (λ (x : Stored). x.pending) grown.is ∙ same)

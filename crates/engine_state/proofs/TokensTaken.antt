@@ -136,7 +136,7 @@ no_cut sizes book g full e e' sound kept cut room =
 -- WHAT THE MACHINE DOES
 
 module _ (sizes : Sizes) (book : Book) (w : World) where
-  grow_did : (e e' : Engine) (t : Token) → e' ≡ listed e (grow_first t e.input.builds) e'.input.lists → (e.input.builds ≡ [] → ⊥) → e.input.call ≡ NotCalling → IsSound sizes e book.number book.macros → refused e.input.sizes (memory 1 (stored_words e.input) ∷ []) ≡ None →
+  pub grow_did : (e e' : Engine) (t : Token) → e' ≡ listed e (grow_first t e.input.builds) e'.input.lists → (e.input.builds ≡ [] → ⊥) → e.input.call ≡ NotCalling → IsSound sizes e book.number book.macros → refused e.input.sizes (memory 1 (stored_words e.input) ∷ []) ≡ None →
       Did sizes (state_of e book) (state_of e' book) w w (Grows t ∷ [])
   grow_did e e' t is list none sound fits =
       let grown : Engine = listed e (grow_first t e.input.builds) e'.input.lists in

@@ -1,8 +1,22 @@
--- The text of glue, put part by part.
-use Rattle.std.proofs.Common.{◌≡◌, ℕ, List, [], ◌++◌, append_assoc, codes, Bool}
+-- What stands at a location that is there, and the text of glue, put part by part.
+use Rattle.std.proofs.Common.{◌≡◌, ℕ, List, [], ◌++◌, append_assoc, arith, codes, Bool}
+use Rattle.std.proofs.lemmas.Bool.Decides.{nat_tests}
+use Rattle.equivalents.specs.declared.values.Loc.{Loc}
+use Rattle.equivalents.specs.declared.values.Loc.TheVariants as loc
+use Rattle.equivalents.specs.Groups.{Groups, IsLocation}
 use Rattle.equivalents.specs.declared.values.Glue.{Glue}
 use Rattle.plain_tokens.specs.Numerals.{scaled}
-use Rattle.rows.specs.Internal.{finite_unit, glue_part, glue_text}
+use Rattle.rows.specs.Internal.{finite_unit, glue_part, glue_text, IsFetchable}
+
+-- what may be fetched is a location
+pub fetchable : (g : Groups) (l : Loc) → IsFetchable l → IsLocation g l
+fetchable g (loc.Code kind c) h = grind (arith, nat_tests, h)
+fetchable g (loc.Integer i) h = grind (arith, nat_tests, h)
+fetchable g (loc.Dimension i) h = grind (arith, nat_tests, h)
+fetchable g (loc.Glue i) h = grind (arith, nat_tests, h)
+fetchable g (loc.Register kind n) h = grind (arith, nat_tests, h)
+fetchable g (loc.Tokens i) h = grind (arith, nat_tests, h)
+fetchable g (loc.Means n) h = absurd cc
 
 parts : (w x y z : List ℕ) → ((w ++ x) ++ y) ++ z ≡ w ++ (x ++ (y ++ z))
 parts w x y z = simp append_assoc

@@ -5,6 +5,7 @@ pub mod Entering
 pub mod Faults
 pub mod Feeding
 pub mod First
+pub mod Lists
 pub mod Making
 pub mod CutReadings
 pub mod Rules

@@ -1,5 +1,5 @@
 -- The list that is made grows.
-use Rattle.std.specs.Prelude.{◌≡◌, ℕ, List, [], ◌++◌, map, Option, None, Some, if◌then◌else◌}
+use Rattle.std.specs.Prelude.{◌≡◌, ℕ, Bool, List, [], ◌++◌, map, if◌then◌else◌}
 use Rattle.tex_defs.specs.Places.{World}
 use Rattle.tex_defs.specs.declared.Full.{Full}
 use Rattle.tex_defs.specs.declared.Sizes.{Sizes}
@@ -9,13 +9,16 @@ use Rattle.plain_tokens.specs.Numerals.{whole_number, roman}
 use Rattle.plain_tokens.specs.Printed.{meaning_text}
 use Rattle.plain_state.specs.Reports.{string_text}
 use Rattle.equivalents.specs.declared.values.Loc.{Loc}
+use Rattle.equivalents.specs.Cases.{case_codes, case_changed}
 use Rattle.equivalents.specs.Locations.{value_seen}
 use Rattle.equivalents.specs.Tables.{Tables, get}
 use Rattle.rows.specs.Internal.{is_fetchable, value_text}
 use Rattle.plain_machine.specs.Plan.{Page, style_of, job_in, meaning_characters, macro_tokens}
 use Rattle.plain_machine.specs.States.{Move, ListGrown}
 use Rattle.plain_machine.specs.Does.{Did}
+use Rattle.input_state.specs.Standing.{appended_made}
 use Rattle.input_state.specs.Stored.{Stored, KeepsMacros}
+use Rattle.reading_frames.specs.Sees.{kept_list_of}
 use Rattle.engine_state.specs.declared.broken.Broken.TheVariants as broken
 use Rattle.engine_state.specs.declared.engine.Engine.{Engine}
 use Rattle.engine_state.specs.declared.text.Made.{Made}
@@ -25,14 +28,9 @@ use Rattle.engine_state.specs.Stands.{IsSound, SameFrames, SameOthers, SameStore
 use Rattle.engine_state.specs.Steps.{pending_weight}
 use Rattle.engine_state.specs.Rules.{Cuts}
 
--- by these tokens
-abbrev pub grown_with : List Token → Option (List Token) → Option (List Token)
-grown_with ts None = None
-grown_with ts (Some us) = Some (us ++ ts)
-
 -- it has grown by them
 pub record HasGrown (i j : Stored) (ts : List Token) : Type 0 where
-  pub is : j ≡ record i { making = grown_with ts i.making; lists = j.lists }
+  pub is : j ≡ record i { making = appended_made ts i.making; lists = j.lists }
   pub macros : KeepsMacros i j
   pub did : (sizes : Sizes) (e : Engine) (w : World) (book : Book) → IsSound sizes (record e { input = i }) book.number book.macros →
       Did sizes (state_of (record e { input = i }) book) (state_of (record e { input = j }) book) w w (map ListGrown ts)
@@ -75,3 +73,9 @@ characters_in e (make.Roman n) = roman n
 characters_in e (make.Spelling t) = string_text (own_style e) t
 characters_in e (make.Meaning x) = meaning_text (own_style e) (macro_tokens e.input.lists) (meaning_to_let e.input.groups.now.meanings x)
 characters_in e (make.Value l) = text_at e.input.groups.now l
+
+-- THE CASE OF CHARACTERS
+
+-- the list on top, if it is listed, as `\uppercase` or `\lowercase` changes it
+abbrev pub changed_list : (upper listed : Bool) → Stored → List Token
+changed_list upper listed i = map (case_changed (case_codes upper i.groups.now)) (kept_list_of listed i.builds)

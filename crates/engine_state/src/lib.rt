@@ -11,6 +11,7 @@ mod engine;
 mod files;
 mod front;
 mod groups;
+mod lists;
 mod meaning;
 mod names;
 mod next;

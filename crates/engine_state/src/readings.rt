@@ -1,5 +1,5 @@
 // The open readings: frames, and the lists that they hold.
-ghost use Rattle.std.specs.Prelude.{◌≡◌, ◌<◌, ◌≤◌, ◌+◌, List, [], ◌∷◌, length, drop, IfErr, OnOk, OnErr, Some, None, IsSome};
+ghost use Rattle.std.specs.Prelude.{◌≡◌, ◌<◌, ◌≤◌, ◌+◌, ◌-◌, List, [], ◌∷◌, length, drop, IfErr, OnOk, OnErr, Some, None, IsSome};
 ghost use Rattle.tex_defs.specs.Places.{World};
 ghost use Rattle.tex_defs.specs.declared.Sizes.{Sizes};
 ghost use Rattle.equivalents.specs.Groups.{IsLocation};
@@ -92,6 +92,7 @@ impl Engine {
         ensures err { OnErr result (self.new ≡ self.old) }
         ensures same { SameBut self.old self.new }
         ensures weight { OnOk result (innermost_weight self.new.readings.frames ≤ begun_weight opening) }
+        ensures count { OnOk result (length self.new.readings.frames ≡ length self.old.readings.frames + 1) }
         ensures frames { OnOk result (frames_weight self.new.readings.frames ≡ frames_weight self.old.readings.frames + opening_frame opening) }
         ensures beneath { OnOk result (drop 1 self.new.readings.frames ≡ self.old.readings.frames) }
     {
@@ -120,6 +121,7 @@ impl Engine {
         ensures err { OnErr result (self.new ≡ self.old) }
         ensures same { SameBut self.old self.new }
         ensures weight { OnOk result (innermost_weight self.new.readings.frames ≤ begun_with_weight opening) }
+        ensures count { OnOk result (length self.new.readings.frames ≡ length self.old.readings.frames + 1) }
         ensures frames { OnOk result (frames_weight self.new.readings.frames ≡ frames_weight self.old.readings.frames + opening_frame opening) }
         ensures beneath { OnOk result (drop 1 self.new.readings.frames ≡ self.old.readings.frames) }
     {
@@ -174,6 +176,7 @@ impl Engine {
         ensures did { OnOk result ((sizes : Sizes) (w : World) (book : Book) (r : Reading) (rs : List Reading) → Stands sizes self.old (with_work (r ∷ rs) book) → Did sizes (state_of self.old (with_work (r ∷ rs) book)) (state_of self.new (with_work (fed_with Told (r ∷ rs)) book)) w w (noting r)) }
         ensures refused { IfErr result (λ full. (sizes : Sizes) (w : World) (book : Book) (r : Reading) (rs : List Reading) → Stands sizes self.old (with_work (r ∷ rs) book) → CutsIn sizes (state_of self.old (with_work (r ∷ rs) book)) self.new w w (noting r) (broken.Full full)) }
         ensures weight { OnOk result (IsReported (asks_in self.old.readings.frames []) → innermost_weight self.new.readings.frames < innermost_weight self.old.readings.frames) }
+        ensures count { OnOk result (length self.new.readings.frames ≡ length self.old.readings.frames) }
         ensures frames { OnOk result (frames_weight self.new.readings.frames ≡ frames_weight self.old.readings.frames) }
         ensures same { OnOk result (SameBut self.old self.new) }
         ensures column { self.new.in_line ≡ self.old.in_line }
@@ -196,6 +199,7 @@ impl Engine {
         ensures state { (sizes : Sizes) (book : Book) → Stands sizes self.old book → made (Feeds (Fetched (value_seen (get (page_of self.old book).now loc)))) (state_of self.old book) ≡ state_of self.new (with_work (fed_with (Fetched (value_seen (get (page_of self.old book).now loc))) book.work) book) }
         ensures same { SameBut self.old self.new }
         ensures weight { asks_in self.old.readings.frames [] ≡ Some (Fetches loc) → innermost_weight self.new.readings.frames < innermost_weight self.old.readings.frames }
+        ensures count { length self.new.readings.frames ≡ length self.old.readings.frames }
         ensures frames { frames_weight self.new.readings.frames ≡ frames_weight self.old.readings.frames }
     {
         let value = self.input.value(loc);
@@ -209,6 +213,7 @@ impl Engine {
         ensures same { SameBut self.old self.new }
         ensures weight { innermost_weight self.new.readings.frames < value_frame + value_weight }
         ensures count { self.new.readings.frames ≡ [] → innermost_weight self.new.readings.frames ≡ 0 }
+        ensures fewer { length self.new.readings.frames ≡ length self.old.readings.frames - 1 }
         ensures frames { frames_weight self.new.readings.frames ≡ frames_weight (drop 1 self.old.readings.frames) }
     {
         let listed = self.readings.end();
@@ -225,6 +230,7 @@ impl Engine {
         ensures state { (sizes : Sizes) (book : Book) (r : Reading) (rs : List Reading) → Stands sizes self.old (with_work (r ∷ rs) book) → made Closed (state_of self.old (with_work (r ∷ rs) book)) ≡ state_of self.new (with_work rs book) }
         ensures same { SameBut self.old self.new }
         ensures weight { innermost_weight self.new.readings.frames < act_frame + act_weight }
+        ensures fewer { length self.new.readings.frames ≡ length self.old.readings.frames - 1 }
         ensures frames { frames_weight self.new.readings.frames ≡ frames_weight (drop 1 self.old.readings.frames) }
         ensures beneath { self.new.readings.frames ≡ drop 1 self.old.readings.frames }
         ensures buffer { self.new.input.buffer ≡ self.old.input.buffer }

@@ -1,5 +1,5 @@
 // Made texts that are put in front.
-ghost use Rattle.std.specs.Prelude.{◌≡◌, ◌≢◌, List, [], ◌∷◌, ◌++◌, IfErr, IfOk, OnOk, IsSome, IfSome, MatchBool, Some, None};
+ghost use Rattle.std.specs.Prelude.{◌≡◌, ◌≢◌, List, [], ◌∷◌, ◌++◌, map, IfErr, IfOk, OnOk, IsSome, IfSome, MatchBool, Some, None};
 ghost use Rattle.tex_defs.specs.Places.{World};
 ghost use Rattle.tex_defs.specs.declared.Sizes.{Sizes};
 ghost use Rattle.plain_machine.specs.States.{Move, Settled, ListBegun};
@@ -8,6 +8,7 @@ ghost use Rattle.plain_tokens.specs.Pending.{settle};
 ghost use Rattle.plain_tokens.specs.Meanings.{seen_as, meaning_to_let};
 ghost use Rattle.plain_tokens.specs.Numerals.{whole_number, roman};
 ghost use Rattle.plain_tokens.specs.Printed.{list_text, meaning_text, meaning_tokens};
+ghost use Rattle.equivalents.specs.Cases.{case_codes, case_changed};
 ghost use Rattle.equivalents.specs.Parameters.{style_in};
 ghost use Rattle.plain_state.specs.Reports.{string_text};
 ghost use Rattle.token_lists.specs.Table.{tokens_at, IsHeld};
@@ -15,11 +16,12 @@ ghost use Rattle.token_lists.specs.Ids.{id_of};
 ghost use Rattle.token_show.specs.Views.{names_style, IsNamesView};
 ghost use Rattle.transcript.specs.Given.{tokens_given};
 ghost use Rattle.input_state.specs.Calls.{text_of};
-ghost use Rattle.plain_machine.specs.Plan.{put_made, put_characters, macro_tokens};
+ghost use Rattle.plain_machine.specs.Plan.{put_made, put_text, put_characters, macro_tokens};
 ghost use Rattle.plain_machine.specs.Does.{Did};
+ghost use Rattle.reading_frames.specs.Sees.{kept_list_of};
 ghost use Rattle.input_state.specs.HeldLists.{made};
 ghost use Rattle.engine_state.specs.Book.{Book};
-ghost use Rattle.engine_state.specs.Making.{HasGrown, GrowsNot, IsInFront, characters_in, characters_of, text_at};
+ghost use Rattle.engine_state.specs.Making.{HasGrown, GrowsNot, IsInFront, changed_list, characters_in, characters_of, text_at};
 ghost use Rattle.engine_state.specs.Stands.{Counts, IsSound, SameStore, SameOthers, SameFrames, state_of, page_of};
 ghost use Rattle.engine_state.specs.Rules.{Cuts};
 ghost use Rattle.engine_state.specs.Steps.{pending_weight};
@@ -321,6 +323,41 @@ impl Engine {
     {
         self.begin_text()?;
         let some = self.grow_made(made)?;
+        self.end_text(some)
+    }
+
+    /// The list that is made gets the tokens of the innermost of the lists that readings hold, if it is listed, its characters changed as
+    /// `\uppercase` or `\lowercase` says. Answers whether there was one.
+    fn grow_changed(&mut self, upper: bool, listed: bool) -> Result<bool, Full>
+        requires { IsSome self.old.input.making }
+        ensures ok { OnOk result (HasGrown self.old.input self.new.input (changed_list upper listed self.old.input)) }
+        ensures err { IfErr result (λ full. GrowsNot self.old.input self.new.input (changed_list upper listed self.old.input) full) }
+        ensures some { IfOk result (λ some. MatchBool some (changed_list upper listed self.old.input ≢ []) (changed_list upper listed self.old.input ≡ [])) }
+        ensures rest { self.new ≡ record self.old { input = self.new.input } }
+    {
+        if listed && self.input.has_list() {
+            let some = !self.input.is_list_empty();
+            self.input.grow_changed(upper)?;
+            return Ok(some);
+        }
+        Ok(false)
+    }
+
+    /// Puts the innermost of the lists that readings hold in front, if it is listed, its characters changed as `\uppercase` or `\lowercase`
+    /// says: a list of them is begun, grown and put, once the finished lists in front have gone; one without tokens goes. *The TeXbook*,
+    /// chapter 7; *TeX: The Program*, part 49 (`shift_case`).
+    ///
+    /// # Errors
+    /// The main memory or the input stack is full: of the list there is what had room.
+    pub fn put_changed(&mut self, upper: bool, listed: bool) -> Result<(), Broken>
+        requires idle { self.old.input.making ≡ None }
+        ensures did { OnOk result ((sizes : Sizes) (w : World) (book : Book) → Counts sizes self.old book → self.old.input.making ≡ None → Did sizes (state_of self.old book) (state_of self.new book) w w (put_text (map (case_changed (case_codes upper (page_of self.old book).now)) (kept_list_of listed self.old.input.builds)))) }
+        ensures err { IfErr result (λ b. (sizes : Sizes) (w : World) (book : Book) (more : List Move) → Counts sizes self.old book → self.old.input.making ≡ None → Cuts sizes (state_of self.old book) self.new book w w (put_text (map (case_changed (case_codes upper (page_of self.old book).now)) (kept_list_of listed self.old.input.builds)) ++ more) b) }
+        ensures front { IsInFront self.old self.new }
+        ensures idle { OnOk result (self.new.input.making ≡ None) }
+    {
+        self.begin_text()?;
+        let some = self.grow_changed(upper, listed)?;
         self.end_text(some)
     }
 }

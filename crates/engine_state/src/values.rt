@@ -1,14 +1,12 @@
 // The texts of values.
 ghost use Rattle.std.specs.Prelude.{◌≡◌, ◌≤◌, ◌+◌, ◌++◌, codes, length};
-ghost use Rattle.std.specs.Bool.{OnTrue};
-ghost use Rattle.equivalents.specs.Groups.{Groups, IsLocation};
 ghost use Rattle.engine_state.specs.Making.{text_at};
-ghost use Rattle.rows.specs.Internal.{is_fetchable, finite_unit, unit_of, glue_part, glue_text, number_text, value_text};
+ghost use Rattle.rows.specs.Internal.{finite_unit, unit_of, glue_part, glue_text, number_text, value_text};
 
 use char_text::{Text, scaled_length, whole_number_length};
 use equivalents::{Glue, Loc, Val};
 use input_state::Input;
-use rows::{is_dimension, is_mu};
+use rows::{is_dimension, is_fetchable, is_mu};
 
 /// The unit of what isn't infinite.
 fn finite_unit(mu: bool) -> &'static [u8]
@@ -61,7 +59,7 @@ fn glue_text(mu: bool, glue: Glue) -> Text
 }
 
 /// The text of an integer or of a dimension.
-fn number_text(dimension: bool, n: i32) -> Text
+pub(crate) fn number_text(dimension: bool, n: i32) -> Text
     ensures { result ≡ number_text dimension n }
 {
     let mut text = Text::new();
@@ -77,7 +75,7 @@ fn number_text(dimension: bool, n: i32) -> Text
 }
 
 /// The text of what stands at a location. *TeX: The Program*, part 27 (`the_toks`).
-fn value_text(loc: Loc, value: Val<()>) -> Text
+pub(crate) fn value_text(loc: Loc, value: Val<()>) -> Text
     ensures { result ≡ value_text loc value }
 {
     match value {
@@ -87,26 +85,12 @@ fn value_text(loc: Loc, value: Val<()>) -> Text
     }
 }
 
-/// Whether a location is there, and no name's.
-fn is_there(loc: Loc) -> bool
-    ensures is { result ≡ is_fetchable loc }
-    ensures there { OnTrue result ((g : Groups) → IsLocation g loc) }
-{
-    match loc {
-        Loc::Integer(i) => i < 55,
-        Loc::Dimension(i) => i < 21,
-        Loc::Glue(i) => i < 18,
-        Loc::Tokens(i) => i < 8,
-        Loc::Code { .. } | Loc::Register { .. } => true,
-        Loc::Means(_) => false,
-    }
-}
-
 /// The text of what stands at a location; of one that isn't there none.
+#[tactic(auto, using(crate::proofs::ValueTexts::fetchable))]
 pub(crate) fn text_at(input: &Input, loc: Loc) -> Text
     ensures { result ≡ text_at input.now.groups.now loc }
 {
-    if !is_there(loc) {
+    if !is_fetchable(loc) {
         return Text::new();
     }
     value_text(loc, input.value(loc))

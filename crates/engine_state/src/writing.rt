@@ -5,16 +5,22 @@ ghost use Rattle.tex_syntax.specs.declared.words.Scanned.TheVariants as scanned;
 ghost use Rattle.tex_defs.specs.Places.{Transcript};
 ghost use Rattle.tex_defs.specs.declared.Sizes.{Sizes};
 ghost use Rattle.tex_defs.specs.declared.Fatal.TheVariants as fatal;
+ghost use Rattle.equivalents.specs.Groups.{IsLocation};
+ghost use Rattle.equivalents.specs.Locations.{value_seen};
+ghost use Rattle.equivalents.specs.Tables.{get};
+ghost use Rattle.rows.specs.Internal.{value_text};
 ghost use Rattle.plain_tokens.specs.Meanings.{meaning_to_let};
+ghost use Rattle.plain_tokens.specs.Numerals.{whole_number};
 ghost use Rattle.plain_tokens.specs.Printed.{meaning_tokens};
-ghost use Rattle.plain_state.specs.Reports.{report_bytes, message_bytes, error_message_bytes, runaway_bytes, shown_meaning_bytes};
+ghost use Rattle.plain_state.specs.Reports.{report_bytes, message_bytes, error_message_bytes, runaway_bytes, shown_meaning_bytes, shown_value_bytes};
 ghost use Rattle.plain_machine.specs.States.{Move, Written};
-ghost use Rattle.plain_machine.specs.Plan.{reported, reported_as, token_line, reports_room, macro_tokens, shown};
+ghost use Rattle.plain_machine.specs.Plan.{reported, reported_as, token_line, reports_room, macro_tokens, shown, standing_shown, value_shown};
 ghost use Rattle.plain_machine.specs.Does.{Did};
 ghost use Rattle.world_io.specs.Told.{FilesTold};
 ghost use Rattle.reading_frames.specs.Sees.{kept_list_of};
 ghost use Rattle.engine_state.specs.Book.{Book};
 ghost use Rattle.engine_state.specs.Calls.{AllStand, argument_bytes};
+ghost use Rattle.engine_state.specs.Lists.{list_at};
 ghost use Rattle.engine_state.specs.Begins.{outcome_of_last, last_moves, last_bytes};
 ghost use Rattle.engine_state.specs.Stands.{IsSized, IsSound, SameFrames, OnlyColumn, state_of, page_of, own_style};
 ghost use Rattle.engine_state.specs.Rules.{world_of, list_number, counted, CountsOn, Cuts, Reports, ReportsAs, Halts, DoesOnward};
@@ -25,13 +31,15 @@ use crate::broken::Broken;
 use crate::engine::Engine;
 use crate::outcome::{Last, Ruled};
 use crate::text::given_list;
+use crate::values::{number_text, value_text};
 use crate::views::view_of;
 use char_text::Text;
+use equivalents::Loc;
 use tex_defs::{Fatal, Meaning, Seen, Sizes};
 use tex_syntax::{Outcome, Report, Scanned};
 use transcript::{
     empty_runaway, end_lines, hundred_line, no_end_lines, put, write_error_message, write_message,
-    write_report, write_runaway, write_shown_meaning, write_token_line,
+    write_report, write_runaway, write_shown_meaning, write_shown_value, write_token_line,
 };
 use world_io::Sink;
 
@@ -240,7 +248,7 @@ impl Engine {
         Ok(())
     }
 
-    /// Writes a token and what it means, of a macro with the tokens of its list; the status is to be 1. *The TeXbook*, chapter 23
+    /// Writes a token and what it means, of a macro with the tokens of its list; the status is to be 1. *The TeXbook*, chapter 24
     /// (`\show`); *TeX: The Program*, part 49 (`show_whatever`).
     ///
     /// # Errors
@@ -252,6 +260,66 @@ impl Engine {
         ensures frames { SameFrames self.old self.new }
     {
         self.write_shown_meaning(out, x)?;
+        self.flawed = true;
+        Ok(())
+    }
+
+    /// Writes a number.
+    fn write_shown_number<S: Sink>(&mut self, out: &mut S, n: i32) -> Result<(), Broken>
+        ensures did { OnOk result ((sizes : Sizes) (f : FilesTold) (book : Book) → Did sizes (state_of self.old book) (state_of self.new book) (world_of f (S.told out.old) self.old) (world_of f (S.told out.new) self.new) (Written Transcript (shown_value_bytes (own_style self.old) self.old.in_line self.old.input.pending.number (whole_number n) []) ∷ [])) }
+        ensures err { IfErr result (λ b. (sizes : Sizes) (f : FilesTold) (book : Book) (more : List Move) → Cuts sizes (state_of self.old book) self.new book (world_of f (S.told out.old) self.old) (world_of f (S.told out.new) self.new) (Written Transcript (shown_value_bytes (own_style self.old) self.old.in_line self.old.input.pending.number (whole_number n) []) ∷ more) b) }
+        ensures only { OnlyColumn self.old self.new }
+    {
+        let line = self.input.line_number();
+        let text = number_text(false, n);
+        let view = view_of(self.input.lists(), &self.input, &self.names);
+        write_shown_value(out, &mut self.in_line, view, line, text.bytes(), None)?;
+        Ok(())
+    }
+
+    /// Writes what stands at a location.
+    fn write_standing<S: Sink>(&mut self, out: &mut S, loc: Loc) -> Result<(), Broken>
+        requires there { IsLocation self.old.input.groups loc }
+        ensures did { OnOk result ((sizes : Sizes) (f : FilesTold) (book : Book) → Did sizes (state_of self.old book) (state_of self.new book) (world_of f (S.told out.old) self.old) (world_of f (S.told out.new) self.new) (Written Transcript (shown_value_bytes (own_style self.old) self.old.in_line self.old.input.pending.number (value_text loc (value_seen (get self.old.input.groups.now loc))) (list_at self.old loc)) ∷ [])) }
+        ensures err { IfErr result (λ b. (sizes : Sizes) (f : FilesTold) (book : Book) (more : List Move) → Cuts sizes (state_of self.old book) self.new book (world_of f (S.told out.old) self.old) (world_of f (S.told out.new) self.new) (Written Transcript (shown_value_bytes (own_style self.old) self.old.in_line self.old.input.pending.number (value_text loc (value_seen (get self.old.input.groups.now loc))) (list_at self.old loc)) ∷ more) b) }
+        ensures only { OnlyColumn self.old self.new }
+    {
+        let line = self.input.line_number();
+        let text = value_text(loc, self.input.value(loc));
+        let (lists, list) = self.input.standing_list(loc);
+        let view = view_of(lists, &self.input, &self.names);
+        write_shown_value(out, &mut self.in_line, view, line, text.bytes(), list)?;
+        Ok(())
+    }
+
+    /// Writes a number; the status is to be 1. *The TeXbook*, chapter 24 (`\showthe`); *TeX: The Program*, part 49 (`show_whatever`).
+    ///
+    /// # Errors
+    /// A write failed or wanted memory: a front of the text was written.
+    pub fn show_number<S: Sink>(&mut self, out: &mut S, n: i32) -> Result<(), Broken>
+        ensures did { OnOk result ((sizes : Sizes) (f : FilesTold) (book : Book) → Did sizes (state_of self.old book) (state_of self.new book) (world_of f (S.told out.old) self.old) (world_of f (S.told out.new) self.new) (value_shown (page_of self.old book) (whole_number n) [])) }
+        ensures err { IfErr result (λ b. (sizes : Sizes) (f : FilesTold) (book : Book) (more : List Move) → Cuts sizes (state_of self.old book) self.new book (world_of f (S.told out.old) self.old) (world_of f (S.told out.new) self.new) (value_shown (page_of self.old book) (whole_number n) [] ++ more) b) }
+        ensures only { self.new ≡ record self.old { in_line = self.new.in_line; flawed = self.new.flawed } }
+        ensures frames { SameFrames self.old self.new }
+    {
+        self.write_shown_number(out, n)?;
+        self.flawed = true;
+        Ok(())
+    }
+
+    /// Writes what stands at a location, of a list its tokens; the status is to be 1. *The TeXbook*, chapter 24 (`\showthe`);
+    /// *TeX: The Program*, part 49 (`show_whatever`).
+    ///
+    /// # Errors
+    /// A write failed or wanted memory: a front of the text was written.
+    pub fn show_value<S: Sink>(&mut self, out: &mut S, loc: Loc) -> Result<(), Broken>
+        requires there { IsLocation self.old.input.groups loc }
+        ensures did { OnOk result ((sizes : Sizes) (f : FilesTold) (book : Book) → IsSound sizes self.old book.number book.macros → Did sizes (state_of self.old book) (state_of self.new book) (world_of f (S.told out.old) self.old) (world_of f (S.told out.new) self.new) (standing_shown (page_of self.old book) loc)) }
+        ensures err { IfErr result (λ b. (sizes : Sizes) (f : FilesTold) (book : Book) (more : List Move) → IsSound sizes self.old book.number book.macros → Cuts sizes (state_of self.old book) self.new book (world_of f (S.told out.old) self.old) (world_of f (S.told out.new) self.new) (standing_shown (page_of self.old book) loc ++ more) b) }
+        ensures only { self.new ≡ record self.old { in_line = self.new.in_line; flawed = self.new.flawed } }
+        ensures frames { SameFrames self.old self.new }
+    {
+        self.write_standing(out, loc)?;
         self.flawed = true;
         Ok(())
     }

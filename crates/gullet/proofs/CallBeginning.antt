@@ -1,5 +1,5 @@
 -- The name of a macro is expanded: its body is put, or its arguments are gathered.
-use Rattle.std.proofs.Common.{◌≡◌, ℕ, List, [], ◌∷◌, ◌++◌, refl, sym, ap, subst, ◌∙◌, Bool, true, false}
+use Rattle.std.proofs.Common.{◌≡◌, ℕ, List, [], ◌∷◌, ◌++◌, append-nil, refl, sym, ap, subst, ◌∙◌, Bool, true, false}
 use Rattle.std.specs.Prelude.{Option, Some, None, Result, Ok, Err, OnOk, OnErr, IfErr, MatchResult, ◌||◌, ◌&&◌, if◌then◌else◌, take}
 use Rattle.tex_defs.specs.declared.Full.{Full}
 use Rattle.tex_defs.specs.declared.Meaning.{Meaning}
@@ -12,41 +12,40 @@ use Rattle.plain_tokens.specs.Arguments.{ParMode, arguments_in, work_in, call, s
 use Rattle.plain_tokens.specs.Meanings.{is_listed, name_meaning}
 use Rattle.equivalents.specs.Holding.{lists_held}
 use Rattle.plain_tokens.specs.Names.{name_of}
-use Rattle.plain_tokens.specs.Pending.{Pending, put_front, settle, with_puts, all_puts}
-use Rattle.plain_tokens.specs.Puts.{Item, Put, call_put, put_top, settled}
+use Rattle.plain_tokens.specs.Pending.{settle, all_puts}
+use Rattle.plain_tokens.specs.Puts.{Item, Put, call_put}
 use Rattle.plain_readings.specs.Readings as reading
 use Rattle.plain_readings.specs.Calls.{call_fed, mode_of as reading_mode}
 use Rattle.plain_readings.specs.Readings.{Reading}
-use Rattle.plain_machine.specs.States.{State, Settled, Called, Begun, made}
-use Rattle.plain_tokens.specs.Tables.{Demand, level, lists_words, memory, refused, is_put}
+use Rattle.plain_machine.specs.States.{Begun, made}
+use Rattle.plain_tokens.specs.Tables.{lists_words, memory, refused, is_put}
 use Rattle.plain_machine.specs.Demands.{refusal}
-use Rattle.plain_machine.specs.Does.{Did}
-use Rattle.plain_machine.specs.Numbers.{IsHeld, meaning_of, pending_of, put_of as numbered}
+use Rattle.plain_machine.specs.Runs.{steps}
+use Rattle.plain_machine.specs.Numbers.{IsHeld, meaning_of, put_of as numbered}
 use Rattle.plain_machine.specs.Plan.{Page, body_put, called, called_by, called_meaning}
-use Rattle.plain_machine.proofs.Doing.{did_join, did_one, wrote_none}
-use Rattle.plain_machine.proofs.Renumbering.{name_meaning_of, settle_of, put_front_of, level_of}
-use Rattle.plain_machine.proofs.Ties.{tied_settled, tied_put}
+use Rattle.plain_machine.proofs.Doing.{did_one}
+use Rattle.plain_machine.proofs.Renumbering.{name_meaning_of}
 use Rattle.macro_call.specs.Modes.{mode_of}
 use Rattle.macro_call.specs.PlainScans.{Scan, first_by, first_scan, scan_work}
 use Rattle.macro_call.proofs.PlainScans.{scans_gather}
 use Rattle.input_state.specs.declared.answer.CallKind.TheVariants as kind
 use Rattle.input_state.specs.Callings.{Calling, Gathering, call_lists, scan_lists}
-use Rattle.input_state.specs.Calls.{after_call, begun_lists, call_kind, called_put, called_top, macro_text, text_of, when_called}
+use Rattle.input_state.specs.Calls.{after_call, begun_lists, call_kind, called_put, macro_text, text_of}
 use Rattle.input_state.specs.Macros.{list_at}
 use Rattle.input_state.specs.Stored.{KeepsMacros, call_refusal, words}
 use Rattle.engine_state.specs.declared.broken.Broken.TheVariants as broken
 use Rattle.engine_state.specs.declared.engine.Engine.{Engine}
 use Rattle.engine_state.specs.Book.{Book, with_work}
 use Rattle.engine_state.specs.Calls.{AllStand, CallStands, Gathers, HasWork, open_call}
-use Rattle.engine_state.specs.Stands.{IsSound, SameFrames, SameStore, Stands, state_of, page_of}
+use Rattle.engine_state.specs.Stands.{SameFrames, SameStore, Stands, state_of, page_of}
 use Rattle.engine_state.specs.Rules.{Cuts, Went}
 use Rattle.engine_state.proofs.Uncalled.{all_of}
 use Rattle.engine_state.proofs.CallKept.{all_still, meant_by}
-use Rattle.engine_state.proofs.Cutting.{later_cuts, full_cuts, cuts_by}
+use Rattle.engine_state.proofs.Cutting.{full_cuts, cuts_by}
 use Rattle.engine_state.proofs.Joining.{quiet_here, went_by}
+use Rattle.engine_state.proofs.SharedPut.{pending_stands, shared_cuts, shared_did, shared_sound}
 use Rattle.engine_state.proofs.Storing.{sound_still, store_scan}
 use Rattle.gullet.proofs.CallLists.{gathers_lists}
-use Rattle.gullet.proofs.Ending.{none_found}
 
 -- a reading that has begun
 abbrev fresh : reading.Kind → Reading
@@ -160,6 +159,11 @@ begun_are name long number text = gathers_lists long text (first_scan text (mode
 pub begun_words : (e : Engine) (name : Name) (long : Bool) (number : ℕ) (o : Option Full) → refused e.input.sizes (memory (lists_words (begun_lists (text_of e.input.lists e.input.groups.now.meanings name))) (words e.input) ∷ []) ≡ o →
     refused e.input.sizes (memory (lists_words (reading.lists (reading.Arguments name long number (text_of e.input.lists e.input.groups.now.meanings name)) [])) (words e.input) ∷ []) ≡ o
 begun_words e name long number o h = ap (λ (l : List (List Token)). refused e.input.sizes (memory (lists_words l) (words e.input) ∷ [])) (begun_are name long number (text_of e.input.lists e.input.groups.now.meanings name)) ∙ h
+
+-- a body is put without a step
+body_silent : (p : Put) (xs : List Item) → steps (body_put p xs) ≡ 0
+body_silent p [] = refl
+body_silent p (x ∷ xs) = refl
 
 -- A MACRO WITH A LIST
 
@@ -297,116 +301,21 @@ module _ (sizes : Sizes) (e : Engine) (book : Book) (t : Token) (name : Name) (i
   put_moves is =
       called_list ∙ ap (λ (b : Bool). if b then Begun K ∷ [] else body_put P p.items) (gathers_none (has_parameters ts) (sym kind_is ∙ is))
 
-  abbrev settled_state : State
-  settled_state = record (state_of e book) { pending = settle (pending_of book.number e.input.pending) }
-
-  did_settled : (w : World) → Did sizes (state_of e book) settled_state w w (Settled ∷ [])
-  did_settled w = did_one sizes Settled (state_of e book) settled_state w w refl refl (quiet_here Settled w tt)
-
-  -- what is asked for
-  level_asked : (o : Option Full) (x : Item) (xs : List Item) → p.items ≡ x ∷ xs → call_refusal p e.input ≡ o → refusal sizes (Called P) settled_state ≡ o
-  level_asked o x xs some refuses =
-      ap (λ (q : Pending). refused sizes (level q ∷ [])) (settle_of book.number e.input.pending)
-      ∙ ap (λ (d : Demand). refused sizes (d ∷ [])) (level_of book.number (settle e.input.pending))
-      ∙ ap (λ (s : Sizes). refused s (level (settle e.input.pending) ∷ [])) (sym st.sound.sized.input)
-      ∙ sym (ap (λ (ys : List Item). refused e.input.sizes (when_called ys (level (settle e.input.pending)))) some) ∙ refuses
-
-  -- there is no room for it
-  body_cuts : (e2 : Engine) (w : World) (full : Full) → e2 ≡ record e { input = record e.input { pending = settle e.input.pending; lists = e2.input.lists } } → call_refusal p e.input ≡ Some full → Cuts sizes (state_of e book) e2 book w w (body_put P p.items) (broken.Full full)
-  body_cuts e2 w full after refuses = by_items p.items refl where
-    by_items : (xs : List Item) → p.items ≡ xs → Cuts sizes (state_of e book) e2 book w w (body_put P xs) (broken.Full full)
-    by_items [] none = let nothing : refused e.input.sizes [] ≡ Some full = sym (ap (λ (ys : List Item). refused e.input.sizes (when_called ys (level (settle e.input.pending)))) none) ∙ refuses in absurd (none_found full nothing)
-    by_items (x ∷ xs) some =
-        later_cuts sizes _ settled_state e2 book w w w (Settled ∷ []) (Called P ∷ []) (broken.Full full) (did_settled w)
-        (full_cuts sizes settled_state e2 book w (Called P) [] full (broken.Full full) refl (level_asked (Some full) x xs some refuses)
-        (ap (λ (q : Pending). record (state_of e book) { pending = q }) (settle_of book.number e.input.pending) ∙ ap (λ (y : Engine). state_of y book) (sym after)))
-
   pub called_cuts : (e2 : Engine) (w : World) (full : Full) → call_kind e.input.lists (name_meaning e.input.groups.now.meanings name) ≡ kind.AtOnce →
       e2 ≡ record e { input = record e.input { pending = settle e.input.pending; lists = e2.input.lists } } → call_refusal (called_put e.input.lists (name_meaning e.input.groups.now.meanings name)) e.input ≡ Some full →
       Cuts sizes (state_of e book) e2 book w w (called (page_of e book) t) (broken.Full full)
   called_cuts e2 w full is after refuses =
-      cuts_by sizes _ e2 book w w _ _ (broken.Full full) (put_moves is) (body_cuts e2 w full after (ap (λ (x : Put). call_refusal x e.input) (sym what) ∙ refuses))
-
-  -- one without items changes nothing
-  pending_same : p.items ≡ [] → after_call p e.input.pending ≡ e.input.pending
-  pending_same none = ap (λ (xs : List Item). with_puts (called_top p xs e.input.pending.puts) e.input.pending) none
-
-  pending_put : (x : Item) (xs : List Item) → p.items ≡ x ∷ xs → after_call p e.input.pending ≡ put_front p (settle e.input.pending)
-  pending_put x xs some =
-      ap (λ (ys : List Item). with_puts (called_top p ys e.input.pending.puts) e.input.pending) some
-      ∙ sym (ap (λ (ys : List Item). with_puts (put_top p ys (settled e.input.pending.puts)) e.input.pending) some)
-
-  -- the engine with the body in front, its lists as they were
-  abbrev putting : Engine
-  putting = record e { input = record e.input { pending = put_front p (settle e.input.pending) } }
-
-  putting_sound : IsSound sizes putting book.number book.macros
-  putting_sound = record {
-    sized = record { few_reports = st.sound.sized.few_reports; small = st.sound.sized.small; own = st.sound.sized.own; readings = st.sound.sized.readings; input = st.sound.sized.input; names = st.sound.sized.names; located = st.sound.sized.located };
-    tied = tied_put book.number book.macros (lists_held e.input.groups) (settle e.input.pending) e.input.lists (tied_settled book.number book.macros (lists_held e.input.groups) e.input.pending e.input.lists st.sound.tied) h.id p refl (ap (λ (b : Bool). b || is_put h.id (all_puts (settle e.input.pending))) meant);
-    bodies = st.sound.bodies;
-  }
-
-  putting_stands : AllStand sizes putting book
-  putting_stands = all_of sizes putting book (record { sound = putting_sound; idle = st.idle; readings = record { frames = st.readings.frames; shallow = st.readings.shallow }; uncalled = record { none = st.uncalled.none; input = st.uncalled.input } })
-
-  -- the lists of the memory have changed alone
-  module _ (e1 e2 : Engine) (st1 : AllStand sizes e1 book) (now : e2 ≡ record e1 { input = record e1.input { lists = e2.input.lists } }) (macros : KeepsMacros e1.input e2.input) where
-    lists_store : SameStore e1.input e2.input
-    lists_store = record {
-      sizes = ap (λ (y : Engine). y.input.sizes) now;
-      groups = ap (λ (y : Engine). y.input.groups) now;
-      closing = ap (λ (y : Engine). y.input.closing) now;
-      ending = ap (λ (y : Engine). y.input.ending) now;
-      puts = λ n g. subst (λ (y : Engine). is_put n (all_puts y.input.pending) ≡ true) now g;
-      lists = macros;
-    }
-
-    lists_stand : AllStand sizes e2 book
-    lists_stand =
-        all_still sizes e1 e2 book (record {
-          readings = ap (λ (y : Engine). y.readings) now;
-          lists = ap (λ (y : Engine). y.input.builds) now;
-          call = ap (λ (y : Engine). y.call) now;
-          calling = ap (λ (y : Engine). y.input.call) now;
-        }) lists_store
-        (sound_still sizes e1 e2 book.number book.macros (ap (λ (y : Engine). y.sizes) now) (ap (λ (y : Engine). y.readings.size) now) (ap (λ (y : Engine). y.names) now) (ap (λ (y : Engine). y.reports) now) lists_store st1.sound)
-        (ap (λ (y : Engine). y.input.making) now ∙ st1.idle) st1
-
-  module _ (e2 : Engine) (after : e2 ≡ record e { input = record e.input { pending = after_call p e.input.pending; lists = e2.input.lists } }) (macros : KeepsMacros e.input e2.input) where
-    -- nothing has changed
-    same_now : p.items ≡ [] → e2 ≡ record e { input = record e.input { lists = e2.input.lists } }
-    same_now none = after ∙ ap (λ (q : Pending). record e { input = record e.input { pending = q; lists = e2.input.lists } }) (pending_same none)
-
-    put_now : (x : Item) (xs : List Item) → p.items ≡ x ∷ xs → e2 ≡ record putting { input = record putting.input { lists = e2.input.lists } }
-    put_now x xs some = after ∙ ap (λ (q : Pending). record e { input = record e.input { pending = q; lists = e2.input.lists } }) (pending_put x xs some)
-
-    put_state : (x : Item) (xs : List Item) → p.items ≡ x ∷ xs → made (Called P) settled_state ≡ state_of e2 book
-    put_state x xs some =
-        ap (λ (q : Pending). record (state_of e book) { pending = put_front P q }) (settle_of book.number e.input.pending)
-        ∙ ap (λ (q : Pending). record (state_of e book) { pending = q }) (put_front_of book.number p (settle e.input.pending))
-        ∙ ap (λ (y : Engine). state_of y book) (sym (put_now x xs some))
-
-    body_went : (w : World) → call_refusal p e.input ≡ None → Went sizes (state_of e book) e2 w w (body_put P p.items) 0
-    body_went w fits = by_items p.items refl where
-      by_items : (xs : List Item) → p.items ≡ xs → Went sizes (state_of e book) e2 w w (body_put P xs) 0
-      by_items [] none = record {
-        book' = book;
-        stands = lists_stand e e2 (all_of sizes e book st) (same_now none) macros;
-        did = record { state = ap (λ (y : Engine). state_of y book) (sym (same_now none)); fits = tt; written = wrote_none w };
-        count = refl;
-      }
-      by_items (x ∷ xs) some = record {
-        book' = book;
-        stands = lists_stand putting e2 putting_stands (put_now x xs some) (record { tokens = macros.tokens });
-        did = did_join sizes _ _ _ w w w (Settled ∷ []) (Called P ∷ []) (did_settled w)
-            (did_one sizes (Called P) _ _ w w (level_asked None x xs some fits) (put_state x xs some) (quiet_here (Called P) w tt));
-        count = refl;
-      }
+      cuts_by sizes _ e2 book w w _ _ (broken.Full full) (put_moves is ∙ sym (append-nil (body_put P p.items)))
+      (shared_cuts sizes e book st.sound h.id p refl meant e2 w full [] after (ap (λ (x : Put). call_refusal x e.input) (sym what) ∙ refuses))
 
   pub called_went : (e2 : Engine) (w : World) → call_kind e.input.lists (name_meaning e.input.groups.now.meanings name) ≡ kind.AtOnce →
       e2 ≡ record e { input = record e.input { pending = after_call (called_put e.input.lists (name_meaning e.input.groups.now.meanings name)) e.input.pending; lists = e2.input.lists } } → KeepsMacros e.input e2.input →
       call_refusal (called_put e.input.lists (name_meaning e.input.groups.now.meanings name)) e.input ≡ None → Went sizes (state_of e book) e2 w w (called (page_of e book) t) 0
   called_went e2 w is after macros fits =
-      went_by sizes _ e2 w w _ _ 0 (put_moves is)
-      (body_went e2 (after ∙ ap (λ (x : Put). record e { input = record e.input { pending = after_call x e.input.pending; lists = e2.input.lists } }) what) macros w (ap (λ (x : Put). call_refusal x e.input) (sym what) ∙ fits))
+      let here = after ∙ ap (λ (x : Put). record e { input = record e.input { pending = after_call x e.input.pending; lists = e2.input.lists } }) what in
+      went_by sizes _ e2 w w _ _ 0 (put_moves is) (record {
+        book' = book;
+        stands = all_of sizes e2 book (pending_stands sizes e e2 book (after_call p e.input.pending) here (shared_sound sizes e book st.sound h.id p refl meant e2 here macros) st);
+        did = shared_did sizes e book st.sound h.id p refl meant e2 here macros w (ap (λ (x : Put). call_refusal x e.input) (sym what) ∙ fits);
+        count = body_silent P p.items;
+      })

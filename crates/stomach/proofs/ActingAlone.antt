@@ -53,17 +53,19 @@ did_still sizes s s' e e' f t ms column h = subst (λ (b : Bool). Did sizes s s'
 pub cuts_still : (sizes : Sizes) (s : State) (e e' : Engine) (book : Book) (f : FilesTold) (t : SinkTold) (ms : List Move) (b : Broken) → e'.in_line ≡ e.in_line → Cuts sizes s e' book (world_of f t e) (world_of f t e) ms b → Cuts sizes s e' book (world_of f t e) (world_of f t e') ms b
 cuts_still sizes s e e' book f t ms b column h = subst (λ (c : Bool). Cuts sizes s e' book (world_of f t e) (world f t c) ms b) (sym column) h
 
--- A NUMBER OR GLUE AT A LOCATION
+-- A NUMBER, GLUE OR NO LIST AT A LOCATION
 
 -- which is no list
 abbrev pub IsPlain : V → Type 0
 IsPlain (val.Number z) = Unit {0}
 IsPlain (val.Skip h) = Unit {0}
+IsPlain (val.Tokens None) = Unit {0}
 IsPlain v = ⊥
 
 value_held : (n : ℕ) (global : Bool) (g : Groups) (l : Loc) (v : V) → IsPlain v → is_listed (lists_held (set global g l v)) n ≡ true → is_listed (lists_held g) n ≡ true
 value_held n global g l (val.Number z) plain held = ⊎_elim (λ none. cc) (λ was. was) (set_cases n global g l (val.Number z) held)
 value_held n global g l (val.Skip h) plain held = ⊎_elim (λ none. cc) (λ was. was) (set_cases n global g l (val.Skip h) held)
+value_held n global g l (val.Tokens None) plain held = ⊎_elim (λ none. cc) (λ was. was) (set_cases n global g l (val.Tokens None) held)
 value_held n global g l v plain held = absurd plain
 
 put_length : (m : Tables) (l : Loc) (v : V) → length (put m l v).meanings ≡ length m.meanings
@@ -74,7 +76,7 @@ put_length m (loc.Register kind n) v = refl
 put_length m (loc.Means n) v = length-set m.meanings n (meaning_of v)
 put_length m l v = refl
 
-value_length : (global : Bool) (g : Groups) (l : Loc) (v : V) → length (set global g l v).now.meanings ≡ length g.now.meanings
+pub value_length : (global : Bool) (g : Groups) (l : Loc) (v : V) → length (set global g l v).now.meanings ≡ length g.now.meanings
 value_length true g l v = put_length g.now l v
 value_length false g l v = put_length g.now l v
 
@@ -82,6 +84,7 @@ value_length false g l v = put_length g.now l v
 same_value : (number : ℕ → ℕ) (v : V) → IsPlain v → v ≡ value_of number v
 same_value number (val.Number z) plain = refl
 same_value number (val.Skip h) plain = refl
+same_value number (val.Tokens None) plain = refl
 same_value number v plain = absurd plain
 
 module _ (e : Engine) (i : Stored) (global : Bool) (l : Loc) (v : V) (plain : IsPlain v) (is : i ≡ record e.input { groups = set global e.input.groups l v; lists = i.lists }) where
@@ -178,16 +181,20 @@ pub front_stands : (sizes : Sizes) (e e' : Engine) (book : Book) → IsInFront e
 front_stands sizes e e' book front idle st = name_stands sizes e e' book front.frames front.others front.store idle st
 
 -- another effect is what is put in front
-pub put_alone : (page : Page) (c : Call) (x : Effect) → ((s : Seen) → x ≡ effect.Show s → ⊥) → ((n : Name) (s : Seen) → x ≡ effect.Let n s → ⊥) → ((n : Name) (s t : Seen) → x ≡ effect.FutureLet n s t → ⊥) →
-    ((l : Loc) (value : ℤ) → x ≡ effect.SetNumber l value → ⊥) → ((l : Loc) (g : Glue) → x ≡ effect.SetGlue l g → ⊥) → ((n : Name) (h : Shorthand) → x ≡ effect.Shorthand n h → ⊥) → (x ≡ effect.Unassigned → ⊥) → ((s : Seen) → x ≡ effect.AfterGroup s → ⊥) → ((s : Seen) → x ≡ effect.AfterAssignment s → ⊥) →
+pub put_alone : (page : Page) (c : Call) (x : Effect) → ((s : Seen) → x ≡ effect.Show s → ⊥) → ((l : Loc) → x ≡ effect.ShowValue l → ⊥) → ((n : ℤ) → x ≡ effect.ShowNumber n → ⊥) → ((n : Name) (s : Seen) → x ≡ effect.Let n s → ⊥) →
+    ((n : Name) (s t : Seen) → x ≡ effect.FutureLet n s t → ⊥) → ((l : Loc) (value : ℤ) → x ≡ effect.SetNumber l value → ⊥) → ((l : Loc) (g : Glue) → x ≡ effect.SetGlue l g → ⊥) → ((l m : Loc) → x ≡ effect.ShareList l m → ⊥) →
+    ((n : Name) (h : Shorthand) → x ≡ effect.Shorthand n h → ⊥) → (x ≡ effect.Unassigned → ⊥) → ((s : Seen) → x ≡ effect.AfterGroup s → ⊥) → ((s : Seen) → x ≡ effect.AfterAssignment s → ⊥) →
     done_alone page c x ≡ put_by page x
-put_alone page c (effect.Show s) shows lets later numbers glues shorts ends groups behind = absurd (shows s refl)
-put_alone page c (effect.Let n s) shows lets later numbers glues shorts ends groups behind = absurd (lets n s refl)
-put_alone page c (effect.FutureLet n s t) shows lets later numbers glues shorts ends groups behind = absurd (later n s t refl)
-put_alone page c (effect.SetNumber l value) shows lets later numbers glues shorts ends groups behind = absurd (numbers l value refl)
-put_alone page c (effect.SetGlue l g) shows lets later numbers glues shorts ends groups behind = absurd (glues l g refl)
-put_alone page c (effect.Shorthand n h) shows lets later numbers glues shorts ends groups behind = absurd (shorts n h refl)
-put_alone page c effect.Unassigned shows lets later numbers glues shorts ends groups behind = absurd (ends refl)
-put_alone page c (effect.AfterGroup s) shows lets later numbers glues shorts ends groups behind = absurd (groups s refl)
-put_alone page c (effect.AfterAssignment s) shows lets later numbers glues shorts ends groups behind = absurd (behind s refl)
-put_alone page c x shows lets later numbers glues shorts ends groups behind = refl
+put_alone page c (effect.Show s) shows values counts lets later numbers glues shares shorts ends groups behind = absurd (shows s refl)
+put_alone page c (effect.ShowValue l) shows values counts lets later numbers glues shares shorts ends groups behind = absurd (values l refl)
+put_alone page c (effect.ShowNumber n) shows values counts lets later numbers glues shares shorts ends groups behind = absurd (counts n refl)
+put_alone page c (effect.Let n s) shows values counts lets later numbers glues shares shorts ends groups behind = absurd (lets n s refl)
+put_alone page c (effect.FutureLet n s t) shows values counts lets later numbers glues shares shorts ends groups behind = absurd (later n s t refl)
+put_alone page c (effect.SetNumber l value) shows values counts lets later numbers glues shares shorts ends groups behind = absurd (numbers l value refl)
+put_alone page c (effect.SetGlue l g) shows values counts lets later numbers glues shares shorts ends groups behind = absurd (glues l g refl)
+put_alone page c (effect.ShareList l m) shows values counts lets later numbers glues shares shorts ends groups behind = absurd (shares l m refl)
+put_alone page c (effect.Shorthand n h) shows values counts lets later numbers glues shares shorts ends groups behind = absurd (shorts n h refl)
+put_alone page c effect.Unassigned shows values counts lets later numbers glues shares shorts ends groups behind = absurd (ends refl)
+put_alone page c (effect.AfterGroup s) shows values counts lets later numbers glues shares shorts ends groups behind = absurd (groups s refl)
+put_alone page c (effect.AfterAssignment s) shows values counts lets later numbers glues shares shorts ends groups behind = absurd (behind s refl)
+put_alone page c x shows values counts lets later numbers glues shares shorts ends groups behind = refl

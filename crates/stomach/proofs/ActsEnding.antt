@@ -23,7 +23,7 @@ use Rattle.rows.specs.declared.arithmetic.Operation.{Operation}
 use Rattle.rows.specs.declared.command.Call.{Call}
 use Rattle.rows.specs.declared.command.Effect.{Effect}
 use Rattle.rows.specs.declared.command.Effect.TheVariants as effect
-use Rattle.rows.specs.Readings.{Ask, Acts}
+use Rattle.rows.specs.Readings.{Ask, Acts, ActsOn}
 use Rattle.plain_readings.specs.Readings.{Kind, Behind, Reading, ask, opened}
 use Rattle.reading_frames.specs.Resumes.{resume}
 use Rattle.reading_frames.specs.Stack.{asks_in}
@@ -32,7 +32,7 @@ use Rattle.reading_frames.specs.declared.frame.Frame.{Frame}
 use Rattle.plain_machine.specs.States.{State, Move, Closed, Begun, Reported, Written, made}
 use Rattle.plain_machine.specs.Demands.{refusal}
 use Rattle.plain_machine.specs.Plan as plan
-use Rattle.plain_machine.specs.Plan.{Page, acts, behind_assignment, command, computed_to, expanded, put_one, style_of}
+use Rattle.plain_machine.specs.Plan.{Page, acts, acts_above, behind_assignment, command, computed_to, expanded, put_one, style_of}
 use Rattle.plain_machine.specs.Runs.{steps}
 use Rattle.plain_machine.specs.Does.{Did}
 use Rattle.plain_machine.proofs.Doing.{did_join, did_one}
@@ -59,9 +59,10 @@ use Rattle.engine_state.proofs.CuttingReadings.{later_in, stands_in, in_by}
 use Rattle.engine_state.proofs.Reporting.{full_out}
 use Rattle.engine_state.proofs.Standing.{same_engine}
 use Rattle.gullet.proofs.Stepping.{free_of}
-use Rattle.stomach.specs.Effects.{done_alone, assignment_of, IsAlone, IsSmall, IsThere, IsVariable, TakesAll}
+use Rattle.rows.specs.Suiting.{IsSmall, IsThere, IsVariable, TakesAll, SetsSmall}
+use Rattle.stomach.specs.Effects.{done_alone, assignment_of, IsAlone}
 use Rattle.stomach.specs.Halting.{DoesRuleIn}
-use Rattle.stomach.proofs.Codes.{SetsSmall, sets_small}
+use Rattle.stomach.proofs.Codes.{sets_small}
 
 -- WHAT IS DONE ALONE
 
@@ -70,19 +71,31 @@ pub alone_acts : (page : Page) (c : Call) (e : Effect) → IsAlone e → acts pa
 alone_acts page c (effect.Obey x) h = absurd h
 alone_acts page c (effect.ExpandBehind x y) h = absurd h
 alone_acts page c (effect.Compute operation l d) h = absurd h
+alone_acts page c (effect.PutList l) h = absurd h
 alone_acts page c e h = refl
 
-pub is_alone : (e : Effect) → ((x : Seen) → e ≡ effect.Obey x → ⊥) → ((x y : Seen) → e ≡ effect.ExpandBehind x y → ⊥) → ((operation : Operation) (l : Loc) (d : Datum) → e ≡ effect.Compute operation l d → ⊥) → IsAlone e
-is_alone (effect.Obey x) obeys expands computes = obeys x refl
-is_alone (effect.ExpandBehind x y) obeys expands computes = expands x y refl
-is_alone (effect.Compute operation l d) obeys expands computes = computes operation l d refl
-is_alone e obeys expands computes = tt
+pub is_alone : (e : Effect) → ((x : Seen) → e ≡ effect.Obey x → ⊥) → ((x y : Seen) → e ≡ effect.ExpandBehind x y → ⊥) → ((operation : Operation) (l : Loc) (d : Datum) → e ≡ effect.Compute operation l d → ⊥) → ((l : Loc) → e ≡ effect.PutList l → ⊥) → IsAlone e
+is_alone (effect.Obey x) obeys expands computes puts = obeys x refl
+is_alone (effect.ExpandBehind x y) obeys expands computes puts = expands x y refl
+is_alone (effect.Compute operation l d) obeys expands computes puts = computes operation l d refl
+is_alone (effect.PutList l) obeys expands computes puts = puts l refl
+is_alone e obeys expands computes puts = tt
+
+-- what is alone is the same above whatever readings
+pub above_acts : (beneath : List Reading) (page : Page) (c : Call) (e : Effect) → IsAlone e → acts_above beneath page c e ≡ acts page c e
+above_acts beneath page c (effect.PutList l) h = absurd h
+above_acts beneath page c e h = refl
 
 asks_as : (fs : List Frame) (held : List (List Token)) (r : Reading) (rs : List Reading) (a : Ask) → frames.FramesStand fs held (r ∷ rs) → asks_in fs held ≡ Some a → ask r.kind r.fed ≡ a
 asks_as [] held r rs a st asks = absurd st
 asks_as (f ∷ fs) held r rs a st asks =
     let is : resume f held [] ≡ a = cc asks in
     ap (ask r.kind) (sym (append-nil r.fed)) ∙ st.0.goes_on [] ∙ is
+
+-- with a list
+pub small_gathered : (sizes : Sizes) (e : Engine) (book : Book) (r : Reading) (rs : List Reading) (c : Call) (does : Effect) (ts : List Token) → Stands sizes e (with_work (r ∷ rs) book) → asked e ≡ Some (ActsOn c does ts) → IsSmall does
+small_gathered sizes e book r rs c does ts st asks =
+    subst SetsSmall (asks_as e.readings.frames e.input.builds r rs (ActsOn c does ts) st.readings.frames asks) (sets_small r.kind r.fed)
 
 pub small_effect : (sizes : Sizes) (e : Engine) (book : Book) (r : Reading) (rs : List Reading) (c : Call) (does : Effect) → Stands sizes e (with_work (r ∷ rs) book) → asked e ≡ Some (Acts c does) → IsSmall does
 small_effect sizes e book r rs c does st asks =
@@ -96,17 +109,17 @@ frames_none e e' work none same st = subst (λ (c : Option _). FramesOf c e' wor
 -- ONE MOVE OF THE READINGS
 
 -- a move by which no text changes
-abbrev LeavesPage : Move → Type 0
+abbrev pub LeavesPage : Move → Type 0
 LeavesPage m = (s : State) → (plan.page_of (made m s) ≡ plan.page_of s) × ((made m s).reports ≡ s.reports)
 
 module _ (e e1 : Engine) (before after : Book) (m : Move) (is : made m (state_of e before) ≡ state_of e1 after) (turns : LeavesPage m) where
-  turned_page : page_of e1 after ≡ page_of e before
+  pub turned_page : page_of e1 after ≡ page_of e before
   turned_page = sym (ap plan.page_of is) ∙ (turns (state_of e before)).0
 
   turned_reports : (state_of e1 after).reports ≡ (state_of e before).reports
   turned_reports = sym (ap (λ (x : State). x.reports) is) ∙ (turns (state_of e before)).1
 
-closed_leaves : LeavesPage Closed
+pub closed_leaves : LeavesPage Closed
 closed_leaves s = (refl, refl)
 
 begun_leaves : (k : Kind) → LeavesPage (Begun k)

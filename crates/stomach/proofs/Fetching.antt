@@ -1,13 +1,9 @@
 -- The innermost reading takes what stands at the location for which it asked.
-use Rattle.std.proofs.Common.{◌≡◌, List, [], ◌∷◌, refl, arith}
-use Rattle.std.proofs.lemmas.Bool.Decides.{nat_tests}
+use Rattle.std.proofs.Common.{◌≡◌, List, [], ◌∷◌, refl}
 use Rattle.tex_defs.specs.declared.Sizes.{Sizes}
 use Rattle.equivalents.specs.declared.values.Loc.{Loc}
-use Rattle.equivalents.specs.declared.values.Loc.TheVariants as loc
-use Rattle.equivalents.specs.Groups.{Groups, IsLocation}
 use Rattle.equivalents.specs.Locations.{SeenValue, value_seen}
 use Rattle.equivalents.specs.Tables.{get}
-use Rattle.rows.specs.Internal.{IsFetchable}
 use Rattle.rows.specs.Readings.{Fetched}
 use Rattle.plain_readings.specs.Readings.{Reading, fed_with}
 use Rattle.plain_machine.specs.States.{Feeds, made}
@@ -19,16 +15,6 @@ use Rattle.engine_state.specs.Rules.{world_of, Went}
 use Rattle.engine_state.specs.Stands.{Stands, SameBut, page_of, state_of}
 use Rattle.engine_state.proofs.Uncalled.{all_of}
 use Rattle.engine_state.proofs.Joining.{quiet_wrote}
-
--- what may be fetched is a location
-pub fetchable : (g : Groups) (l : Loc) → IsFetchable l → IsLocation g l
-fetchable g (loc.Code kind c) h = grind (arith, nat_tests, h)
-fetchable g (loc.Integer i) h = grind (arith, nat_tests, h)
-fetchable g (loc.Dimension i) h = grind (arith, nat_tests, h)
-fetchable g (loc.Glue i) h = grind (arith, nat_tests, h)
-fetchable g (loc.Register kind n) h = grind (arith, nat_tests, h)
-fetchable g (loc.Tokens i) h = grind (arith, nat_tests, h)
-fetchable g (loc.Means n) h = absurd cc
 
 abbrev pub fetched_of : Engine → Book → Loc → SeenValue
 fetched_of e book l = value_seen (get (page_of e book).now l)

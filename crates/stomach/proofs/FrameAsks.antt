@@ -1,14 +1,11 @@
--- What a frame asks for now: a command is begun within it only with a token, and only where it is a command itself; and it defines a macro only with the
--- list that it owns.
-use Rattle.std.proofs.Common.{◌≡◌, ◌+◌, ℕ, Bool, true, false, List, [], ◌∷◌, drop, refl, ap, subst}
+-- What a frame asks for now: a command is begun within it only with a token, and only where it is a command itself; and what it does with a list, as
+-- defining a macro, it does only with the list that it owns.
+use Rattle.std.proofs.Common.{◌≡◌, ◌+◌, ℕ, Bool, true, false, List, [], ◌∷◌, drop, refl, ap, sym, subst}
 use Rattle.std.specs.Prelude.{◌≢◌, Option, None, Some}
-use Rattle.tex_defs.specs.declared.Name.{Name}
 use Rattle.tex_defs.specs.declared.Token.{Token}
-use Rattle.tex_syntax.specs.declared.words.Want.{Want}
 use Rattle.plain_state.specs.Definitions as build
 use Rattle.rows.specs.declared.words.Datum.{Datum}
 use Rattle.rows.specs.declared.words.Datum.TheVariants as datum
-use Rattle.rows.specs.declared.words.Value.{Value}
 use Rattle.rows.specs.declared.words.Value.TheVariants as value
 use Rattle.rows.specs.declared.words.Keyword.{Keyword}
 use Rattle.rows.specs.declared.words.Kind.{Kind}
@@ -18,7 +15,7 @@ use Rattle.rows.specs.declared.stage.Stage.TheVariants as stage
 use Rattle.rows.specs.declared.stage.Note.{Note}
 use Rattle.rows.specs.declared.stage.Note.TheVariants as note
 use Rattle.rows.specs.declared.command.Call.{Call}
-use Rattle.rows.specs.Readings.{Fed, Ask, Inner, Done, Defines}
+use Rattle.rows.specs.Readings.{Fed, Ask, Inner, Done, ActsOn, Defines}
 use Rattle.rows.specs.Run.{due, started, behind, run}
 use Rattle.rows.specs.Stages.{start, location, value_kind}
 use Rattle.rows.specs.Table.{stages_left, value_stage}
@@ -41,7 +38,7 @@ use Rattle.plain_readings.specs.Weights.{act_frame}
 use Rattle.scan_dimens.specs.Resumes.{resume_at as keyword_at}
 use Rattle.scan_dimens.specs.DimenResumes as dimen
 use Rattle.scan_glue.specs.GlueResumes as glue
-use Rattle.scan_dimens.specs.Sees.{kept as kept_tokens, want_behind}
+use Rattle.scan_dimens.specs.Sees.{kept as kept_tokens}
 use Rattle.scan_dimens.specs.declared.keyword.KeywordPlace.{KeywordPlace}
 use Rattle.scan_dimens.specs.declared.keyword.KeywordPlace.TheVariants as keyword
 use Rattle.reading_frames.specs.Sees.{Lists, top_list, kept_list_of}
@@ -62,65 +59,79 @@ IsModest (Inner (kind.Command c) false) = ⊥
 IsModest (Defines c n ts) = ⊥
 IsModest a = Unit {0}
 
+-- nor does it do anything with a list
+abbrev IsListless : Ask → Type 0
+IsListless (Inner (kind.Command c) false) = ⊥
+IsListless (Defines c n ts) = ⊥
+IsListless (ActsOn c e ts) = ⊥
+IsListless a = Unit {0}
+
 -- it begins no command at all
 abbrev IsMeek : Ask → Type 0
 IsMeek (Inner (kind.Command c) begins) = ⊥
 IsMeek (Defines c n ts) = ⊥
+IsMeek (ActsOn c e ts) = ⊥
 IsMeek a = Unit {0}
 
-due_modest : (n : Note) → IsModest (due n)
-due_modest (note.Tells report back) = tt
-due_modest (note.Inserts t report back) = tt
-due_modest (note.Relaxes c n) = tt
+listless_modest : (a : Ask) → IsListless a → IsModest a
+listless_modest (Inner (kind.Command c) false) h = absurd h
+listless_modest (Defines c n ts) h = absurd h
+listless_modest a h = tt
 
-with_modest : (k : Kind) → IsModest (Inner k true)
-with_modest (kind.Command c) = tt
-with_modest kind.Integer = tt
-with_modest kind.Factor = tt
-with_modest (kind.Dimension k) = tt
-with_modest (kind.Glue mu) = tt
-with_modest (kind.Keyword w) = tt
-with_modest (kind.Text name expanded) = tt
-with_modest (kind.Definition name expanded) = tt
+due_listless : (n : Note) → IsListless (due n)
+due_listless (note.Tells report back) = tt
+due_listless (note.Inserts t report back) = tt
+due_listless (note.Relaxes c n) = tt
 
-value_modest : (s : Stage) → IsModest (Inner (value_kind s) false)
-value_modest stage.Dimension = tt
-value_modest (stage.Glue mu) = tt
-value_modest s = tt
+with_listless : (k : Kind) → IsListless (Inner k true)
+with_listless (kind.Command c) = tt
+with_listless kind.Integer = tt
+with_listless kind.Factor = tt
+with_listless (kind.Dimension k) = tt
+with_listless (kind.Glue mu) = tt
+with_listless (kind.Keyword w) = tt
+with_listless (kind.Text name expanded) = tt
+with_listless (kind.Definition name expanded) = tt
+
+value_listless : (s : Stage) → IsListless (Inner (value_kind s) false)
+value_listless stage.Dimension = tt
+value_listless (stage.Glue mu) = tt
+value_listless s = tt
 
 module _ (turn : Call → List Fed → Ask) (c : Call) (ds : List Datum) (onward : List Datum → List Fed → Ask) where
-  started_modest : (s : Stage) → IsModest (behind turn c ds onward (started s c (start s c ds) []))
-  started_modest stage.Number = tt
-  started_modest (stage.NumberTo greatest complaint) = tt
-  started_modest (stage.NumberUpTo greatest) = tt
-  started_modest stage.Dimension = tt
-  started_modest (stage.Glue mu) = tt
-  started_modest stage.Amount = value_modest (value_stage (location 0 ds))
-  started_modest stage.Equals = tt
-  started_modest stage.ControlSequence = tt
-  started_modest stage.NewName = tt
-  started_modest stage.Variable = tt
-  started_modest stage.InternalValue = tt
-  started_modest (stage.Keyword w) = tt
-  started_modest stage.LetEquals = tt
-  started_modest stage.Space = tt
-  started_modest stage.AnyToken = tt
-  started_modest stage.NonblankToken = tt
-  started_modest (stage.Text expanded) = tt
-  started_modest (stage.MacroText expanded) = tt
-  started_modest (stage.Prefixes p) = tt
+  started_listless : (s : Stage) → IsListless (behind turn c ds onward (started s c (start s c ds) []))
+  started_listless stage.Number = tt
+  started_listless (stage.NumberTo greatest complaint) = tt
+  started_listless (stage.NumberUpTo greatest) = tt
+  started_listless stage.Dimension = tt
+  started_listless (stage.Glue mu) = tt
+  started_listless stage.Amount = value_listless (value_stage (location 0 ds))
+  started_listless stage.Equals = tt
+  started_listless stage.ControlSequence = tt
+  started_listless stage.NewName = tt
+  started_listless stage.Variable = tt
+  started_listless stage.InternalValue = tt
+  started_listless stage.TokenList = tt
+  started_listless (stage.Keyword w) = tt
+  started_listless stage.LetEquals = tt
+  started_listless stage.Space = tt
+  started_listless stage.AnyToken = tt
+  started_listless stage.NonblankToken = tt
+  started_listless (stage.Text expanded) = tt
+  started_listless (stage.MacroText expanded) = tt
+  started_listless (stage.Prefixes p) = tt
 
-  within_modest : (s : Stage) (k : Kept) → IsModest (behind turn c ds onward (within s c ds k []))
-  within_modest s kept.Start = started_modest s
-  within_modest s (kept.Looking d want) = tt
-  within_modest s (kept.Within k) = with_modest k
-  within_modest s (kept.Numbered b) = tt
-  within_modest s (kept.Noting n m) = due_modest n
-  within_modest s (kept.Retrying d want n) = due_modest n
+  within_listless : (s : Stage) (k : Kept) → IsListless (behind turn c ds onward (within s c ds k []))
+  within_listless s kept.Start = started_listless s
+  within_listless s (kept.Looking d want) = tt
+  within_listless s (kept.Within k) = with_listless k
+  within_listless s (kept.Numbered b) = tt
+  within_listless s (kept.Noting n m) = due_listless n
+  within_listless s (kept.Retrying d want n) = due_listless n
 
-row_modest : (turn : Call → List Fed → Ask) (c : Call) (ss : List Stage) (ds : List Datum) (k : Kept) → IsModest (resume_row turn c ss ds k [])
-row_modest turn c [] ds k = tt
-row_modest turn c (s ∷ ss) ds k = within_modest turn c ds (λ es more. run turn c ss es more) s k
+row_listless : (turn : Call → List Fed → Ask) (c : Call) (ss : List Stage) (ds : List Datum) (k : Kept) → IsListless (resume_row turn c ss ds k [])
+row_listless turn c [] ds k = tt
+row_listless turn c (s ∷ ss) ds k = within_listless turn c ds (λ es more. run turn c ss es more) s k
 
 number_meek : (negative : Bool) (p : Place) → IsMeek (resume_at negative p [])
 number_meek negative number.Signs = tt
@@ -166,16 +177,16 @@ glue_meek (glues.Fetches l) = tt
 glue_meek (glues.Tells report) = tt
 glue_meek (glues.Done g) = tt
 
-letters_meek : (cs : List ℕ) (ts : List Token) (want : Want) → IsMeek (keyword_from cs ts want [])
-letters_meek [] ts want = tt
-letters_meek (c ∷ cs) ts want = tt
+letters_meek : (cs : List ℕ) (ts : List Token) → IsMeek (keyword_from cs ts [])
+letters_meek [] ts = tt
+letters_meek (c ∷ cs) ts = tt
 
 back_meek : (ts : List Token) → IsMeek (giving_back ts [])
 back_meek [] = tt
 back_meek (t ∷ ts) = tt
 
 keyword_meek : (w : Keyword) (ts : List Token) (p : KeywordPlace) → IsMeek (keyword_at w ts p [])
-keyword_meek w ts (keyword.Letters n) = letters_meek (drop n (letters w)) (kept_tokens n ts) (want_behind n)
+keyword_meek w ts (keyword.Letters n) = letters_meek (drop n (letters w)) (kept_tokens n ts)
 keyword_meek w ts (keyword.PutsBack n) = back_meek (kept_tokens n ts)
 keyword_meek w ts (keyword.Ended found) = tt
 
@@ -204,7 +215,7 @@ not_meek a b is h = subst IsMeek is h
 
 -- WITHIN A FRAME no command is begun without a token
 begins_none : (f : Frame) (held : Lists) (c : Call) → resume f held [] ≡ Inner (kind.Command c) false → ⊥
-begins_none (Command (command.Reads f) p) held c is = not_so _ _ is (row_modest (λ d more. turn_of f.is_turned d more) f.call (stages_left f.left) (values f.read) f.kept)
+begins_none (Command (command.Reads f) p) held c is = not_so _ _ is (listless_modest _ (row_listless (λ d more. turn_of f.is_turned d more) f.call (stages_left f.left) (values f.read) f.kept))
 begins_none (Command (command.Acts d e) p) held c is = cc
 begins_none (Command (command.ActsOn d e listed) p) held c is = cc
 begins_none (Command (command.Defines d n listed) p) held c is = cc
@@ -229,26 +240,43 @@ begins_heavy (Word scan) held c begins is = absurd (not_meek _ _ is (keyword_mee
 begins_heavy (Build scan) held c begins is = absurd (not_meek _ _ is (build_meek (resume_build scan (top_list held) [])))
 begins_heavy f held c begins is = refl
 
--- A MACRO is defined with the frame's own list, where that has a token
-owned : (listed : Bool) (d c : Call) (m n : Name) (held : Lists) (ts : List Token) → Defines d m (kept_list_of listed held) ≡ Defines c n ts → ts ≢ [] → listed_count listed ≡ 1
-owned true d c m n held ts is some = refl
-owned false d c m n held ts is some = absurd (some cc)
+-- WITH ITS OWN LIST, where that has a token, a frame does something
 
-defines_own : (f : Frame) (held : Lists) (c : Call) (n : Name) (ts : List Token) → resume f held [] ≡ Defines c n ts → ts ≢ [] → list_count f ≡ 1
-defines_own (Command (command.Reads f) p) held c n ts is some = absurd (not_so _ _ is (row_modest (λ d more. turn_of f.is_turned d more) f.call (stages_left f.left) (values f.read) f.kept))
-defines_own (Command (command.Acts d e) p) held c n ts is some = absurd cc
-defines_own (Command (command.ActsOn d e listed) p) held c n ts is some = absurd cc
-defines_own (Command (command.Defines d m listed) p) held c n ts is some = owned listed d c m n held ts is some
-defines_own (Command command.Ended p) held c n ts is some = absurd cc
-defines_own (Integer scan) held c n ts is some = absurd (not_meek _ _ is (number_meek scan.negative scan.place))
-defines_own (Factor scan) held c n ts is some = absurd (not_meek _ _ is (factor_meek scan.decimal scan.point scan.scan))
-defines_own (Dimension scan) held c n ts is some = absurd (not_meek _ _ is (dimen_meek (dimen.resume scan [])))
-defines_own (Glue scan) held c n ts is some = absurd (not_meek _ _ is (glue_meek (glue.resume scan [])))
-defines_own (Word scan) held c n ts is some = absurd (not_meek _ _ is (keyword_meek scan.keyword scan.tokens scan.place))
-defines_own (Build scan) held c n ts is some = refl
-defines_own (Spelling scan) held c n ts is some = refl
-defines_own (FileName scan) held c n ts is some = refl
-defines_own (Behind d x) held c n ts is some = absurd cc
+-- this is the list
+abbrev pub HasList : Ask → List Token → Type 0
+HasList (Defines c n us) ts = us ≡ ts
+HasList (ActsOn c e us) ts = us ≡ ts
+HasList a ts = ⊥
+
+listless_not : (a : Ask) (ts : List Token) → IsListless a → HasList a ts → ⊥
+listless_not (Defines c n us) ts h i = h
+listless_not (ActsOn c e us) ts h i = h
+listless_not a ts h i = absurd i
+
+meek_not : (a : Ask) (ts : List Token) → IsMeek a → HasList a ts → ⊥
+meek_not (Defines c n us) ts h i = h
+meek_not (ActsOn c e us) ts h i = h
+meek_not a ts h i = absurd i
+
+owned : (listed : Bool) (held : Lists) (ts : List Token) → kept_list_of listed held ≡ ts → ts ≢ [] → listed_count listed ≡ 1
+owned true held ts is some = refl
+owned false held ts is some = absurd (some (sym is))
+
+list_own : (f : Frame) (held : Lists) (ts : List Token) → HasList (resume f held []) ts → ts ≢ [] → list_count f ≡ 1
+list_own (Command (command.Reads f) p) held ts has some = absurd (listless_not _ ts (row_listless (λ d more. turn_of f.is_turned d more) f.call (stages_left f.left) (values f.read) f.kept) has)
+list_own (Command (command.Acts d e) p) held ts has some = absurd has
+list_own (Command (command.ActsOn d e listed) p) held ts has some = owned listed held ts has some
+list_own (Command (command.Defines d m listed) p) held ts has some = owned listed held ts has some
+list_own (Command command.Ended p) held ts has some = absurd has
+list_own (Integer scan) held ts has some = absurd (meek_not _ ts (number_meek scan.negative scan.place) has)
+list_own (Factor scan) held ts has some = absurd (meek_not _ ts (factor_meek scan.decimal scan.point scan.scan) has)
+list_own (Dimension scan) held ts has some = absurd (meek_not _ ts (dimen_meek (dimen.resume scan [])) has)
+list_own (Glue scan) held ts has some = absurd (meek_not _ ts (glue_meek (glue.resume scan [])) has)
+list_own (Word scan) held ts has some = absurd (meek_not _ ts (keyword_meek scan.keyword scan.tokens scan.place) has)
+list_own (Build scan) held ts has some = refl
+list_own (Spelling scan) held ts has some = refl
+list_own (FileName scan) held ts has some = refl
+list_own (Behind d x) held ts has some = absurd has
 
 -- the innermost
 
@@ -260,6 +288,6 @@ pub innermost_heavy : (fs : List Frame) (held : Lists) (c : Call) (begins : Bool
 innermost_heavy [] held c begins is = cc
 innermost_heavy (f ∷ fs) held c begins is = ap (λ (n : ℕ). n + frames_weight fs) (begins_heavy f held c begins cc)
 
-pub innermost_own : (fs : List Frame) (held : Lists) (c : Call) (n : Name) (ts : List Token) → asks_in fs held ≡ Some (Defines c n ts) → ts ≢ [] → innermost_count fs ≡ 1
-innermost_own [] held c n ts is some = cc
-innermost_own (f ∷ fs) held c n ts is some = defines_own f held c n ts (cc) some
+pub innermost_own : (fs : List Frame) (held : Lists) (a : Ask) (ts : List Token) → asks_in fs held ≡ Some a → HasList a ts → ts ≢ [] → innermost_count fs ≡ 1
+innermost_own [] held a ts is has some = cc
+innermost_own (f ∷ fs) held a ts is has some = let same : a ≡ resume f held [] = cc in list_own f held ts (subst (λ (x : Ask). HasList x ts) same has) some

@@ -4,7 +4,9 @@ pub mod TokensObeyed
 pub mod Regrouped
 pub mod ActingAlone
 pub mod Assigning
+pub mod Passing
 pub mod Defining
+pub mod ListsSet
 pub mod FrameAsks
 pub mod InnerBegun
 pub mod Telling

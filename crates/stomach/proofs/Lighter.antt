@@ -21,7 +21,7 @@ use Rattle.stomach.specs.Obeying as obeys
 use Rattle.stomach.proofs.RuleCloses.{closed_lighter_behind}
 
 -- where no call is open
-weight_none : (e : Engine) → e.call ≡ None → weight e ≡ stack_weight e.readings + pending_weight e.input.pending
+pub weight_none : (e : Engine) → e.call ≡ None → weight e ≡ stack_weight e.readings + pending_weight e.input.pending
 weight_none e none = ap (λ (c : Option OpenCall). readings_weight c e + pending_weight e.input.pending) none
 
 -- behind what leaves the frames as they were, which an engine n tells

@@ -12,6 +12,7 @@ use Rattle.tex_defs.specs.declared.Token.TheVariants as token
 use Rattle.plain_tokens.specs.Names.{relax_primitive}
 use Rattle.plain_readings.specs.Readings.{Reading}
 use Rattle.plain_readings.specs.Weights.{act_frame, act_weight}
+use Rattle.equivalents.specs.declared.values.Loc.{Loc}
 use Rattle.rows.specs.declared.command.Call.{Call}
 use Rattle.rows.specs.declared.command.Effect.{Effect}
 use Rattle.rows.specs.declared.command.Effect.TheVariants as effect
@@ -101,11 +102,14 @@ reported_halts sizes e e1 book w w' moves o same st h =
 -- WHAT A COMMAND DOES WITH A LIST
 
 -- with some effects it does nothing
-pub acts_else : (page : Page) (c : Call) (e : Effect) (ts : List Token) → (e ≡ effect.Message → ⊥) → (e ≡ effect.ErrorMessage → ⊥) → (e ≡ effect.MakeName → ⊥) → acts_on page c e ts ≡ Closed ∷ []
-acts_else page c effect.Message ts m e n = absurd (m refl)
-acts_else page c effect.ErrorMessage ts m e n = absurd (e refl)
-acts_else page c effect.MakeName ts m e n = absurd (n refl)
-acts_else page c x ts m e n = refl
+pub acts_else : (page : Page) (c : Call) (e : Effect) (ts : List Token) → (e ≡ effect.Message → ⊥) → (e ≡ effect.ErrorMessage → ⊥) → (e ≡ effect.MakeName → ⊥) → ((upper : Bool) → e ≡ effect.ChangeCase upper → ⊥) → ((l : Loc) → e ≡ effect.SetList l → ⊥) →
+    acts_on page c e ts ≡ Closed ∷ []
+acts_else page c effect.Message ts messages errors names cases sets = absurd (messages refl)
+acts_else page c effect.ErrorMessage ts messages errors names cases sets = absurd (errors refl)
+acts_else page c effect.MakeName ts messages errors names cases sets = absurd (names refl)
+acts_else page c (effect.ChangeCase upper) ts messages errors names cases sets = absurd (cases upper refl)
+acts_else page c (effect.SetList l) ts messages errors names cases sets = absurd (sets l refl)
+acts_else page c x ts messages errors names cases sets = refl
 
 -- a name is made without a step
 entered_free : (names : List (List ℕ)) → steps (entered names) ≡ 0

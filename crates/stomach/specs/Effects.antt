@@ -1,20 +1,18 @@
 -- What a command does before its reading ends.
-use Rattle.std.specs.Prelude.{◌<◌, ℤ, pos, Bool, true, false, List, [], ◌∷◌, ◌++◌, Some}
+use Rattle.std.specs.Prelude.{pos, List, [], ◌∷◌, ◌++◌, Some}
 use Rattle.plain_tokens.specs.Meanings.{meaning_to_let}
 use Rattle.plain_tokens.specs.Numerals.{whole_number, roman}
 use Rattle.plain_state.specs.Reports.{string_text}
-use Rattle.equivalents.specs.declared.values.Glue.{Glue}
 use Rattle.equivalents.specs.declared.values.Loc.{Loc}
-use Rattle.equivalents.specs.declared.values.Loc.TheVariants as loc
 use Rattle.equivalents.specs.declared.values.Val.TheVariants as val
-use Rattle.equivalents.specs.Locations.{SeenValue, Suits, value_seen}
+use Rattle.equivalents.specs.Locations.{SeenValue, value_seen}
 use Rattle.equivalents.specs.Tables.{get}
-use Rattle.rows.specs.Internal.{is_glue, value_text}
+use Rattle.rows.specs.Internal.{value_text}
 use Rattle.rows.specs.declared.command.Call.{Call}
 use Rattle.rows.specs.declared.command.Effect.{Effect}
 use Rattle.rows.specs.declared.command.Effect.TheVariants as effect
 use Rattle.plain_machine.specs.States.{Move, Set, Assigned, KeptForAssignment}
-use Rattle.plain_machine.specs.Plan.{Page, is_global, assigned, behind_assignment, kept_for_group, short_meaning, shown, put_one, put_characters, marked, meaning_characters, style_of}
+use Rattle.plain_machine.specs.Plan.{Page, is_global, assigned, behind_assignment, kept_for_group, short_meaning, shown, standing_shown, value_shown, put_one, put_characters, marked, meaning_characters, style_of}
 
 -- what is put in front
 abbrev pub put_by : Page → Effect → List Move
@@ -27,13 +25,16 @@ put_by page (effect.MakeMeaning x) = put_characters (meaning_characters page x)
 put_by page (effect.MakeValue l) = put_characters (value_text l (value_seen (get page.now l)))
 put_by page e = []
 
--- what is done alone, where no token is obeyed and none expanded, and nothing is computed
+-- what is done alone, where no token is obeyed and none expanded, nothing is computed, and no list put in front
 abbrev pub done_alone : Page → Call → Effect → List Move
 done_alone page c (effect.Show x) = shown page x
+done_alone page c (effect.ShowValue l) = standing_shown page l
+done_alone page c (effect.ShowNumber n) = value_shown page (whole_number n) []
 done_alone page c (effect.Let n x) = assigned page (Assigned (is_global page c) n (meaning_to_let page.now.meanings x))
 done_alone page c (effect.FutureLet n x y) = put_one y.token ++ (put_one x.token ++ assigned page (Assigned (is_global page c) n (meaning_to_let page.now.meanings y)))
 done_alone page c (effect.SetNumber l value) = assigned page (Set (is_global page c) l (val.Number value))
 done_alone page c (effect.SetGlue l g) = assigned page (Set (is_global page c) l (val.Skip g))
+done_alone page c (effect.ShareList l m) = assigned page (Set (is_global page c) l (get page.now m))
 done_alone page c (effect.Shorthand n s) = assigned page (Assigned (is_global page c) n (short_meaning s))
 done_alone page c effect.Unassigned = behind_assignment page.after
 done_alone page c (effect.AfterGroup x) = kept_for_group page.group x.token
@@ -45,37 +46,11 @@ abbrev pub IsAlone : Effect → Type 0
 IsAlone (effect.Obey x) = ⊥
 IsAlone (effect.ExpandBehind x y) = ⊥
 IsAlone (effect.Compute operation l d) = ⊥
+IsAlone (effect.PutList l) = ⊥
 IsAlone e = Unit {0}
-
--- a location that is there, and no name's: each byte is the number of a register and of a character
-abbrev pub IsThere : Loc → Type 0
-IsThere (loc.Integer i) = i < 55
-IsThere (loc.Dimension i) = i < 21
-IsThere (loc.Glue i) = i < 18
-IsThere (loc.Tokens i) = i < 8
-IsThere (loc.Means n) = ⊥
-IsThere l = Unit {0}
-
--- all glue may stand there, or all numbers
-abbrev pub TakesAll : (glue : Bool) → Loc → Type 0
-TakesAll true l = (g : Glue) → Suits l (val.Skip g)
-TakesAll false l = (n : ℤ) → Suits l (val.Number n)
-
--- which arithmetic changes
-abbrev pub IsVariable : Loc → Type 0
-IsVariable l = IsThere l × TakesAll (is_glue l) l
 
 -- the assignment of what arithmetic comes to; a value that is no number and no glue counts as the number 0
 abbrev pub assignment_of : Loc → SeenValue → Effect
 assignment_of l (val.Number n) = effect.SetNumber l n
 assignment_of l (val.Skip g) = effect.SetGlue l g
 assignment_of l v = effect.SetNumber l (pos 0)
-
--- A number or glue is set at a location that is there and that such a value suits; what is computed is at one that takes all numbers, or all glue; the
--- text of a value is that of one that is there.
-abbrev pub IsSmall : Effect → Type 0
-IsSmall (effect.SetNumber l value) = IsThere l × Suits l (val.Number value)
-IsSmall (effect.SetGlue l g) = IsThere l × Suits l (val.Skip g)
-IsSmall (effect.Compute operation l d) = IsVariable l
-IsSmall (effect.MakeValue l) = IsThere l
-IsSmall e = Unit {0}

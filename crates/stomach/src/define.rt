@@ -21,7 +21,7 @@ use rows::Call;
 use tex_defs::{Full, Name};
 
 /// Whether the list on top, if it is listed, has a token.
-fn has_token(engine: &Engine, listed: bool) -> bool
+pub(crate) fn has_token(engine: &Engine, listed: bool) -> bool
     ensures { MatchBool result (kept_list_of listed engine.now.input.builds ≢ []) (kept_list_of listed engine.now.input.builds ≡ []) }
 {
     listed && engine.input.has_list() && !engine.input.is_list_empty()

@@ -10,30 +10,31 @@ ghost use Rattle.equivalents.specs.Locations.{IsInRow, Suits, value_seen};
 ghost use Rattle.equivalents.specs.Tables.{get};
 ghost use Rattle.meanings.specs.Kept.{without_list};
 ghost use Rattle.plain_readings.specs.Readings.{Reading};
-ghost use Rattle.rows.specs.Internal.{IsFetchable};
 ghost use Rattle.rows.specs.Readings.{Ask, Acts};
 ghost use Rattle.rows.specs.declared.command.Effect.TheVariants as effects;
 ghost use Rattle.reading_frames.specs.Stack.{asks_in};
 ghost use Rattle.reading_frames.specs.Weights.{IsEnd};
 ghost use Rattle.plain_machine.specs.States.{Move, Set, Assigned};
-ghost use Rattle.plain_machine.specs.Plan.{acts, computed_to, is_global as plain_global, marked as plain_marked, put_one, short_meaning as plain_short};
+ghost use Rattle.plain_machine.specs.Plan.{acts, acts_above, computed_to, is_global as plain_global, marked as plain_marked, put_one, short_meaning as plain_short, standing_shown};
 ghost use Rattle.plain_machine.specs.Does.{Did};
 ghost use Rattle.world_io.specs.Told.{FilesTold};
 ghost use Rattle.engine_state.specs.Book.{Book, with_work};
 ghost use Rattle.engine_state.specs.Making.{IsInFront};
 ghost use Rattle.engine_state.specs.CutReadings.{CutsIn};
-ghost use Rattle.engine_state.specs.Stands.{Stands, Counts, SameFrames, state_of, page_of};
+ghost use Rattle.engine_state.specs.Stands.{Stands, Counts, IsSound, SameFrames, state_of, page_of};
 ghost use Rattle.engine_state.specs.Rules.{world_of, Cuts, Went};
 ghost use Rattle.engine_state.specs.Steps.{asked, pending_weight, freed, weight, IsFree, IsStep};
-ghost use Rattle.stomach.specs.Effects.{put_by, done_alone, assignment_of, IsVariable, IsAlone, IsSmall, IsThere};
+ghost use Rattle.rows.specs.Suiting.{IsVariable, IsSmall, IsThere};
+ghost use Rattle.stomach.specs.Effects.{put_by, done_alone, assignment_of, IsAlone};
 ghost use Rattle.stomach.specs.Halting.{DoesRuleIn};
 
+use crate::lists::{give_list, share_list};
 use crate::obeying::obey;
 use engine_state::{Broken, Engine, Made, Ruled};
 use equivalents::{CodeKind, Glue, Loc, Val};
 use gullet::{Once, expand_once};
 use reading_frames::Opening;
-use rows::{Call, Datum, Effect, Operation, Shorthand, value_computed};
+use rows::{Call, Datum, Effect, Operation, Shorthand, is_fetchable, value_computed};
 use tex_defs::{Fatal, Meaning, Name, RegisterKind, Seen, Token};
 use tex_syntax::{Outcome, Report};
 use world_io::Sink;
@@ -48,29 +49,6 @@ fn marked(token: Token) -> Token
     }
 }
 
-/// How many integer parameters there are, how many of dimensions, of glue and of lists of tokens.
-const INTEGER_PARAMETERS: u8 = 55;
-
-const DIMENSION_PARAMETERS: u8 = 21;
-
-const GLUE_PARAMETERS: u8 = 18;
-
-const TOKEN_PARAMETERS: u8 = 8;
-
-/// Whether a location is there, and no name's.
-fn is_there(loc: Loc) -> bool
-    ensures { MatchBool result (IsFetchable loc) (IsThere loc → ⊥) }
-{
-    match loc {
-        Loc::Code { .. } | Loc::Register { .. } => true,
-        Loc::Integer(i) => i < INTEGER_PARAMETERS,
-        Loc::Dimension(i) => i < DIMENSION_PARAMETERS,
-        Loc::Glue(i) => i < GLUE_PARAMETERS,
-        Loc::Tokens(i) => i < TOKEN_PARAMETERS,
-        Loc::Means(_) => false,
-    }
-}
-
 /// Puts in front the text of what stands at a location, if it is there. *TeX: The Program*, part 27 (`the_toks`).
 fn put_value(engine: &mut Engine, loc: Loc) -> Result<(), Broken>
     requires idle { engine.old.input.making ≡ None }
@@ -79,7 +57,7 @@ fn put_value(engine: &mut Engine, loc: Loc) -> Result<(), Broken>
     ensures front { IsInFront engine.old engine.new }
     ensures idle { OnOk result (engine.new.input.making ≡ None) }
 {
-    if is_there(loc) {
+    if is_fetchable(loc) {
         return engine.put_characters(Made::Value(loc));
     }
     Ok(())
@@ -207,8 +185,7 @@ fn takes_number(loc: Loc, value: i32) -> bool
             code: _,
         } => (0..16).contains(&value),
         Loc::Code { .. } => true,
-        Loc::Integer(i) => i < INTEGER_PARAMETERS,
-        Loc::Dimension(i) => i < DIMENSION_PARAMETERS,
+        Loc::Integer(_) | Loc::Dimension(_) => is_fetchable(loc),
         Loc::Register {
             kind: RegisterKind::Count | RegisterKind::Dimen,
             no: _,
@@ -244,7 +221,7 @@ fn takes_glue(loc: Loc) -> bool
     ensures { MatchBool result ((IsInRow loc) × ((g : PlainGlue) → Suits loc (val.Skip g))) (IsThere loc → (g : PlainGlue) → Suits loc (val.Skip g) → ⊥) }
 {
     match loc {
-        Loc::Glue(i) => i < GLUE_PARAMETERS,
+        Loc::Glue(_) => is_fetchable(loc),
         Loc::Register {
             kind: RegisterKind::Skip | RegisterKind::Muskip,
             no: _,
@@ -270,11 +247,29 @@ fn set_glue(engine: &mut Engine, loc: Loc, glue: Glue, global: bool) -> Result<(
     Ok(())
 }
 
+/// Writes what stands at a location, if it is there.
+///
+/// # Errors
+/// A write failed or wanted memory: a front of the text was written.
+fn show_value<S: Sink>(engine: &mut Engine, out: &mut S, loc: Loc) -> Result<(), Broken>
+    ensures did { OnOk result (IsThere loc → (sizes : Sizes) (f : FilesTold) (book : Book) → IsSound sizes engine.old book.number book.macros →
+        Did sizes (state_of engine.old book) (state_of engine.new book) (world_of f (S.told out.old) engine.old) (world_of f (S.told out.new) engine.new) (standing_shown (page_of engine.old book) loc)) }
+    ensures err { IfErr result (λ b. (sizes : Sizes) (f : FilesTold) (book : Book) (more : List Move) → IsSound sizes engine.old book.number book.macros →
+        Cuts sizes (state_of engine.old book) engine.new book (world_of f (S.told out.old) engine.old) (world_of f (S.told out.new) engine.new) (standing_shown (page_of engine.old book) loc ++ more) b) }
+    ensures only { engine.new ≡ record engine.old { in_line = engine.new.in_line; flawed = engine.new.flawed } }
+    ensures frames { SameFrames engine.old engine.new }
+{
+    if is_fetchable(loc) {
+        return engine.show_value(out, loc);
+    }
+    Ok(())
+}
+
 /// What stands at a location, if it is there.
 fn value_at(engine: &Engine, loc: Loc) -> Val<()>
     ensures { IsThere loc → (book : Book) → result ≡ value_seen (get (page_of engine.now book).now loc) }
 {
-    if is_there(loc) {
+    if is_fetchable(loc) {
         return engine.input.value(loc);
     }
     Val::Number(0)
@@ -291,7 +286,7 @@ fn assignment(loc: Loc, value: Val<()>) -> Effect
     }
 }
 
-/// Does what a command says, where no token is obeyed and none expanded, and nothing is computed.
+/// Does what a command says, where no token is obeyed and none expanded, nothing is computed, and no list put in front.
 ///
 /// # Errors
 /// There is no room for what is put in front or in the save stack, or a write failed: the engine stands for the moment before.
@@ -313,6 +308,8 @@ fn act_alone<S: Sink>(
 {
     match effect {
         Effect::Show(x) => engine.show(out, x),
+        Effect::ShowValue(loc) => show_value(engine, out, loc),
+        Effect::ShowNumber(n) => engine.show_number(out, n),
         Effect::Let(name, x) => {
             let global = is_global(engine, call);
             assign(engine, name, x, global)?;
@@ -331,6 +328,11 @@ fn act_alone<S: Sink>(
         Effect::SetGlue(loc, glue) => {
             let global = is_global(engine, call);
             set_glue(engine, loc, glue, global)?;
+            engine.put_after()
+        }
+        Effect::ShareList(loc, from) => {
+            let global = is_global(engine, call);
+            share_list(engine, loc, from, global)?;
             engine.put_after()
         }
         Effect::Shorthand(name, shorthand) => {
@@ -418,7 +420,7 @@ fn expand_behind<S: Sink>(
     }
 }
 
-/// Does what a command says, where no token is obeyed and none expanded, and nothing is computed, and its reading ends.
+/// Does what a command says, where no token is obeyed and none expanded, nothing is computed, and no list put in front, and its reading ends.
 ///
 /// # Errors
 /// As [`act_alone`].
@@ -508,9 +510,9 @@ pub(crate) fn act<S: Sink>(
     requires idle { engine.old.input.making ≡ None }
     requires uncalled { engine.old.call ≡ None }
     ensures rule { IfOk result (λ ruled. (sizes : Sizes) (f : FilesTold) (book : Book) (r : Reading) (rs : List Reading) → Stands sizes engine.old (with_work (r ∷ rs) book) → asked engine.old ≡ Some (Acts call effect) →
-        DoesRuleIn sizes (state_of engine.old (with_work (r ∷ rs) book)) engine.new (world_of f (S.told out.old) engine.old) (world_of f (S.told out.new) engine.new) (acts (page_of engine.old book) call effect) ruled) }
+        DoesRuleIn sizes (state_of engine.old (with_work (r ∷ rs) book)) engine.new (world_of f (S.told out.old) engine.old) (world_of f (S.told out.new) engine.new) (acts_above rs (page_of engine.old book) call effect) ruled) }
     ensures err { IfErr result (λ b. (sizes : Sizes) (f : FilesTold) (book : Book) (r : Reading) (rs : List Reading) → Stands sizes engine.old (with_work (r ∷ rs) book) → asked engine.old ≡ Some (Acts call effect) →
-        CutsIn sizes (state_of engine.old (with_work (r ∷ rs) book)) engine.new (world_of f (S.told out.old) engine.old) (world_of f (S.told out.new) engine.new) (acts (page_of engine.old book) call effect) b) }
+        CutsIn sizes (state_of engine.old (with_work (r ∷ rs) book)) engine.new (world_of f (S.told out.old) engine.old) (world_of f (S.told out.new) engine.new) (acts_above rs (page_of engine.old book) call effect) b) }
     ensures step { IfOk result (λ ruled. IsStep ruled → ⊥) }
     ensures light { IfOk result (λ ruled. IsFree ruled → asks_in engine.old.readings.frames [] ≡ Some (Acts call effect) → weight engine.new < weight engine.old) }
     ensures idle { OnOk result (engine.new.input.making ≡ None) }
@@ -520,6 +522,10 @@ pub(crate) fn act<S: Sink>(
         Effect::ExpandBehind(x, y) => expand_behind(engine, out, call, x, y),
         Effect::Compute(operation, loc, datum) => {
             compute(engine, out, call, operation, loc, datum)
+        }
+        Effect::PutList(loc) => {
+            give_list(engine, loc)?;
+            Ok(Ruled::Free)
         }
         _ => {
             end_alone(engine, out, call, effect)?;

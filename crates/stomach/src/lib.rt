@@ -10,6 +10,7 @@ mod early;
 mod effects;
 mod ends;
 mod files;
+mod lists;
 mod naming;
 mod obeying;
 mod rules;

@@ -21,6 +21,7 @@ ghost use Rattle.stomach.specs.Halting.{DoesRuleIn, DoesPlanIn, CutsPlanIn};
 use crate::define::define;
 use crate::effects::act;
 use crate::ends::{begin_inner, done, magnify, put, relax, tell};
+use crate::lists::set_list;
 use crate::naming::make_name;
 use crate::obeying::hand_on;
 use engine_state::{Broken, Engine, Ruled, stops};
@@ -92,9 +93,9 @@ fn act_on<S: Sink>(
 ) -> Result<Ruled, Broken>
     requires idle { engine.old.input.making ≡ None }
     requires uncalled { engine.old.call ≡ None }
-    ensures rule { IfOk result (λ ruled. (sizes : Sizes) (f : FilesTold) (book : Book) (r : Reading) (rs : List Reading) → Stands sizes engine.old (with_work (r ∷ rs) book) →
+    ensures rule { IfOk result (λ ruled. (sizes : Sizes) (f : FilesTold) (book : Book) (r : Reading) (rs : List Reading) → Stands sizes engine.old (with_work (r ∷ rs) book) → asked engine.old ≡ Some (ActsOn call effect (kept_list_of listed engine.old.input.builds)) →
         DoesRuleIn sizes (state_of engine.old (with_work (r ∷ rs) book)) engine.new (world_of f (S.told out.old) engine.old) (world_of f (S.told out.new) engine.new) (acts_on (page_of engine.old book) call effect (kept_list_of listed engine.old.input.builds)) ruled) }
-    ensures err { IfErr result (λ b. (sizes : Sizes) (f : FilesTold) (book : Book) (r : Reading) (rs : List Reading) → Stands sizes engine.old (with_work (r ∷ rs) book) →
+    ensures err { IfErr result (λ b. (sizes : Sizes) (f : FilesTold) (book : Book) (r : Reading) (rs : List Reading) → Stands sizes engine.old (with_work (r ∷ rs) book) → asked engine.old ≡ Some (ActsOn call effect (kept_list_of listed engine.old.input.builds)) →
         CutsIn sizes (state_of engine.old (with_work (r ∷ rs) book)) engine.new (world_of f (S.told out.old) engine.old) (world_of f (S.told out.new) engine.new) (acts_on (page_of engine.old book) call effect (kept_list_of listed engine.old.input.builds)) b) }
     ensures step { IfOk result (λ ruled. IsStep ruled → ⊥) }
     ensures light { IfOk result (λ ruled. IsFree ruled → asks_in engine.old.readings.frames [] ≡ Some (ActsOn call effect []) → weight engine.new < weight engine.old) }
@@ -104,6 +105,11 @@ fn act_on<S: Sink>(
         Effect::Message => engine.write_message(out, listed)?,
         Effect::ErrorMessage => return report_list(engine, out, listed),
         Effect::MakeName => make_name(engine, listed)?,
+        Effect::ChangeCase(upper) => engine.put_changed(upper, listed)?,
+        Effect::SetList(loc) => {
+            set_list(engine, call, loc, listed)?;
+            return Ok(Ruled::Free);
+        }
         _ => {}
     }
     engine.close_reading();

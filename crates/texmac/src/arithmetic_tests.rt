@@ -1,5 +1,5 @@
 // Arithmetic on integers, names that stand for characters and registers, and `\the`.
-use crate::command_tests::{Counted, steps_hold};
+use crate::step_tests::{Counted, steps_hold};
 use crate::tests::{Row, rows_hold};
 
 /// `\advance`, `\multiply` and `\divide`, with their bounds and reports.
@@ -229,37 +229,7 @@ fn names_stand_for_registers(rt: HostRuntime) {
 }
 
 /// How many steps the commands take: the least `--steps` at which the run isn't stopped.
-const COUNTED: [Counted; 8] = [
-    Counted {
-        text: b"\\count1=5 \\end\n",
-        under: ("--steps=36", b"! Step limit reached [steps=36].\n"),
-        enough: ("--steps=37", b"", 0),
-    },
-    Counted {
-        text: b"\\count1 5 \\end\n",
-        under: ("--steps=35", b"! Step limit reached [steps=35].\n"),
-        enough: ("--steps=36", b"", 0),
-    },
-    Counted {
-        text: b"\\advance\\count1 by2 \\end\n",
-        under: ("--steps=38", b"! Step limit reached [steps=38].\n"),
-        enough: ("--steps=39", b"", 0),
-    },
-    Counted {
-        text: b"\\advance\\count1 2 \\end\n",
-        under: ("--steps=37", b"! Step limit reached [steps=37].\n"),
-        enough: ("--steps=38", b"", 0),
-    },
-    Counted {
-        text: b"\\chardef\\a=65 \\end\n",
-        under: ("--steps=36", b"! Step limit reached [steps=36].\n"),
-        enough: ("--steps=37", b"", 0),
-    },
-    Counted {
-        text: b"\\edef\\a{\\the\\count1}\\end\n",
-        under: ("--steps=39", b"! Step limit reached [steps=39].\n"),
-        enough: ("--steps=40", b"", 0),
-    },
+const COUNTED: [Counted; 2] = [
     Counted {
         text: b"\\countdef\\a=5 \\end\n",
         under: ("--steps=35", b"! Step limit reached [steps=35].\n"),

@@ -1,7 +1,6 @@
 // Commands that are read by rows, and expansions.
-use crate::tests::{Row, job_with, named_job, rows_hold};
-use std::alloc::Global;
-use std::process::Abort;
+use crate::step_tests::{Counted, steps_hold};
+use crate::tests::{Row, named_job, rows_hold};
 
 /// Expansions: `\expandafter`, `\noexpand`, `\string`, `\meaning` and `\romannumeral`.
 const EXPANSIONS: [Row; 24] = [
@@ -481,46 +480,8 @@ fn the_job_has_its_name(rt: HostRuntime) {
     }
 }
 
-/// A file, the bound at which its run needs one step more and what it writes then, and the bound that is enough, what it writes and its status.
-pub struct Counted {
-    pub text: &'static [u8],
-    pub under: (&'static str, &'static [u8]),
-    pub enough: (&'static str, &'static [u8], u8),
-}
-
 /// Files whose steps are counted.
-const COUNTED: [Counted; 9] = [
-    Counted {
-        text: b"\\expandafter\\let\\csname ab\\endcsname\\relax\\end\n",
-        under: ("--steps=39", b"! Step limit reached [steps=39].\n"),
-        enough: ("--steps=40", b"", 0),
-    },
-    Counted {
-        text: b"\\let\\a\\b\\end\n",
-        under: ("--steps=33", b"! Step limit reached [steps=33].\n"),
-        enough: ("--steps=34", b"", 0),
-    },
-    Counted {
-        text: b"\\let\\a= \\b\\end\n",
-        under: ("--steps=35", b"! Step limit reached [steps=35].\n"),
-        enough: ("--steps=36", b"", 0),
-    },
-    Counted {
-        text: b"\\futurelet\\a\\b\\relax\\end\n",
-        under: (
-            "--steps=36",
-            b"! Undefined control sequence.\nl.2\n! Step limit reached [steps=36].\n",
-        ),
-        enough: ("--steps=37", b"! Undefined control sequence.\nl.2\n", 1),
-    },
-    Counted {
-        text: b"{\\aftergroup x}\\end\n",
-        under: (
-            "--steps=35",
-            b"{the letter x}\n! Step limit reached [steps=35].\n",
-        ),
-        enough: ("--steps=36", b"{the letter x}\n", 0),
-    },
+const COUNTED: [Counted; 4] = [
     Counted {
         text: b"{\\endgroup\\end\n",
         under: (
@@ -549,22 +510,6 @@ const COUNTED: [Counted; 9] = [
         enough: ("--steps=39", b"", 0),
     },
 ];
-
-/// Whether a file takes so many steps.
-fn is_counted(alloc: Global, row: &Counted) -> bool {
-    let (under, enough) = (row.under, row.enough);
-    let short = ["texmac", "init", under.0, "job"];
-    let long = ["texmac", "init", enough.0, "job"];
-    job_with(alloc, &short, row.text, under.1, 4)
-        && job_with(alloc, &long, row.text, enough.1, enough.2)
-}
-
-/// Each of the files takes so many steps; the row that doesn't is named.
-pub fn steps_hold(rt: &impl Abort, alloc: Global, rows: &[Counted]) {
-    for (k, row) in rows.iter().enumerate() {
-        assert!(rt; is_counted(alloc, row), "row {k}");
-    }
-}
 
 #[test]
 fn commands_take_so_many_steps(rt: HostRuntime) {

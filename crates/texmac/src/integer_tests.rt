@@ -1,6 +1,6 @@
 // Numbers that stand at registers, codes and parameters: `\count` and the integer parameters.
-use crate::command_tests::{Counted, steps_hold};
 use crate::group_tests::{Long, long_jobs_hold};
+use crate::step_tests::{Counted, steps_hold};
 use crate::tests::{Row, job, rows_hold};
 use std::alloc::{AllocError, Global};
 
@@ -269,12 +269,12 @@ fn numbers_out_of_range_are_reported(rt: HostRuntime) {
 /// Names of commands and numbers that are not built.
 const UNDEFINED: [Row; 2] = [
     (
-        b"\\showbox\\toks\\toksdef\\everypar\\end",
+        b"\\showbox\\write\\ifnum\\output\\end",
         b"! Undefined control sequence.\nl.2\n! Undefined control sequence.\nl.2\n! Undefined control sequence.\nl.2\n! Undefined control sequence.\nl.2\n",
         1,
     ),
     (
-        b"\\message{\\number\\toks 7 ,\\number\\everypar\\count0 }\\end",
+        b"\\message{\\number\\lastpenalty 7 ,\\number\\fontdimen\\count0 }\\end",
         b"! Undefined control sequence.\nl.2\n! Undefined control sequence.\nl.2\n7,0\n",
         1,
     ),
@@ -404,22 +404,7 @@ fn integer_parameters_have_their_own_values(rt: HostRuntime) {
 }
 
 /// Files whose steps are counted.
-const COUNTED: [Counted; 7] = [
-    Counted {
-        text: b"\\count1=5 \\end\n",
-        under: ("--steps=36", b"! Step limit reached [steps=36].\n"),
-        enough: ("--steps=37", b"", 0),
-    },
-    Counted {
-        text: b"\\count1 5 \\end\n",
-        under: ("--steps=35", b"! Step limit reached [steps=35].\n"),
-        enough: ("--steps=36", b"", 0),
-    },
-    Counted {
-        text: b"\\afterassignment\\relax\\count1=2 \\end\n",
-        under: ("--steps=39", b"! Step limit reached [steps=39].\n"),
-        enough: ("--steps=40", b"", 0),
-    },
+const COUNTED: [Counted; 4] = [
     Counted {
         text: b"\\count1=\\count2 \\end\n",
         under: ("--steps=37", b"! Step limit reached [steps=37].\n"),

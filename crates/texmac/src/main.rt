@@ -15,11 +15,17 @@ mod group_tests;
 #[cfg(test)]
 mod integer_tests;
 #[cfg(test)]
+mod list_tests;
+#[cfg(test)]
 mod macro_tests;
 #[cfg(test)]
 mod measure_tests;
 #[cfg(test)]
+mod report_tests;
+#[cfg(test)]
 mod size_tests;
+#[cfg(test)]
+mod step_tests;
 #[cfg(test)]
 mod tests;
 

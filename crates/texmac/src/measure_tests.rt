@@ -1,5 +1,4 @@
 // Dimensions and glue: registers, parameters, arithmetic, and the magnification.
-use crate::command_tests::{Counted, steps_hold};
 use crate::tests::{Row, rows_hold};
 
 /// Dimensions: units, factors and bounds.
@@ -390,58 +389,4 @@ const NAMED: [Row; 9] = [
 #[test]
 fn registers_are_named_and_restored(rt: HostRuntime) {
     rows_hold(&rt, rt.alloc(), &NAMED);
-}
-
-/// How many steps the commands take: the least `--steps` at which the run isn't stopped.
-const COUNTED: [Counted; 9] = [
-    Counted {
-        text: b"\\parindent=1pt \\end\n",
-        under: ("--steps=40", b"! Step limit reached [steps=40].\n"),
-        enough: ("--steps=41", b"", 0),
-    },
-    Counted {
-        text: b"\\parindent=1sp \\end\n",
-        under: ("--steps=48", b"! Step limit reached [steps=48].\n"),
-        enough: ("--steps=49", b"", 0),
-    },
-    Counted {
-        text: b"\\parindent=1.5pt \\end\n",
-        under: ("--steps=42", b"! Step limit reached [steps=42].\n"),
-        enough: ("--steps=43", b"", 0),
-    },
-    Counted {
-        text: b"\\parindent=.5\\hsize\\end\n",
-        under: ("--steps=35", b"! Step limit reached [steps=35].\n"),
-        enough: ("--steps=36", b"", 0),
-    },
-    Counted {
-        text: b"\\parindent=2\\hsize\\end\n",
-        under: ("--steps=35", b"! Step limit reached [steps=35].\n"),
-        enough: ("--steps=36", b"", 0),
-    },
-    Counted {
-        text: b"\\parskip=1pt plus 1fil \\end\n",
-        under: ("--steps=54", b"! Step limit reached [steps=54].\n"),
-        enough: ("--steps=55", b"", 0),
-    },
-    Counted {
-        text: b"\\parskip=1pt plus1.5fil \\end\n",
-        under: ("--steps=55", b"! Step limit reached [steps=55].\n"),
-        enough: ("--steps=56", b"", 0),
-    },
-    Counted {
-        text: b"\\parskip=\\baselineskip \\end\n",
-        under: ("--steps=33", b"! Step limit reached [steps=33].\n"),
-        enough: ("--steps=34", b"", 0),
-    },
-    Counted {
-        text: b"\\dimen1=\\count1pt \\end\n",
-        under: ("--steps=43", b"! Step limit reached [steps=43].\n"),
-        enough: ("--steps=44", b"", 0),
-    },
-];
-
-#[test]
-fn dimensions_take_so_many_steps(rt: HostRuntime) {
-    steps_hold(&rt, rt.alloc(), &COUNTED);
 }

@@ -11,7 +11,7 @@ use tex_syntax::Outcome;
 use world_io::{Fault, Files, MemFiles, MemSink};
 
 /// The least size of each table.
-const LEAST: Sizes = Sizes {
+pub const LEAST: Sizes = Sizes {
     pool_size: 4000,
     number_of_strings: 200,
     hash_size: 1777,
@@ -105,7 +105,7 @@ fn words_with(
 }
 
 /// The same of a job that is the only file.
-fn words_at(
+pub fn words_at(
     alloc: Global,
     sizes: &Sizes,
     job: Job,
@@ -213,7 +213,7 @@ fn a_job_name_too_long_for_the_pool_is_refused(rt: HostRuntime) {
 }
 
 /// The words that are used where the run of this text, within these sizes, comes to where this table is full.
-fn words_where_full(
+pub fn words_where_full(
     alloc: Global,
     sizes: &Sizes,
     text: &[u8],
@@ -386,7 +386,7 @@ const GROUPS: [(&[u8], &[u8], u32); 10] = [
 ];
 
 /// What an `\end` in one group writes.
-const IN_GROUP: &[u8] = b"(\\end occurred inside a group at level 1)\n";
+pub const IN_GROUP: &[u8] = b"(\\end occurred inside a group at level 1)\n";
 
 #[test]
 fn groups_within_the_least_sizes_hold_what_fits(rt: HostRuntime) {

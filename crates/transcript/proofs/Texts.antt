@@ -15,7 +15,7 @@ use Rattle.tex_defs.specs.declared.Token.TheVariants.{Char, Named, Marked, Place
 use Rattle.tex_defs.specs.declared.Meaning.{Meaning}
 use Rattle.plain_tokens.specs.Printed.{Style, escaped, meaning_head, list_text, shown_all, printed_by, printed_all}
 use Rattle.plain_state.specs.Reports as plain
-use Rattle.plain_state.specs.Reports.{fresh_line, in_line_after, second_line, report_text, report_bytes, error_message_bytes, shown_name, macro_feed, shown_meaning_bytes}
+use Rattle.plain_state.specs.Reports.{fresh_line, in_line_after, second_line, report_text, report_bytes, error_message_bytes, shown_name, macro_feed, shown_meaning_bytes, shown_value_bytes}
 use Rattle.token_show.specs.Bytes.{all_printed}
 use Rattle.transcript.specs.Reported.{opening, subject, closing, closing_printed, closing_name, token_name, equals_behind}
 
@@ -94,6 +94,12 @@ module _ (f : ℕ → List ℕ) where
       ((fresh ++ flat_map f mark) ++ (flat_map f name ++ flat_map f equals)) ++ ((flat_map f head ++ feed) ++ (flat_map f list ++ (flat_map f dot ++ (10 ∷ (flat_map f line ++ (flat_map f number ++ 10 ∷ []))))))
       ≡ fresh ++ (flat_map f (mark ++ ((name ++ equals) ++ head)) ++ (feed ++ ((flat_map f (list ++ dot) ++ 10 ∷ []) ++ (flat_map f (line ++ number) ++ 10 ∷ []))))
   shown_around fresh mark name equals head feed list dot line number = simp (flat_map-append, append_assoc)
+
+  -- and of a value, over two
+  pub value_around : (fresh mark text list dot line number : List ℕ) →
+      ((fresh ++ flat_map f mark) ++ (flat_map f text ++ [])) ++ (flat_map f list ++ (flat_map f dot ++ (10 ∷ (flat_map f line ++ (flat_map f number ++ 10 ∷ [])))))
+      ≡ fresh ++ (flat_map f (mark ++ text) ++ ((flat_map f (list ++ dot) ++ 10 ∷ []) ++ (flat_map f (line ++ number) ++ 10 ∷ [])))
+  value_around fresh mark text list dot line number = simp (append-nil, flat_map-append, append_assoc)
 
 -- REPORTS
 
@@ -206,3 +212,12 @@ shown_parts style b line t m ts mark name equals head feed list behind first sec
     rw (h, q, r, s, i, j, k, l, n, o, p) (shown_around (printed_by style.newline) (fresh_line b) (codes "> ") (token_name style t) (equals_behind t) (meaning_head style m) (macro_feed m) (list_text style ts) (codes ".") (codes "l.") (decimal line)
     ∙ ap (λ (x : List ℕ). fresh_line b ++ (printed_all style (codes "> " ++ (x ++ meaning_head style m)) ++ (macro_feed m
     ++ (plain.printed_line style (list_text style ts ++ codes ".") ++ plain.printed_line style (codes "l." ++ decimal line))))) (name_is style t))
+
+-- and the two parts of a value
+pub value_parts : (style : Style) (b : Bool) (line : ℕ) (text : List ℕ) (ts : List Token) (mark shown list behind first second said : List ℕ) →
+    mark ≡ fresh_line b ++ printed_all style (codes "> ") → shown ≡ printed_all style text → list ≡ shown_all style ts →
+    behind ≡ printed_all style (codes ".") ++ (10 ∷ (printed_all style (codes "l.") ++ (printed_all style (decimal line) ++ 10 ∷ []))) →
+    first ≡ mark ++ (shown ++ []) → second ≡ list ++ behind → said ≡ first ++ second →
+    said ≡ shown_value_bytes style b line text ts
+value_parts style b line text ts mark shown list behind first second said i j k l m n h =
+    rw (h, m, n, i, j, k, l) (value_around (printed_by style.newline) (fresh_line b) (codes "> ") text (list_text style ts) (codes ".") (codes "l.") (decimal line))

@@ -1,9 +1,9 @@
-// What `\show` writes.
+// What `\show` and `\showthe` write.
 ghost use Rattle.std.specs.Prelude.{◌≡◌, ◌≤◌, ◌++◌, codes, length, OnOk, IfErr, IfSome, IsTrue};
 ghost use Rattle.token_lists.specs.Table.{IsHeld};
 ghost use Rattle.token_lists.specs.Ids.{id_of};
 ghost use Rattle.plain_tokens.specs.Printed.{printed_all, shown_all};
-ghost use Rattle.plain_state.specs.Reports.{fresh_line, macro_feed, shown_meaning_bytes};
+ghost use Rattle.plain_state.specs.Reports.{fresh_line, macro_feed, shown_meaning_bytes, shown_value_bytes};
 ghost use Rattle.token_show.specs.Bytes.{all_printed};
 ghost use Rattle.token_show.specs.Views.{style_of, list_tokens, IsView};
 ghost use Rattle.transcript.specs.Given.{tokens_given};
@@ -91,7 +91,7 @@ fn show_listed<'a>(view: View<'a>, list: Option<&'a ListRef>) -> Shown<'a>
 /// Writes what a token means, on a fresh line, of a macro with the tokens of its list, and then the number of the line that is
 /// being read. Only a macro has a list.
 ///
-/// *The TeXbook*, chapter 23 (`\show`); *TeX: The Program*, part 49 (`show_whatever`).
+/// *The TeXbook*, chapter 24 (`\show`); *TeX: The Program*, part 49 (`show_whatever`).
 ///
 /// # Errors
 /// A write failed or wanted memory; the sink took a front of the text.
@@ -116,4 +116,31 @@ pub fn write_shown_meaning<S: Sink>(
     let head = Said::new(b"", meaning_head(view, &meaning), macro_feed(meaning));
     let tokens = Said::new(b"", show_listed(view, list), behind.bytes());
     put_said(out, in_line, SaidParts::three(name, head, tokens))
+}
+
+/// Writes a value, on a fresh line: its text, or the tokens of its list, and then the number of the line that is being read. A value
+/// with a list has no text, and a text of another value no list.
+///
+/// *The TeXbook*, chapter 24 (`\showthe`); *TeX: The Program*, part 49 (`show_whatever`).
+///
+/// # Errors
+/// A write failed or wanted memory; the sink took a front of the text.
+pub fn write_shown_value<S: Sink>(
+    out: &mut S,
+    in_line: &mut bool,
+    view: View<'_>,
+    line: u64,
+    text: &[u8],
+    list: Option<&ListRef>,
+) -> Result<(), Fault>
+    requires names { IsView view }
+    requires held { IfSome list (λ r. IsHeld view.lists.now (id_of r.now)) }
+    ensures ok { OnOk result (Took (S.told out.old) (S.told out.new) in_line.old in_line.new (shown_value_bytes (style_of view.entry) in_line.old line text.now (tokens_given (λ r. list_tokens view.entry r.now) list.entry))) }
+    ensures err { IfErr result (λ fault. TookFront (S.told out.old) (S.told out.new) in_line.old in_line.new (shown_value_bytes (style_of view.entry) in_line.old line text.now (tokens_given (λ r. list_tokens view.entry r.now) list.entry)) fault) }
+{
+    let mark = shown_mark(view.names.newline, *in_line);
+    let behind = line_number(view.names.newline, b"", line);
+    let value = Said::new(mark.bytes(), show_bytes(view, text), b"");
+    let tokens = Said::new(b"", show_listed(view, list), behind.bytes());
+    put_said(out, in_line, SaidParts::two(value, tokens))
 }

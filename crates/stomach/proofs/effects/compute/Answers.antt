@@ -1,10 +1,11 @@
 use Rattle.std.proofs.Common.{sym, ap, subst, ◌∙◌}
-use Rattle.std.specs.Prelude.{Some, None}
+use Rattle.std.specs.Prelude.{None}
 use Rattle.plain_machine.specs.Plan.{acts}
 use Rattle.engine_state.specs.Stands.{page_of}
 use Rattle.engine_state.proofs.Joining.{same_err, ok_to, err_to, went_by}
 use Rattle.engine_state.proofs.CuttingReadings.{in_by}
-use Rattle.stomach.specs.Effects.{IsAlone, IsSmall}
+use Rattle.rows.specs.Suiting.{IsSmall}
+use Rattle.stomach.specs.Effects.{IsAlone}
 use Rattle.stomach.proofs.ActsEnding.{computed_moves, set_moves, assigned_alone, assigned_small}
 use Rattle.stomach.proofs.RuleHalts.{rules_by}
 use Rattle.stomach.proofs.effects.compute.Goals as goal

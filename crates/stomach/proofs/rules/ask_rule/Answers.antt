@@ -15,7 +15,8 @@ use Rattle.engine_state.proofs.Joining.{same_err, ok_to, ok_both, err_to, column
 use Rattle.engine_state.proofs.CuttingReadings.{column_in, in_by}
 use Rattle.engine_state.proofs.Weighing.{noted_lighter}
 use Rattle.stomach.proofs.RuleAsks.{acts_as, asked_bare, asked_cuts, asked_here, asked_rules, asked_steps, more_taken, none_kept, not_started}
-use Rattle.stomach.proofs.Fetching.{fetchable, fetched_alone}
+use Rattle.engine_state.proofs.ValueTexts.{fetchable}
+use Rattle.stomach.proofs.Fetching.{fetched_alone}
 use Rattle.stomach.proofs.RuleCloses.{closed_alone, closed_lighter}
 use Rattle.stomach.proofs.RuleHalts.{framed_rules, rules_by}
 use Rattle.stomach.proofs.rules.ask_rule.Goals as goal
@@ -91,13 +92,13 @@ pub returns-in-ActsOn-clause-rule : goal.returns-in-ActsOn-clause-rule
 returns-in-ActsOn-clause-rule g c = let e = c.args.engine.now in let n = c.act_on in let i = c.in-ActsOn in
     let none = not_started e _ c.requires.uncalled (asked_here e c.args.ask (ActsOn i.call i.effect i.listed) i.is c.requires.asks) c.requires.no_start in
     ok_to n.result (λ ruled h sizes f book. asked_rules e n.new.engine _ _ c.args.ask (ActsOn i.call i.effect i.listed) ruled i.is c.requires.stands sizes f
-    (λ b r rs st. rules_by sizes _ n.new.engine _ _ _ _ ruled (acts_as no_files (page_of e b) i.call i.effect (kept_list_of i.listed e.input.builds) none) (h sizes f b r rs st)) book) n.ensures.rule
+    (λ b r rs st. rules_by sizes _ n.new.engine _ _ _ _ ruled (acts_as no_files (page_of e b) i.call i.effect (kept_list_of i.listed e.input.builds) none) (h sizes f b r rs st (asked_here e c.args.ask (ActsOn i.call i.effect i.listed) i.is c.requires.asks))) book) n.ensures.rule
 
 pub returns-in-ActsOn-clause-err : goal.returns-in-ActsOn-clause-err
 returns-in-ActsOn-clause-err g c = let e = c.args.engine.now in let n = c.act_on in let i = c.in-ActsOn in
     let none = not_started e _ c.requires.uncalled (asked_here e c.args.ask (ActsOn i.call i.effect i.listed) i.is c.requires.asks) c.requires.no_start in
     err_to n.result (λ why h sizes f book. asked_cuts e n.new.engine _ _ c.args.ask (ActsOn i.call i.effect i.listed) why i.is c.requires.stands sizes f
-    (λ b r rs st. in_by sizes _ n.new.engine _ _ _ _ why (acts_as no_files (page_of e b) i.call i.effect (kept_list_of i.listed e.input.builds) none) (h sizes f b r rs st)) book) n.ensures.err
+    (λ b r rs st. in_by sizes _ n.new.engine _ _ _ _ why (acts_as no_files (page_of e b) i.call i.effect (kept_list_of i.listed e.input.builds) none) (h sizes f b r rs st (asked_here e c.args.ask (ActsOn i.call i.effect i.listed) i.is c.requires.asks))) book) n.ensures.err
 
 pub returns-in-ActsOn-clause-light : goal.returns-in-ActsOn-clause-light
 returns-in-ActsOn-clause-light g c = let e = c.args.engine.now in let n = c.act_on in let i = c.in-ActsOn in

@@ -1,0 +1,63 @@
+// The lists of locations, put in front or copied.
+ghost use Rattle.std.specs.Prelude.{◌≡◌, ◌++◌, List, ◌∷◌, IfErr, OnOk, true, false};
+ghost use Rattle.tex_defs.specs.Places.{World};
+ghost use Rattle.tex_defs.specs.declared.Sizes.{Sizes};
+ghost use Rattle.equivalents.specs.Groups.{IsLocation};
+ghost use Rattle.plain_readings.specs.Readings.{Reading};
+ghost use Rattle.input_state.specs.Stored.{KeepsMacros};
+ghost use Rattle.plain_machine.specs.States.{Move};
+ghost use Rattle.plain_machine.specs.Plan.{list_given, list_number};
+ghost use Rattle.plain_machine.specs.Does.{Did};
+ghost use Rattle.engine_state.specs.Book.{Book, with_work};
+ghost use Rattle.engine_state.specs.CutReadings.{CutsIn};
+ghost use Rattle.engine_state.specs.Lists.{Copies, with_list};
+ghost use Rattle.engine_state.specs.Stands.{Stands, IsSound, SameFrames, state_of, page_of};
+ghost use Rattle.engine_state.specs.Rules.{Cuts};
+ghost use Rattle.engine_state.specs.Steps.{pending_weight};
+ghost use Rattle.engine_state.specs.declared.broken.Broken.TheVariants as broken;
+
+use crate::broken::Broken;
+use crate::engine::Engine;
+use equivalents::Loc;
+use tex_defs::{Full, Sizes};
+
+impl Engine {
+    /// Puts the list that stands at a location in front, once the finished lists in front have gone: it is shared, not copied. Where none
+    /// stands, nothing changes. *TeX: The Program*, part 27 (`ins_the_toks`).
+    ///
+    /// # Errors
+    /// The input stack is full: the finished lists in front have gone.
+    pub fn put_list(&mut self, loc: Loc) -> Result<(), Broken>
+        requires there { IsLocation self.old.input.groups loc }
+        ensures did { OnOk result ((sizes : Sizes) (w : World) (book : Book) → IsSound sizes self.old book.number book.macros → Did sizes (state_of self.old book) (state_of self.new book) w w (list_given (page_of self.old book) false (list_number (page_of self.old book) loc))) }
+        ensures err { IfErr result (λ b. (sizes : Sizes) (w : World) (book : Book) (more : List Move) → IsSound sizes self.old book.number book.macros → Cuts sizes (state_of self.old book) self.new book w w (list_given (page_of self.old book) false (list_number (page_of self.old book) loc) ++ more) b) }
+        ensures stands { OnOk result ((sizes : Sizes) (book : Book) → Stands sizes self.old book → Stands sizes self.new book) }
+        ensures sound { OnOk result ((sizes : Sizes) (book : Book) → IsSound sizes self.old book.number book.macros → IsSound sizes self.new book.number book.macros) }
+        ensures frames { SameFrames self.old self.new }
+        ensures only { self.new ≡ record self.old { input = record self.old.input { pending = self.new.input.pending; lists = self.new.input.lists } } }
+        ensures light { pending_weight self.new.input.pending ≡ pending_weight self.old.input.pending }
+        ensures page { (book : Book) → page_of self.new book ≡ page_of self.old book }
+    {
+        self.input.put_list(loc)?;
+        Ok(())
+    }
+
+    /// The tokens of the list that stands at a location enter the list of the innermost frame, an expanded text, as they stand: the text isn't
+    /// to expand them. *The TeXbook*, chapter 20 (`\edef`); *TeX: The Program*, part 27 (`scan_toks`).
+    ///
+    /// # Errors
+    /// The main memory is full before one of them: those in front of it are there.
+    pub fn copy_list(&mut self, loc: Loc) -> Result<(), Full>
+        requires there { IsLocation self.old.input.groups loc }
+        ensures stands { OnOk result (Copies self.old → (sizes : Sizes) (book : Book) → Stands sizes self.old book → Stands sizes self.new (with_list self.old loc book)) }
+        ensures did { OnOk result (Copies self.old → (sizes : Sizes) (w : World) (book : Book) → Stands sizes self.old book → Did sizes (state_of self.old book) (state_of self.new (with_list self.old loc book)) w w (list_given (page_of self.old book) true (list_number (page_of self.old book) loc))) }
+        ensures refused { IfErr result (λ full. Copies self.old → (sizes : Sizes) (w : World) (book : Book) → Stands sizes self.old book → CutsIn sizes (state_of self.old book) self.new w w (list_given (page_of self.old book) true (list_number (page_of self.old book) loc)) (broken.Full full)) }
+        ensures only { self.new ≡ record self.old { input = record self.old.input { builds = self.new.input.builds; lists = self.new.input.lists } } }
+        ensures macros { KeepsMacros self.old.input self.new.input }
+    {
+        if self.input.has_list() {
+            self.input.copy_list(loc)?;
+        }
+        Ok(())
+    }
+}

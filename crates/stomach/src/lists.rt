@@ -1,0 +1,169 @@
+// Lists of tokens are set at locations, shared, and given.
+ghost use Rattle.std.specs.Prelude.{◌≡◌, ◌≢◌, ◌<◌, true, List, [], ◌∷◌, ◌++◌, IfErr, OnOk, MatchBool, Some, None};
+ghost use Rattle.tex_defs.specs.Places.{World};
+ghost use Rattle.tex_defs.specs.declared.Sizes.{Sizes};
+ghost use Rattle.equivalents.specs.declared.values.Val.TheVariants as val;
+ghost use Rattle.equivalents.specs.Tables.{get};
+ghost use Rattle.plain_readings.specs.Readings.{Reading};
+ghost use Rattle.rows.specs.Internal.{IsFetchable, is_list};
+ghost use Rattle.rows.specs.Readings.{Ask, ActsOn};
+ghost use Rattle.rows.specs.declared.command.Effect.TheVariants as effects;
+ghost use Rattle.reading_frames.specs.Sees.{top_list, kept_list_of};
+ghost use Rattle.reading_frames.specs.Stack.{asks_in, innermost_count};
+ghost use Rattle.reading_frames.specs.Weights.{IsEnd};
+ghost use Rattle.plain_machine.specs.States.{Move, Closed, ListSet, Set};
+ghost use Rattle.plain_machine.specs.Plan.{acts_above, is_global as plain_global, list_set};
+ghost use Rattle.plain_machine.specs.Does.{Did};
+ghost use Rattle.engine_state.specs.declared.broken.Broken.TheVariants as broken;
+ghost use Rattle.engine_state.specs.Book.{Book, with_work};
+ghost use Rattle.engine_state.specs.CutReadings.{CutsIn};
+ghost use Rattle.engine_state.specs.Stands.{Stands, SameFrames, state_of, page_of};
+ghost use Rattle.engine_state.specs.Rules.{Cuts, Went};
+ghost use Rattle.engine_state.specs.Steps.{asked, weight};
+ghost use Rattle.rows.specs.Suiting.{IsThere, TakesList};
+
+use crate::define::has_token;
+use crate::effects::is_global;
+use engine_state::{Broken, Engine};
+use equivalents::Loc;
+use rows::{Call, is_fetchable, is_list};
+use tex_defs::Full;
+
+/// Whether a location is there and is a list of tokens.
+fn takes_list(loc: Loc) -> bool
+    ensures { MatchBool result (IsFetchable loc × (is_list loc ≡ true)) (TakesList loc → ⊥) }
+{
+    is_list(loc) && is_fetchable(loc)
+}
+
+/// The location gets the list that stands at another, if both are lists: it is shared, not copied.
+///
+/// # Errors
+/// The save stack is full; nothing has changed.
+pub(crate) fn share_list(
+    engine: &mut Engine,
+    loc: Loc,
+    from: Loc,
+    global: bool,
+) -> Result<(), Broken>
+    ensures did { OnOk result (TakesList loc → TakesList from → (sizes : Sizes) (w : World) (book : Book) → Stands sizes engine.old book → Did sizes (state_of engine.old book) (state_of engine.new book) w w (Set global loc (get (page_of engine.old book).now from) ∷ [])) }
+    ensures err { IfErr result (λ b. (sizes : Sizes) (w : World) (book : Book) (more : List Move) → Stands sizes engine.old book → Cuts sizes (state_of engine.old book) engine.new book w w (Set global loc (get (page_of engine.old book).now from) ∷ more) b) }
+    ensures stands { OnOk result ((sizes : Sizes) (book : Book) → Stands sizes engine.old book → Stands sizes engine.new book) }
+    ensures frames { SameFrames engine.old engine.new }
+    ensures only { engine.new ≡ record engine.old { input = record engine.old.input { groups = engine.new.input.groups; lists = engine.new.input.lists } } }
+{
+    if !takes_list(loc) {
+        return Ok(());
+    }
+    if !takes_list(from) {
+        return Ok(());
+    }
+    engine.input.share_list(loc, from, global)?;
+    Ok(())
+}
+
+/// The command ends, and the list that stands at a location, if it is there, enters the text beneath as it stands, where lists are copied,
+/// and else is put in front. *The TeXbook*, chapter 20 (`\edef`); *TeX: The Program*, part 27 (`ins_the_toks`).
+///
+/// # Errors
+/// There is no room for the list, or for one of its tokens, where those in front of it have entered: the engine stands for the moment before.
+pub(crate) fn give_list(engine: &mut Engine, loc: Loc) -> Result<(), Broken>
+    requires idle { engine.old.input.making ≡ None }
+    requires uncalled { engine.old.call ≡ None }
+    ensures rule { OnOk result (IsThere loc → (sizes : Sizes) (w : World) (book : Book) (call : Call) (r : Reading) (rs : List Reading) → Stands sizes engine.old (with_work (r ∷ rs) book) →
+        Went sizes (state_of engine.old (with_work (r ∷ rs) book)) engine.new w w (acts_above rs (page_of engine.old book) call (effects.PutList loc)) 0) }
+    ensures err { IfErr result (λ b. (sizes : Sizes) (w : World) (book : Book) (call : Call) (r : Reading) (rs : List Reading) → Stands sizes engine.old (with_work (r ∷ rs) book) →
+        CutsIn sizes (state_of engine.old (with_work (r ∷ rs) book)) engine.new w w (acts_above rs (page_of engine.old book) call (effects.PutList loc)) b) }
+    ensures light { OnOk result ((a : Ask) → asks_in engine.old.readings.frames [] ≡ Some a → IsEnd a → weight engine.new < weight engine.old) }
+    ensures column { engine.new.in_line ≡ engine.old.in_line }
+    ensures idle { OnOk result (engine.new.input.making ≡ None) }
+{
+    engine.close_reading();
+    if !is_fetchable(loc) {
+        return Ok(());
+    }
+    if engine.readings.copies() {
+        engine.copy_list(loc)?;
+        return Ok(());
+    }
+    engine.put_list(loc)
+}
+
+/// The command ends, and the list on top, which has a token, becomes that of this location, if it is one of a list.
+///
+/// # Errors
+/// The save stack is full; nothing has changed.
+fn pass_list(engine: &mut Engine, call: Call, loc: Loc) -> Result<(), Full>
+    requires some { engine.old.input.builds ≢ [] }
+    requires token { top_list engine.old.input.builds ≢ [] }
+    ensures rule { OnOk result (TakesList loc → (sizes : Sizes) (w : World) (book : Book) (r : Reading) (rs : List Reading) → Stands sizes engine.old (with_work (r ∷ rs) book) → innermost_count engine.old.readings.frames ≡ 1 →
+        Went sizes (state_of engine.old (with_work (r ∷ rs) book)) engine.new w w (ListSet (plain_global (page_of engine.old book) call) loc (top_list engine.old.input.builds) ∷ []) 0) }
+    ensures err { IfErr result (λ full. (sizes : Sizes) (w : World) (book : Book) (r : Reading) (rs : List Reading) → Stands sizes engine.old (with_work (r ∷ rs) book) →
+        CutsIn sizes (state_of engine.old (with_work (r ∷ rs) book)) engine.new w w (ListSet (plain_global (page_of engine.old book) call) loc (top_list engine.old.input.builds) ∷ []) (broken.Full full)) }
+    ensures light { OnOk result (engine.old.call ≡ None → (a : Ask) → asks_in engine.old.readings.frames [] ≡ Some a → IsEnd a → weight engine.new < weight engine.old) }
+    ensures call { engine.new.call ≡ engine.old.call }
+    ensures after { engine.new.after ≡ engine.old.after }
+    ensures column { engine.new.in_line ≡ engine.old.in_line }
+    ensures idle { engine.new.input.making ≡ engine.old.input.making }
+{
+    if !takes_list(loc) {
+        engine.close_reading();
+        return Ok(());
+    }
+    let global = is_global(engine, call);
+    engine.input.set_list(loc, global)?;
+    engine.readings.end();
+    Ok(())
+}
+
+/// The command ends, and no list stands at this location, if it is one of a list.
+///
+/// # Errors
+/// The save stack is full: the command has ended.
+fn pass_nothing(engine: &mut Engine, call: Call, loc: Loc) -> Result<(), Full>
+    ensures rule { OnOk result (TakesList loc → (sizes : Sizes) (w : World) (book : Book) (r : Reading) (rs : List Reading) → Stands sizes engine.old (with_work (r ∷ rs) book) →
+        Went sizes (state_of engine.old (with_work (r ∷ rs) book)) engine.new w w (Closed ∷ Set (plain_global (page_of engine.old book) call) loc (val.Tokens None) ∷ []) 0) }
+    ensures err { IfErr result (λ full. (sizes : Sizes) (w : World) (book : Book) (r : Reading) (rs : List Reading) → Stands sizes engine.old (with_work (r ∷ rs) book) →
+        CutsIn sizes (state_of engine.old (with_work (r ∷ rs) book)) engine.new w w (Closed ∷ Set (plain_global (page_of engine.old book) call) loc (val.Tokens None) ∷ []) (broken.Full full)) }
+    ensures light { OnOk result (engine.old.call ≡ None → (a : Ask) → asks_in engine.old.readings.frames [] ≡ Some a → IsEnd a → weight engine.new < weight engine.old) }
+    ensures call { engine.new.call ≡ engine.old.call }
+    ensures after { engine.new.after ≡ engine.old.after }
+    ensures column { engine.new.in_line ≡ engine.old.in_line }
+    ensures idle { engine.new.input.making ≡ engine.old.input.making }
+{
+    let global = is_global(engine, call);
+    engine.close_reading();
+    if takes_list(loc) {
+        engine.input.set_no_list(loc, global)?;
+    }
+    Ok(())
+}
+
+/// The command ends, and the list on top, if it is listed, becomes that of this location, behind which the token is put in front that
+/// `\afterassignment` kept; one without a token becomes none. *The TeXbook*, chapter 24; *TeX: The Program*, part 49 (`prefixed_command`).
+///
+/// # Errors
+/// The save stack is full, or there is no room for the token that comes behind: the engine stands for the moment before.
+pub(crate) fn set_list(
+    engine: &mut Engine,
+    call: Call,
+    loc: Loc,
+    listed: bool,
+) -> Result<(), Broken>
+    requires idle { engine.old.input.making ≡ None }
+    ensures rule { OnOk result (TakesList loc → (sizes : Sizes) (w : World) (book : Book) (r : Reading) (rs : List Reading) → Stands sizes engine.old (with_work (r ∷ rs) book) → asked engine.old ≡ Some (ActsOn call (effects.SetList loc) (kept_list_of listed engine.old.input.builds)) →
+        Went sizes (state_of engine.old (with_work (r ∷ rs) book)) engine.new w w (list_set (page_of engine.old book) call loc (kept_list_of listed engine.old.input.builds)) 0) }
+    ensures err { IfErr result (λ b. TakesList loc → (sizes : Sizes) (w : World) (book : Book) (r : Reading) (rs : List Reading) → Stands sizes engine.old (with_work (r ∷ rs) book) → asked engine.old ≡ Some (ActsOn call (effects.SetList loc) (kept_list_of listed engine.old.input.builds)) →
+        CutsIn sizes (state_of engine.old (with_work (r ∷ rs) book)) engine.new w w (list_set (page_of engine.old book) call loc (kept_list_of listed engine.old.input.builds)) b) }
+    ensures light { OnOk result (engine.old.call ≡ None → (a : Ask) → asks_in engine.old.readings.frames [] ≡ Some a → IsEnd a → weight engine.new < weight engine.old) }
+    ensures column { engine.new.in_line ≡ engine.old.in_line }
+    ensures idle { OnOk result (engine.new.input.making ≡ None) }
+{
+    if has_token(engine, listed) {
+        pass_list(engine, call, loc)?;
+        engine.put_after()
+    } else {
+        pass_nothing(engine, call, loc)?;
+        engine.put_after()
+    }
+}

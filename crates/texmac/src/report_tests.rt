@@ -1,0 +1,161 @@
+// Reports of numbers, dimensions, glue, registers and assignments.
+use crate::tests::{Row, rows_hold};
+
+/// Each report once, and the value that is taken then. All but the first of the overflows, a sum, are TeX's.
+const REPORTS: [Row; 30] = [
+    (
+        b"\\count1=\\relax\\message{\\the\\count1}\\end",
+        b"! Missing number, treated as zero.\nl.2\n0\n",
+        1,
+    ),
+    (
+        b"\\count1=`\\relax\\message{\\the\\count1}\\end",
+        b"! Improper alphabetic constant.\nl.2\n48\n",
+        1,
+    ),
+    (
+        b"\\count1=2147483648 \\message{\\the\\count1}\\end",
+        b"! Number too big.\nl.2\n2147483647\n",
+        1,
+    ),
+    (
+        b"\\count1=\\count256 \\message{\\the\\count1}\\end",
+        b"! Bad register code (256).\nl.2\n0\n",
+        1,
+    ),
+    (
+        b"\\count1=\\catcode256 \\message{\\the\\count1}\\end",
+        b"! Bad character code (256).\nl.2\n9\n",
+        1,
+    ),
+    (
+        b"\\count256=5 \\message{\\the\\count0}\\end",
+        b"! Bad register code (256).\nl.2\n5\n",
+        1,
+    ),
+    (
+        b"\\mathchardef\\a=32768 \\message{\\meaning\\a}\\end",
+        b"! Bad mathchar (32768).\nl.2\n\\mathchar\"0\n",
+        1,
+    ),
+    (
+        b"\\catcode65=16 \\message{\\the\\catcode65}\\end",
+        b"! Invalid code (16), should be in the range 0..15.\nl.2\n0\n",
+        1,
+    ),
+    (
+        b"\\delcode65=16777216 \\message{\\the\\delcode65}\\end",
+        b"! Invalid code (16777216), should be at most 16777215.\nl.2\n0\n",
+        1,
+    ),
+    (
+        b"\\dimen1=1\\relax\\message{\\the\\dimen1}\\end",
+        b"! Illegal unit of measure (pt inserted).\nl.2\n1.0pt\n",
+        1,
+    ),
+    (
+        b"\\dimen1=16384pt \\message{\\the\\dimen1}\\end",
+        b"! Dimension too large.\nl.2\n16383.99998pt\n",
+        1,
+    ),
+    (
+        b"\\skip1=1pt plus 1fillll\\message{\\the\\skip1}\\end",
+        b"! Illegal unit of measure (replaced by filll).\nl.2\n1.0pt plus 1.0filll\n",
+        1,
+    ),
+    (
+        b"\\muskip1=1\\relax\\message{\\the\\muskip1}\\end",
+        b"! Illegal unit of measure (mu inserted).\nl.2\n1.0mu\n",
+        1,
+    ),
+    (
+        b"\\skip1=\\thinmuskip\\message{\\the\\skip1}\\end",
+        b"! Incompatible glue units.\nl.2\n0.0pt\n",
+        1,
+    ),
+    (
+        b"\\muskip1=\\parskip\\message{\\the\\muskip1}\\end",
+        b"! Incompatible glue units.\nl.2\n0.0mu\n",
+        1,
+    ),
+    (
+        b"\\count1=\\thinmuskip\\message{\\the\\count1}\\end",
+        b"! Incompatible glue units.\nl.2\n0\n",
+        1,
+    ),
+    (
+        b"\\mag=2000 \\dimen1=1truept \\mag=3000 \\dimen1=1truept \\message{\\the\\mag,\\the\\dimen1}\\end",
+        b"! Incompatible magnification (3000);\n the previous value will be retained (2000).\nl.2\n2000,0.5pt\n",
+        1,
+    ),
+    (
+        b"\\mag=32769 \\dimen1=1truept \\message{\\the\\mag,\\the\\dimen1}\\end",
+        b"! Illegal magnification has been changed to 1000 (32769).\nl.2\n1000,1.0pt\n",
+        1,
+    ),
+    (
+        b"\\count1=2147483647 \\advance\\count1 1 \\message{\\the\\count1}\\end",
+        b"! Arithmetic overflow.\nl.2\n2147483647\n",
+        1,
+    ),
+    (
+        b"\\count1=7 \\divide\\count1 0 \\message{\\the\\count1}\\end",
+        b"! Arithmetic overflow.\nl.2\n7\n",
+        1,
+    ),
+    (
+        b"\\dimen1=1pt \\multiply\\dimen1 16384 \\message{\\the\\dimen1}\\end",
+        b"! Arithmetic overflow.\nl.2\n1.0pt\n",
+        1,
+    ),
+    (
+        b"\\skip1=1pt \\multiply\\skip1 16384 \\message{\\the\\skip1}\\end",
+        b"! Arithmetic overflow.\nl.2\n1.0pt\n",
+        1,
+    ),
+    (
+        b"\\message{\\the\\relax}\\end",
+        b"! You can't use `\\relax' after \\the.\nl.2\n0\n",
+        1,
+    ),
+    (
+        b"\\showthe\\relax\\end",
+        b"! You can't use `\\relax' after \\the.\nl.2\n> 0.\nl.2\n",
+        1,
+    ),
+    (
+        b"\\advance\\toks1 1 \\end",
+        b"! You can't use `\\toks' after \\advance.\nl.2\n",
+        1,
+    ),
+    (
+        b"\\toks1=\\relax x\\message{\\the\\toks1}}\\end",
+        b"! Missing { inserted.\nl.2\n",
+        1,
+    ),
+    (
+        b"\\toks256={x}\\message{\\the\\toks0}\\end",
+        b"! Bad register code (256).\nl.2\nx\n",
+        1,
+    ),
+    (
+        b"\\let5=\\relax\\message{\\meaning\\inaccessible}\\end",
+        b"! Missing control sequence inserted.\nl.2\nundefined\n",
+        1,
+    ),
+    (
+        b"\\global\\relax\\end",
+        b"! You can't use a prefix with `\\end'.\nl.2\n",
+        1,
+    ),
+    (
+        b"\\long\\count1=5 \\message{\\the\\count1}\\end",
+        b"! You can't use `\\long' or `\\outer' with `\\count'.\nl.2\n5\n",
+        1,
+    ),
+];
+
+#[test]
+fn reports_have_their_values(rt: HostRuntime) {
+    rows_hold(&rt, rt.alloc(), &REPORTS);
+}
