@@ -1,6 +1,8 @@
-//! Groups in the state of a run: their opening and end, and the tokens that come behind them.
+//! Groups and lists in the state of a run: the opening and end of groups, the tokens that come behind them, and lists at locations.
 
 ghost use Rattle.std.specs.Prelude.{◌≡◌, None};
+ghost use Rattle.tex_defs.specs.declared.RegisterKind.TheVariants.{Toks};
+ghost use Rattle.equivalents.specs.declared.values.Loc.TheVariants as loc;
 ghost use Rattle.input_state.specs.Callings.{NotCalling};
 
 use eqtb_save::{Glue, GroupKind, Loc, Val};
@@ -190,4 +192,54 @@ fn is_read_back(alloc: Global) -> bool {
 #[test]
 fn what_stands_at_a_location_is_read(rt: HostRuntime) {
     assert!(rt; is_read_back(rt.alloc()));
+}
+
+// A register of `\toks`.
+fn register(no: u8) -> Loc
+    ensures { result ≡ loc.Register Toks no }
+{
+    Loc::Register {
+        kind: RegisterKind::Toks,
+        no,
+    }
+}
+
+// `\toks1={x}\toks2=\toks1 \the\toks1 \toks1={}`: the words that are used then.
+fn listed(input: &mut Input) -> Result<u32, Full>
+    ensures { input.new.making ≡ input.old.making }
+{
+    input.begin_list()?;
+    input.grow_list(LETTER)?;
+    input.set_list(register(1), false)?;
+    input.share_list(register(2), register(1), false)?;
+    input.put_list(register(1))?;
+    input.set_no_list(register(1), false)?;
+    Ok(input.words())
+}
+
+// The list of `\toks2` goes into one that is gathered, and from there, as capital letters, into one that is made: the words that are used then.
+fn copied(input: &mut Input) -> Result<u32, Full>
+    requires { input.old.making ≡ None }
+{
+    input.begin_list()?;
+    input.copy_list(register(2))?;
+    input.make_list()?;
+    input.grow_changed(true)?;
+    Ok(input.words())
+}
+
+// A list takes its words once, whoever has it, and each copy takes as many.
+fn are_counted(alloc: Global) -> bool {
+    let Ok(mut input) = Input::new(alloc, &Sizes::DEFAULT, &[]) else {
+        return false;
+    };
+    let first = listed(&mut input);
+    let second = copied(&mut input);
+    input.close();
+    matches!((first, second), (Ok(2), Ok(6)))
+}
+
+#[test]
+fn a_list_that_is_shared_takes_no_word(rt: HostRuntime) {
+    assert!(rt; are_counted(rt.alloc()));
 }

@@ -3,8 +3,8 @@
 use equivalents::{CodeKind, Glue, Loc, Val};
 use rows::{
     Bank, Datum, Internal, Operation, Stage, byte_of, computed, glue_in, glue_product,
-    glue_quotient, glue_sum, integer_of, internal_of, is_dimension, is_glue, is_mu, measured,
-    number_in, value_computed, value_stage, variable_of,
+    glue_quotient, glue_sum, integer_of, internal_of, is_dimension, is_fetchable, is_glue, is_list,
+    is_mu, list_of, measured, number_in, value_computed, value_of, value_stage, variable_of,
 };
 use tex_defs::{Meaning, RegisterKind};
 use tex_syntax::Report;
@@ -15,8 +15,8 @@ fn register(kind: RegisterKind, no: u8) -> Loc {
 }
 
 /// The location for which a meaning stands by itself, if it does.
-fn own_location(meaning: Meaning<()>) -> Option<Loc> {
-    match internal_of(meaning) {
+fn own_location(stands: Option<Internal>) -> Option<Loc> {
+    match stands {
         Some(Internal::At(loc)) => Some(loc),
         _ => None,
     }
@@ -30,16 +30,18 @@ fn numbered_location(primitive: u16, n: u8) -> Option<Loc> {
     }
 }
 
-/// The first and the last parameters of each kind that is a number, what stands around them, and other meanings.
-const OWN: [(Meaning<()>, Option<Loc>); 12] = [
-    (Meaning::Prim(84), None),
-    (Meaning::Prim(85), Some(Loc::Integer(0))),
-    (Meaning::Prim(139), Some(Loc::Integer(54))),
-    (Meaning::Prim(140), Some(Loc::Dimension(0))),
-    (Meaning::Prim(160), Some(Loc::Dimension(20))),
-    (Meaning::Prim(161), Some(Loc::Glue(0))),
-    (Meaning::Prim(178), Some(Loc::Glue(17))),
-    (Meaning::Prim(179), None),
+/// The first and the last parameters of each kind, what stands around them, and other meanings: where a number is read, and where a list is.
+const OWN: [(Meaning<()>, Option<Loc>, Option<Loc>); 14] = [
+    (Meaning::Prim(84), None, None),
+    (Meaning::Prim(85), Some(Loc::Integer(0)), None),
+    (Meaning::Prim(139), Some(Loc::Integer(54)), None),
+    (Meaning::Prim(140), Some(Loc::Dimension(0)), None),
+    (Meaning::Prim(160), Some(Loc::Dimension(20)), None),
+    (Meaning::Prim(161), Some(Loc::Glue(0)), None),
+    (Meaning::Prim(178), Some(Loc::Glue(17)), None),
+    (Meaning::Prim(179), None, Some(Loc::Tokens(0))),
+    (Meaning::Prim(186), None, Some(Loc::Tokens(7))),
+    (Meaning::Prim(187), None, None),
     (
         Meaning::Register {
             kind: RegisterKind::Dimen,
@@ -49,6 +51,7 @@ const OWN: [(Meaning<()>, Option<Loc>); 12] = [
             kind: RegisterKind::Dimen,
             no: 7,
         }),
+        None,
     ),
     (
         Meaning::Register {
@@ -56,14 +59,20 @@ const OWN: [(Meaning<()>, Option<Loc>); 12] = [
             no: 7,
         },
         None,
+        Some(Loc::Register {
+            kind: RegisterKind::Toks,
+            no: 7,
+        }),
     ),
-    (Meaning::Undefined, None),
-    (Meaning::Char { cat: 12, code: 48 }, None),
+    (Meaning::Undefined, None, None),
+    (Meaning::Char { cat: 12, code: 48 }, None, None),
 ];
 
-fn stand_there(rows: &[(Meaning<()>, Option<Loc>)]) -> bool {
-    for (meaning, wanted) in rows {
-        if own_location(*meaning) != *wanted {
+fn stand_there(rows: &[(Meaning<()>, Option<Loc>, Option<Loc>)]) -> bool {
+    for (meaning, number, list) in rows {
+        if own_location(internal_of(*meaning)) != *number
+            || own_location(list_of(*meaning)) != *list
+        {
             return false;
         }
     }
@@ -115,6 +124,44 @@ fn numbers_stand_behind_names(rt: HostRuntime) {
     assert!(rt; are_numbered(0) && are_numbered(255));
 }
 
+#[test]
+fn lists_are_registers_and_parameters(rt: HostRuntime) {
+    let toks = Meaning::Prim(45);
+    let numbered = matches!(
+        list_of(toks),
+        Some(Internal::Numbered(Bank::Registers(RegisterKind::Toks)))
+    );
+    assert!(rt; numbered && list_of(Meaning::Prim(41)).is_none());
+    assert!(rt; value_of(toks).is_some() && value_of(Meaning::Prim(41)).is_some());
+    assert!(rt; value_of(Meaning::Prim(1)).is_none());
+}
+
+#[test]
+fn lists_are_told_apart(rt: HostRuntime) {
+    let list = is_list(Loc::Tokens(0)) && is_list(register(RegisterKind::Toks, 0));
+    let other = is_list(Loc::Glue(0)) || is_list(register(RegisterKind::Skip, 0));
+    assert!(rt; list && !other);
+}
+
+#[test]
+fn locations_are_as_many_as_there_are(rt: HostRuntime) {
+    let last = [
+        Loc::Integer(54),
+        Loc::Dimension(20),
+        Loc::Glue(17),
+        Loc::Tokens(7),
+    ];
+    let beyond = [
+        Loc::Integer(55),
+        Loc::Dimension(21),
+        Loc::Glue(18),
+        Loc::Tokens(8),
+    ];
+    assert!(rt; last.iter().all(|loc| is_fetchable(*loc)));
+    assert!(rt; beyond.iter().all(|loc| !is_fetchable(*loc)));
+    assert!(rt; is_fetchable(register(RegisterKind::Toks, 255)));
+}
+
 /// Whether the value of `\chardef` or `\mathchardef` is given.
 fn is_given(meaning: Meaning<()>, n: u16) -> bool {
     matches!(internal_of(meaning), Some(Internal::Given(found)) if found == n)
@@ -152,10 +199,7 @@ fn dimensions_are_told_apart(rt: HostRuntime) {
 
 /// The location that arithmetic changes behind this meaning alone, if it changes one.
 fn changed(meaning: Meaning<()>) -> Option<Loc> {
-    match variable_of(meaning) {
-        Some(Internal::At(loc)) => Some(loc),
-        _ => None,
-    }
+    own_location(variable_of(meaning))
 }
 
 #[test]
@@ -271,7 +315,8 @@ fn stage_of(loc: Loc) -> u8 {
         Stage::Dimension => 1,
         Stage::Glue(false) => 2,
         Stage::Glue(true) => 3,
-        _ => 4,
+        Stage::TokenList => 4,
+        _ => 5,
     }
 }
 
@@ -279,6 +324,7 @@ fn stage_of(loc: Loc) -> u8 {
 fn values_are_read_as_they_stand(rt: HostRuntime) {
     assert!(rt; stage_of(Loc::Integer(0)) == 0 && stage_of(Loc::Dimension(0)) == 1);
     assert!(rt; stage_of(Loc::Glue(14)) == 2 && stage_of(Loc::Glue(15)) == 3);
+    assert!(rt; stage_of(Loc::Tokens(0)) == 4);
     assert!(rt; is_glue(register(RegisterKind::Muskip, 1)) && !is_glue(Loc::Dimension(0)));
     assert!(rt; number_in(Datum::Dimension(7, 0)) == 7 && number_in(Datum::Found(true)) == 0);
     assert!(rt; glue_in(Datum::Glue(glue(1, 1, 0, 0))).stretch == 1);

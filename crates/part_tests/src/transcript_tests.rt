@@ -1,4 +1,4 @@
-// What `\show`, `\errmessage` and reports write, and the lines of a run's ends.
+// What `\show`, `\showthe`, `\errmessage` and reports write, and the lines of a run's ends.
 ghost use Rattle.std.specs.Prelude.{◌≡◌};
 ghost use Rattle.token_lists.specs.Table.{IsHeld};
 ghost use Rattle.token_lists.specs.Ids.{build_id, id_of};
@@ -15,7 +15,7 @@ use token_lists::{Build, ListRef};
 use token_show::{NamesView, View};
 use transcript::{
     end_lines, hundred_line, no_end_lines, no_file_lines, write_error_message, write_report,
-    write_shown_meaning,
+    write_shown_meaning, write_shown_value,
 };
 use world_io::MemSink;
 
@@ -72,6 +72,27 @@ fn is_macro_shown(view: View<'_>, mut sink: MemSink, list: &ListRef, wanted: &[u
         && sink.bytes() == wanted
 }
 
+// Whether this is shown of a number on line 2, at the beginning of a line.
+fn is_number_shown(view: View<'_>, mut sink: MemSink, number: &[u8], wanted: &[u8]) -> bool
+    requires { IsView view }
+{
+    let mut in_line = false;
+    write_shown_value(&mut sink, &mut in_line, view, 2, number, None).is_ok()
+        && !in_line
+        && sink.bytes() == wanted
+}
+
+// Whether this is shown of a register with this list on line 7, where the column isn't 0.
+fn is_register_shown(view: View<'_>, mut sink: MemSink, list: &ListRef, wanted: &[u8]) -> bool
+    requires names { IsView view }
+    requires held { IsHeld view.lists.now (id_of list.now) }
+{
+    let mut in_line = true;
+    write_shown_value(&mut sink, &mut in_line, view, 7, b"", Some(list)).is_ok()
+        && !in_line
+        && sink.bytes() == wanted
+}
+
 // Whether this is written of a list that is the text of a report on line 3.
 fn is_message(view: View<'_>, mut sink: MemSink, list: &Build, wanted: &[u8]) -> bool
     requires names { IsView view }
@@ -90,7 +111,7 @@ fn is_report(view: View<'_>, mut sink: MemSink, report: Report, wanted: &[u8]) -
     write_report(&mut sink, &mut in_line, view, 5, report).is_ok() && sink.bytes() == wanted
 }
 
-// Whether tokens are shown that are no macros, and an extra `\endcsname` is reported.
+// Whether tokens are shown that are no macros, and a number, and an extra `\endcsname` is reported.
 fn are_tokens_shown(alloc: Global, tables: &Tables) -> bool
     requires { Knows tables.now.hash tables.now.pool.kept }
 {
@@ -117,12 +138,13 @@ fn are_tokens_shown(alloc: Global, tables: &Tables) -> bool
         letter,
         meaning,
         b"> the letter a.\nl.2\n",
-    ) && is_report(
-        view,
-        MemSink::new(alloc),
-        Report::ExtraEndcsname,
-        b"! Extra \\endcsname.\nl.5\n",
-    )
+    ) && is_number_shown(view, MemSink::new(alloc), b"-5", b"> -5.\nl.2\n")
+        && is_report(
+            view,
+            MemSink::new(alloc),
+            Report::ExtraEndcsname,
+            b"! Extra \\endcsname.\nl.5\n",
+        )
 }
 
 #[test]
@@ -294,7 +316,7 @@ fn is_list_reported(alloc: Global, tables: &Tables, list: &Build) -> bool
     is_message(view, MemSink::new(alloc), list, b"! #1->[#1].\nl.3\n")
 }
 
-// Whether a macro of this list is shown.
+// Whether a macro and a register of this list are shown.
 fn is_list_shown(alloc: Global, tables: &Tables, list: &ListRef) -> bool
     requires knows { Knows tables.now.hash tables.now.pool.kept }
     requires held { IsHeld tables.now.lists (id_of list.now) }
@@ -303,6 +325,7 @@ fn is_list_shown(alloc: Global, tables: &Tables, list: &ListRef) -> bool
     let view = view_of(tables, &categories);
     let wanted = b"\n> \\foo=\\long macro:\n#1->[#1].\nl.7\n";
     is_macro_shown(view, MemSink::new(alloc), list, wanted)
+        && is_register_shown(view, MemSink::new(alloc), list, b"\n> #1->[#1].\nl.7\n")
 }
 
 // Whether a list is reported as the text of a message while it is built, and then shown of a macro.
