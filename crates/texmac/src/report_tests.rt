@@ -124,8 +124,8 @@ const REPORTS: [Row; 30] = [
         1,
     ),
     (
-        b"\\advance\\toks1 1 \\end",
-        b"! You can't use `\\toks' after \\advance.\nl.2\n",
+        b"\\advance\\everypar\\end",
+        b"! You can't use `\\everypar' after \\advance.\nl.2\n",
         1,
     ),
     (
@@ -139,7 +139,7 @@ const REPORTS: [Row; 30] = [
         1,
     ),
     (
-        b"\\let5=\\relax\\message{\\meaning\\inaccessible}\\end",
+        b"\\let5\\relax\\message{\\meaning\\inaccessible}\\end",
         b"! Missing control sequence inserted.\nl.2\nundefined\n",
         1,
     ),
