@@ -190,8 +190,11 @@ impl Present {
         requires { IsOn lists.now (id_of list.now) delimiter }
         ensures { IsTrue result ↔ ((out ≡ 0) × (self.now.matched + 1 ≡ length (delimiter_at lists.now (id_of list.now) delimiter))) }
     {
+        if out > 0 {
+            return false;
+        }
         let len = delimiter_len(lists, list, delimiter);
-        out == 0 && len > 0 && self.matched == len - 1
+        len > 0 && self.matched == len - 1
     }
 
     // A token that is no part of a whole match and no extra brace.
