@@ -3,8 +3,9 @@ use Rattle.std.proofs.Common.{◌≡◌, ℕ, zero, suc, ◌-◌, ◌<◌, List,
 use Rattle.conditionals.specs.declared.skip.Ender.{Ender}
 use Rattle.conditionals.specs.declared.skip.Ender.TheVariants.{Fi, Else, Or}
 use Rattle.conditionals.specs.declared.choice.Aim.{Aim}
+use Rattle.conditionals.specs.declared.choice.Aim.TheVariants as aims
 use Rattle.conditionals.specs.declared.choice.Aim.TheVariants.{Branch, Case, Other}
-use Rattle.conditionals.specs.Choices.{own, other, case, end, start}
+use Rattle.conditionals.specs.Choices.{own, other, case, closing, end, start}
 
 one_less : (n : ℕ) → n ≡ suc n - 1
 one_less n = omega arith
@@ -26,18 +27,21 @@ fi_above Branch n es h = refl
 fi_above (Case zero) n es h = refl
 fi_above (Case (suc m)) n es h = ap (λ (us : List Ender). case (suc m) us) (own_fi n es h)
 fi_above (Other reports) n es h = ap (λ (us : List Ender). other us) (own_fi n es h)
+fi_above aims.Fi n es h = ap (λ (us : List Ender). closing us) (own_fi n es h)
 
 pub else_above : (a : Aim) (n : ℕ) (es : List Ender) → 0 < n → end a n (Else ∷ es) ≡ end a n es
 else_above Branch n es h = refl
 else_above (Case zero) n es h = refl
 else_above (Case (suc m)) n es h = ap (λ (us : List Ender). case (suc m) us) (own_else n es h)
 else_above (Other reports) n es h = ap (λ (us : List Ender). other us) (own_else n es h)
+else_above aims.Fi n es h = ap (λ (us : List Ender). closing us) (own_else n es h)
 
 pub or_above : (a : Aim) (n : ℕ) (es : List Ender) → 0 < n → end a n (Or ∷ es) ≡ end a n es
 or_above Branch n es h = refl
 or_above (Case zero) n es h = refl
 or_above (Case (suc m)) n es h = ap (λ (us : List Ender). case (suc m) us) (own_or n es h)
 or_above (Other reports) n es h = ap (λ (us : List Ender). other us) (own_or n es h)
+or_above aims.Fi n es h = ap (λ (us : List Ender). closing us) (own_or n es h)
 
 pub or_own : (n : ℕ) (es : List Ender) → 1 < n → end (Case n) 0 (Or ∷ es) ≡ end (Case (n - 1)) 0 es
 or_own zero es h = absurd (omega arith)
@@ -54,6 +58,7 @@ none_yet Branch n h = absurd (cc)
 none_yet (Case zero) n h = absurd (cc)
 none_yet (Case (suc m)) n h = ap (λ (us : List Ender). case (suc m) us) (own_none n)
 none_yet (Other reports) n h = ap (λ (us : List Ender). other us) (own_none n)
+none_yet aims.Fi n h = ap (λ (us : List Ender). closing us) (own_none n)
 
 start_suc : (n : ℕ) → 1 < n → start (Case (n - 1)) ≡ None
 start_suc zero h = absurd (omega arith)

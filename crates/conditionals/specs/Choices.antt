@@ -7,6 +7,7 @@ use Rattle.conditionals.specs.declared.limits.Limit.TheVariants as limit
 use Rattle.conditionals.specs.declared.choice.Value.{Value}
 use Rattle.conditionals.specs.declared.choice.Value.TheVariants as value
 use Rattle.conditionals.specs.declared.choice.Aim.{Aim}
+use Rattle.conditionals.specs.declared.choice.Aim.TheVariants as aims
 use Rattle.conditionals.specs.declared.choice.Aim.TheVariants.{Branch, Case, Other}
 use Rattle.conditionals.specs.declared.choice.End.{End}
 use Rattle.conditionals.specs.declared.choice.End.TheVariants.{Reads, Closes}
@@ -55,12 +56,19 @@ case (suc n) (Fi ∷ es) = Some Closes
 case (suc n) (Else ∷ es) = Some (Reads limit.AfterElse)
 case (suc n) (Or ∷ es) = case n es
 
+-- the first `\fi`
+abbrev pub closing : List Ender → Option End
+closing [] = None
+closing (Fi ∷ es) = Some Closes
+closing (e ∷ es) = closing es
+
 -- How skipping ends by these enders, if it does.
 abbrev pub end : Aim → (above : ℕ) → List Ender → Option End
 end Branch above es = Some (Reads limit.Branch)
 end (Case zero) above es = Some (Reads limit.Case)
 end (Case (suc n)) above es = case (suc n) (own above es)
 end (Other reports) above es = other (own above es)
+end aims.Fi above es = closing (own above es)
 
 abbrev pub is_fi : Ender → Bool
 is_fi Fi = true
@@ -80,6 +88,38 @@ passing a above es e =
     if nat_lt (count_by is_fi es) above then (if is_fi e then ClosesAbove else Nothing)
     else if reports_or a && is_or e then ExtraOr
     else Nothing
+
+-- ONE ENDER: what it comes to, where so many conditionals stand above
+
+abbrev pub skips : Passing → Aim → (above : ℕ) → Step
+skips p a above = Skips p (record { aim = a; above = above })
+
+-- of a conditional above
+abbrev pub above_step : Aim → (above : ℕ) → Ender → Step
+above_step a n Fi = skips ClosesAbove a n
+above_step a n e = skips Nothing a (suc n)
+
+-- its own `\or`
+abbrev pub or_step : Aim → Step
+or_step (Case (suc (suc n))) = skips Nothing (Case (suc n)) 0
+or_step (Case n) = Ends (Reads limit.Case)
+or_step (Other true) = skips ExtraOr (Other true) 0
+or_step a = skips Nothing a 0
+
+-- its own ender; what is sought may be its `\fi` alone
+abbrev pub own_step : Aim → Ender → Step
+own_step a Fi = Ends Closes
+own_step aims.Fi e = skips Nothing aims.Fi 0
+own_step a Else = Ends (Reads limit.AfterElse)
+own_step a Or = or_step a
+
+abbrev pub step_from : Option Limit → Aim → (above : ℕ) → Ender → Step
+step_from (Some l) a above e = Ends (Reads l)
+step_from None a zero e = own_step a e
+step_from None a (suc n) e = above_step a n e
+
+abbrev pub step : Aim → (above : ℕ) → Ender → Step
+step a above e = step_from (start a) a above e
 
 -- WHAT WILL COME by what is sought then
 abbrev pub end_behind : Step → List Ender → Option End

@@ -6,13 +6,18 @@ use Rattle.tex_defs.specs.declared.Seen.{Seen}
 use Rattle.conditionals.specs.declared.skip.Ender.{Ender}
 use Rattle.conditionals.specs.declared.skip.Ender.TheVariants.{Fi}
 use Rattle.conditionals.specs.declared.skip.Part.TheVariants.{Conditional, Ends, Plain}
-use Rattle.conditionals.specs.Skipping.{part, ender, conditionals, fis, ender_at, IsSkipped}
+use Rattle.conditionals.specs.Skipping.{part, ender, conditionals, fis, ender_at, IsSkipped, greatest_count, counted}
 use Rattle.conditionals.specs.Same.{same_meaning}
 
 -- The skipped text of a text is one, and the same whatever follows.
 pub record TextsEndOnce : Type 0 where
   pub one : (text : List Seen) (j k : ℕ) (d e : Ender) → IsSkipped text j d → IsSkipped text k e → (j ≡ k) × (d ≡ e)
   pub followed : (text more : List Seen) (k : ℕ) (e : Ender) → IsSkipped text k e → IsSkipped (text ++ more) k e
+
+-- The count ends a text of fewer than 2^64 - 1 tokens where its skipped text does.
+pub record TextsAreCounted : Type 0 where
+  pub ends : (text : List Seen) (k : ℕ) (e : Ender) → length text < greatest_count → counted 0 text ≡ Some (k, e) → IsSkipped text k e
+  pub all : (text : List Seen) (k : ℕ) (e : Ender) → length text < greatest_count → IsSkipped text k e → counted 0 text ≡ Some (k, e)
 
 -- Each conditional in a text has its `\fi` there, and each `\fi`, `\else` and `\or` stands within one.
 pub record IsWhole (text : List Seen) : Type 0 where

@@ -1,5 +1,5 @@
 -- Skipped text. The TeXbook, chapter 20; TeX: The Program, part 28 (`pass_text`).
-use Rattle.std.specs.Prelude.{ℕ, ◌+◌, ◌-◌, ◌<◌, ◌==◌, ◌&&◌, nat_le, ◌≡◌, Bool, true, false, if◌then◌else◌, List, take, count_by, slice_get, Option, Some, None}
+use Rattle.std.specs.Prelude.{ℕ, suc, ◌+◌, ◌-◌, ◌<◌, ◌==◌, ◌&&◌, nat_le, ◌≡◌, Bool, true, false, if◌then◌else◌, List, [], ◌∷◌, take, count_by, slice_get, Option, Some, None}
 use Rattle.tex_defs.specs.declared.Meaning.{Meaning}
 use Rattle.tex_defs.specs.declared.Meaning.TheVariants as means
 use Rattle.tex_defs.specs.declared.Seen.{Seen}
@@ -57,7 +57,36 @@ pub record GoesOn (depth : ℕ) (text : List Seen) : Type 0 where
   pub level : conditionals text ≡ fis text + depth
   pub none : (k : ℕ) → ender_at text k ≡ None
 
+-- BY A COUNT, which stands still at 2^64 - 1. A text that is shorter has fewer conditionals.
+
+abbrev pub greatest_count : ℕ
+greatest_count = 18446744073709551615
+
+abbrev pub one_more : ℕ → ℕ
+one_more n = if n == greatest_count then n else n + 1
+
+-- as what a token ends the text in which so many are open
+abbrev pub ends_at : (depth : ℕ) → Part → Option Ender
+ends_at n (Ends e) = if n == 0 then Some e else None
+ends_at n p = None
+
 -- how many are open behind an ender among them
 abbrev pub depth_behind : Ender → ℕ → ℕ
 depth_behind Fi n = n - 1
 depth_behind e n = n
+
+-- behind a token that doesn't end it
+abbrev pub open_behind : (depth : ℕ) → Part → ℕ
+open_behind n Conditional = one_more n
+open_behind n (Ends e) = depth_behind e n
+open_behind n Plain = n
+
+-- how many tokens stand before the ender of this text, where so many are open before it, and which it is
+abbrev pub counted_from : Option Ender → (behind : Option (ℕ × Ender)) → Option (ℕ × Ender)
+counted_from (Some e) behind = Some (0, e)
+counted_from None None = None
+counted_from None (Some (k, e)) = Some (suc k, e)
+
+abbrev pub counted : (depth : ℕ) → List Seen → Option (ℕ × Ender)
+counted n [] = None
+counted n (x ∷ text) = counted_from (ends_at n (part x.meaning)) (counted (open_behind n (part x.meaning)) text)

@@ -10,15 +10,19 @@ use Rattle.conditionals.specs.declared.skip.Ender.{Ender}
 use Rattle.conditionals.specs.declared.skip.Ender.TheVariants.{Fi, Else, Or}
 use Rattle.conditionals.specs.declared.limits.Limit.TheVariants as limit
 use Rattle.conditionals.specs.declared.limits.Met.TheVariants as met
+use Rattle.conditionals.specs.declared.choice.Aim.TheVariants as aims
 use Rattle.conditionals.specs.declared.choice.Value.{Value}
 use Rattle.conditionals.specs.declared.choice.Value.TheVariants.{Truth, Case}
 use Rattle.conditionals.specs.declared.choice.End.{End}
 use Rattle.conditionals.specs.declared.choice.End.TheVariants.{Reads, Closes}
 use Rattle.conditionals.specs.declared.choice.Passing.{Passing}
 use Rattle.conditionals.specs.declared.choice.Passing.TheVariants.{Nothing, ClosesAbove, ExtraOr}
-use Rattle.conditionals.specs.Skipping.{ender_at}
+use Rattle.conditionals.specs.declared.choice.Step.TheVariants.{Ends}
+use Rattle.conditionals.specs.declared.open.Conditional.{Conditional}
+use Rattle.conditionals.specs.Skipping.{ender_at, counted}
 use Rattle.conditionals.specs.Limits.{met}
-use Rattle.conditionals.specs.Choices.{aim, end, passing}
+use Rattle.conditionals.specs.Choices.{aim, end, passing, skips, step}
+use Rattle.conditionals.specs.Open.{opened, limit_of, innermost_test, above, above_sought, with_limit, constant_test}
 use Rattle.conditionals.specs.Same.{same_meaning}
 
 -- WHAT COMES: a letter, and names of primitives; `\let\i=\fi` makes `\i` a `\fi`
@@ -63,6 +67,8 @@ pub record WorkedTexts : Type 0 where
   pub name : ends_in 4 (an_if ∷ let_fi ∷ marked_fi ∷ let_fi ∷ []) ≡ None ∷ None ∷ None ∷ Some Fi ∷ []
   pub twice : ends_in 7 (an_if ∷ an_if ∷ an_or ∷ a_fi ∷ an_else ∷ a_fi ∷ an_else ∷ []) ≡ None ∷ None ∷ None ∷ None ∷ None ∷ None ∷ Some Else ∷ []
   pub cases : ends_in 5 (an_ifcase ∷ an_or ∷ an_else ∷ a_fi ∷ an_or ∷ []) ≡ None ∷ None ∷ None ∷ None ∷ Some Or ∷ []
+  pub counts : counted 0 (an_ifcase ∷ an_or ∷ an_else ∷ a_fi ∷ an_or ∷ []) ≡ Some (4, Or)
+  pub goes_on : counted 0 (an_if ∷ an_else ∷ a_fi ∷ []) ≡ None
 
 -- none is open; in a test; behind `\else`; in a true branch; in a case
 pub record WorkedLimits : Type 0 where
@@ -103,6 +109,61 @@ pub record WorkedChoices : Type 0 where
   pub above : ended (Truth false) 1 (Else ∷ Fi ∷ Else ∷ []) ≡ Some (Reads limit.AfterElse)
   pub case_above : ended (Case (pos 1)) 1 (Or ∷ Fi ∷ Or ∷ []) ≡ Some (Reads limit.Case)
 
+-- behind the text of a branch that was read its `\fi` is sought, whatever comes before it
+pub record WorkedClosings : Type 0 where
+  pub passed : end aims.Fi 0 (Else ∷ Or ∷ []) ≡ None
+  pub closed : end aims.Fi 0 (Else ∷ Or ∷ Fi ∷ []) ≡ Some Closes
+  pub silent : passing aims.Fi 0 [] Or ≡ Nothing
+
+-- one ender: of a conditional above; an `\or` in `\ifcase2`, in `\ifcase1` and in `\iffalse`; where a `\fi` alone is sought
+pub record WorkedSteps : Type 0 where
+  pub above_fi : step (aims.Other true) 1 Fi ≡ skips ClosesAbove (aims.Other true) 0
+  pub above_else : step (aims.Other true) 1 Else ≡ skips Nothing (aims.Other true) 1
+  pub above_or : step (aims.Other true) 1 Or ≡ skips Nothing (aims.Other true) 1
+  pub second : step (aims.Case 2) 0 Or ≡ skips Nothing (aims.Case 1) 0
+  pub third : step (aims.Case 1) 0 Or ≡ Ends (Reads limit.Case)
+  pub few : step (aims.Case 5) 0 Fi ≡ Ends Closes
+  pub other : step (aims.Case 5) 0 Else ≡ Ends (Reads limit.AfterElse)
+  pub reported : step (aims.Other true) 0 Or ≡ skips ExtraOr (aims.Other true) 0
+  pub negative : step (aims.Other false) 0 Or ≡ skips Nothing (aims.Other false) 0
+  pub passed : step aims.Fi 0 Else ≡ skips Nothing aims.Fi 0
+  pub closed : step aims.Fi 0 Fi ≡ Ends Closes
+
+-- in `\ifnum1=2\iftrue` on line 3, where the test of `\ifnum` left `\iftrue` open above its own conditional
+abbrev pub an_ifnum : Conditional
+an_ifnum = record { test = 67; line = 3; limit = limit.Test }
+
+abbrev pub an_iftrue : Conditional
+an_iftrue = record { test = 79; line = 3; limit = limit.Branch }
+
+abbrev pub left_open : List Conditional
+left_open = an_iftrue ∷ an_ifnum ∷ []
+
+pub record WorkedStacks : Type 0 where
+  pub begun : opened 67 3 [] ≡ an_ifnum ∷ []
+  pub none : limit_of [] ≡ None
+  pub reads : limit_of left_open ≡ Some limit.Branch
+  pub name : innermost_test left_open ≡ 79
+  pub left : above left_open ≡ 1
+  pub sought : above_sought (aims.Other true) left_open ≡ 1
+  pub closing : above_sought aims.Fi left_open ≡ 0
+  pub chosen : with_limit limit.AfterElse left_open ≡ an_iftrue ∷ record an_ifnum { limit = limit.AfterElse } ∷ []
+  pub innermost : with_limit limit.Branch (an_ifnum ∷ an_ifnum ∷ []) ≡ record an_ifnum { limit = limit.Branch } ∷ an_ifnum ∷ []
+  pub unchanged : with_limit limit.Case (an_iftrue ∷ []) ≡ an_iftrue ∷ []
+
+-- `\ifnum`, `\ifodd`, `\ifvmode`, `\ifhmode`, `\ifinner`, `\ifvoid`, `\ifx`, `\iftrue`, `\iffalse`, `\ifcase`
+pub record WorkedConstants : Type 0 where
+  pub num : constant_test 67 ≡ None
+  pub odd : constant_test 69 ≡ None
+  pub vmode : constant_test 70 ≡ Some true
+  pub hmode : constant_test 71 ≡ Some false
+  pub inner : constant_test 73 ≡ Some false
+  pub void : constant_test 74 ≡ None
+  pub same : constant_test 77 ≡ None
+  pub true_test : constant_test 79 ≡ Some true
+  pub false_test : constant_test 80 ≡ Some false
+  pub cases : constant_test 81 ≡ None
+
 abbrev pub a_macro : (long outer : Bool) → Meaning Unit
 a_macro long outer = means.Macro long outer tt
 
@@ -125,4 +186,8 @@ pub record WorkedConditionals : Type 0 where
   pub texts : WorkedTexts
   pub limits : WorkedLimits
   pub choices : WorkedChoices
+  pub closings : WorkedClosings
+  pub steps : WorkedSteps
+  pub stacks : WorkedStacks
+  pub constants : WorkedConstants
   pub meanings : WorkedMeanings

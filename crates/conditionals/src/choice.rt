@@ -22,6 +22,8 @@ pub enum Aim {
     Case(u32),
     /// Its `\else` or `\fi`; and whether its own `\or` is reported.
     Other(bool),
+    /// Its `\fi`: what is behind an `\else` or an `\or` that ends a branch that was read.
+    Fi,
 }
 
 /// How skipping ends.
@@ -80,10 +82,12 @@ fn aim_of(value: Value) -> Aim
 impl Choice {
     ghost use Rattle.std.specs.Prelude.{◌≡◌, ◌<◌, List, [], ◌∷◌};
     ghost use Rattle.conditionals.specs.declared.skip.Ender.{Ender};
-    ghost use Rattle.conditionals.specs.Choices.{end, passing, start, end_behind, passing_behind, IsOpen};
+    ghost use Rattle.conditionals.specs.Choices.{end, passing, start, step, end_behind, passing_behind, IsOpen};
 
     /// The test has this value, and left so many conditionals open above its own.
     pub fn new(value: Value, above: u32) -> Choice
+        ensures is { result.aim ≡ choices.aim value }
+        ensures above { result.above ≡ above }
         ensures end { (es : List Ender) → end (choices.aim value) above es ≡ end result.aim result.above es }
         ensures passing { (es : List Ender) (e : Ender) → passing (choices.aim value) above es e ≡ passing result.aim result.above es e }
     {
@@ -100,12 +104,13 @@ impl Choice {
         match self.aim {
             Aim::Branch => Some(Limit::Branch),
             Aim::Case(0) => Some(Limit::Case),
-            Aim::Case(_) | Aim::Other(_) => None,
+            Aim::Case(_) | Aim::Other(_) | Aim::Fi => None,
         }
     }
 
     /// Takes the ender to which text was skipped.
     pub fn feed(self, ender: Ender) -> Step
+        ensures step { result ≡ step self.aim self.above ender }
         ensures end { (es : List Ender) → end self.aim self.above (ender ∷ es) ≡ end_behind result es }
         ensures passing { (es : List Ender) (e : Ender) → passing_behind result (passing self.aim self.above [] ender) (passing self.aim self.above (ender ∷ es) e) es e }
         ensures goes_on { IsOpen result }
@@ -124,6 +129,7 @@ impl Choice {
     fn feed_above(self, ender: Ender) -> Step
         requires skips { start self.aim ≡ choices.none }
         requires above { 0 < self.above }
+        ensures step { result ≡ step self.aim self.above ender }
         ensures end { (es : List Ender) → end self.aim self.above (ender ∷ es) ≡ end_behind result es }
         ensures passing { (es : List Ender) (e : Ender) → passing_behind result (passing self.aim self.above [] ender) (passing self.aim self.above (ender ∷ es) e) es e }
         ensures goes_on { IsOpen result }
@@ -145,14 +151,16 @@ impl Choice {
     fn feed_own(self, ender: Ender) -> Step
         requires skips { start self.aim ≡ choices.none }
         requires own { self.above ≡ 0 }
+        ensures step { result ≡ step self.aim self.above ender }
         ensures end { (es : List Ender) → end self.aim self.above (ender ∷ es) ≡ end_behind result es }
         ensures passing { (es : List Ender) (e : Ender) → passing_behind result (passing self.aim self.above [] ender) (passing self.aim self.above (ender ∷ es) e) es e }
         ensures goes_on { IsOpen result }
     {
-        match ender {
-            Ender::Fi => Step::Ends(End::Closes),
-            Ender::Else => Step::Ends(End::Reads(Limit::AfterElse)),
-            Ender::Or => self.feed_or(),
+        match (ender, self.aim) {
+            (Ender::Fi, _) => Step::Ends(End::Closes),
+            (Ender::Else, Aim::Fi) => Step::Skips(Passing::Nothing, self),
+            (Ender::Else, _) => Step::Ends(End::Reads(Limit::AfterElse)),
+            (Ender::Or, _) => self.feed_or(),
         }
     }
 
@@ -161,6 +169,7 @@ impl Choice {
     fn feed_or(self) -> Step
         requires skips { start self.aim ≡ choices.none }
         requires own { self.above ≡ 0 }
+        ensures step { result ≡ step self.aim self.above choices.or }
         ensures end { (es : List Ender) → end self.aim self.above (choices.or ∷ es) ≡ end_behind result es }
         ensures passing { (es : List Ender) (e : Ender) → passing_behind result (passing self.aim self.above [] choices.or) (passing self.aim self.above (choices.or ∷ es) e) es e }
         ensures goes_on { IsOpen result }
@@ -181,7 +190,7 @@ impl Choice {
                 }
             }
             Aim::Other(true) => Step::Skips(Passing::ExtraOr, self),
-            Aim::Other(false) => Step::Skips(Passing::Nothing, self),
+            Aim::Other(false) | Aim::Fi => Step::Skips(Passing::Nothing, self),
         }
     }
 }

@@ -1,10 +1,15 @@
 // Laws of conditionals: the functions have no bodies, their contracts are the laws.
-ghost use Rattle.conditionals.specs.Laws.{TextsEndOnce, ConditionalsArePassed, MeaningsAreCompared};
+ghost use Rattle.conditionals.specs.Laws.{TextsEndOnce, TextsAreCounted, ConditionalsArePassed, MeaningsAreCompared};
 ghost use Rattle.conditionals.specs.Worked.{WorkedConditionals};
 
 /// Skipped text is one, and nothing that follows changes it.
 pub fn texts_end_once()
     ensures { TextsEndOnce }
+{}
+
+/// Skipped text ends where the count of the conditionals that are open in it says so.
+pub fn texts_are_counted()
+    ensures { TextsAreCounted }
 {}
 
 /// No ender of a conditional within skipped text ends the text, where the conditional has its `\fi`.

@@ -5,13 +5,16 @@
 mod choice;
 mod laws;
 mod limits;
+mod open;
 mod same;
 mod skip;
 
 pub use choice::{Aim, Choice, End, Passing, Step, Value};
 pub use laws::{
-    conditionals_are_passed, meanings_are_compared, texts_end_once, worked_conditionals,
+    conditionals_are_passed, meanings_are_compared, texts_are_counted, texts_end_once,
+    worked_conditionals,
 };
 pub use limits::{Limit, Met, on_fi_or_else};
+pub use open::{Conditional, Conditionals, constant_test};
 pub use same::same_meaning;
 pub use skip::{Ender, Part, Skip, part_of};

@@ -54,11 +54,12 @@ pub fn part_of(meaning: Meaning<()>) -> Part
 impl Skip {
     ghost use Rattle.std.specs.Prelude.{◌≡◌, ◌+◌, ◌<◌, ◌^◌, List, [], ◌∷◌, ◌++◌, length, IfSome, OnSome, IfNone};
     ghost use Rattle.tex_defs.specs.declared.Seen.{Seen};
-    ghost use Rattle.conditionals.specs.Skipping.{IsSkipped, GoesOn};
+    ghost use Rattle.conditionals.specs.Skipping.{IsSkipped, GoesOn, part, ends_at, open_behind};
 
     /// No token was skipped yet.
     pub fn new() -> Skip
-        ensures { GoesOn result.depth [] }
+        ensures is { result.depth ≡ 0 }
+        ensures goes_on { GoesOn result.depth [] }
     {
         Skip { depth: 0 }
     }
@@ -68,6 +69,8 @@ impl Skip {
         ensures skipped { (read : List Seen) → GoesOn self.old.depth read → length read + 1 < 2 ^ 64 → IfSome result (λ e. IsSkipped (read ++ seen ∷ []) (length read) e) }
         ensures goes_on { (read : List Seen) → GoesOn self.old.depth read → length read + 1 < 2 ^ 64 → IfNone result (GoesOn self.new.depth (read ++ seen ∷ [])) }
         ensures again { OnSome result (GoesOn self.new.depth []) }
+        ensures ends { result ≡ ends_at self.old.depth (part seen.meaning) }
+        ensures open { IfNone result (self.new.depth ≡ open_behind self.old.depth (part seen.meaning)) }
     {
         match part_of(seen.meaning) {
             Part::Conditional => {

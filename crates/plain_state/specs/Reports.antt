@@ -6,7 +6,7 @@ use Rattle.tex_syntax.specs.declared.words.Scanned.TheVariants as scanned
 use Rattle.tex_syntax.specs.declared.words.UnitTaken.{UnitTaken}
 use Rattle.tex_syntax.specs.declared.words.UnitTaken.TheVariants as unit
 use Rattle.tex_syntax.specs.declared.words.Report.{Report}
-use Rattle.tex_syntax.specs.declared.words.Report.TheVariants.{UndefinedName, InvalidCharacter, ImproperConstant, MissingNumber, NumberTooBig, BadCharacterCode, BadRegisterCode, BadMathchar, CantUseAfter, DimensionTooLarge, IllegalUnit, IncompatibleMagnification, IllegalMagnification, ArithmeticOverflow, IncompatibleUnits, InvalidCode, CodeTooGreat, MissingBrace, FileEnded, Forbidden, MissingName, NotConsecutive, AlreadyNine, IllegalNumber, UseMismatch, ExtraBrace, ParagraphEnded, PrefixWith, LongOrOuterWith, MissingEndcsname, ExtraEndcsname, TooManyBraces, ForgottenEndgroup, ExtraEndgroup, MissingRightBrace}
+use Rattle.tex_syntax.specs.declared.words.Report.TheVariants.{UndefinedName, InvalidCharacter, ImproperConstant, MissingNumber, NumberTooBig, BadCharacterCode, BadRegisterCode, BadMathchar, CantUseAfter, DimensionTooLarge, IllegalUnit, IncompatibleMagnification, IllegalMagnification, ArithmeticOverflow, IncompatibleUnits, InvalidCode, CodeTooGreat, MissingBrace, FileEnded, Forbidden, MissingName, NotConsecutive, AlreadyNine, IllegalNumber, UseMismatch, ExtraBrace, ParagraphEnded, PrefixWith, LongOrOuterWith, MissingEndcsname, ExtraEndcsname, TooManyBraces, ForgottenEndgroup, ExtraEndgroup, MissingRightBrace, MissingRelation, ExtraFiOrElse, IncompleteConditional}
 use Rattle.tex_defs.specs.declared.Token.{Token}
 use Rattle.tex_defs.specs.declared.Token.TheVariants.{Char, Named, Marked}
 use Rattle.tex_defs.specs.declared.Name.{Name}
@@ -65,6 +65,10 @@ report_text style TooManyBraces = codes "Too many }'s"
 report_text style ForgottenEndgroup = codes "Extra }, or forgotten " ++ escaped style (codes "endgroup")
 report_text style ExtraEndgroup = codes "Extra " ++ escaped style (codes "endgroup")
 report_text style MissingRightBrace = codes "Missing } inserted"
+report_text style (MissingRelation number) = codes "Missing = inserted for " ++ escaped style (primitive_word number)
+report_text style (ExtraFiOrElse number) = codes "Extra " ++ escaped style (primitive_word number)
+report_text style (IncompleteConditional number line) =
+    codes "Incomplete " ++ (escaped style (primitive_word number) ++ (codes "; all text was ignored after line " ++ decimal line))
 
 -- THE COLUMN: it is 0 behind a line feed, and not 0 behind another byte
 abbrev pub in_line_after : Bool → List ℕ → Bool
@@ -117,6 +121,12 @@ hundred_line style = printed_line style (codes "(That makes 100 errors; please t
 abbrev pub end_in_group : Style → (depth : ℕ) → List ℕ
 end_in_group style depth =
     printed_line style (codes "(" ++ (escaped style (codes "end") ++ (codes " occurred inside a group at level " ++ (decimal depth ++ codes ")"))))
+
+-- `\end` where a conditional is open that is this primitive and began on this line
+abbrev pub end_in_conditional : Style → (number line : ℕ) → List ℕ
+end_in_conditional style number line =
+    printed_line style (codes "(" ++ (escaped style (codes "end") ++ (codes " occurred when " ++ (escaped style (primitive_word number)
+    ++ (codes " on line " ++ (decimal line ++ codes " was incomplete)"))))))
 
 -- The lines of a stop: there the `\` of `\end` is always that character.
 abbrev pub emergency : Style → List ℕ

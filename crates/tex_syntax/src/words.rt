@@ -6,6 +6,8 @@ use tex_defs::{Fatal, Meaning, Name};
 pub enum Want {
     /// As it stands.
     Raw,
+    /// As it stands; a name that is new isn't entered.
+    Unentered,
     /// By expansion.
     Expanded,
     /// By expansion; the tokens of a token list behind `\the` come as they are.
@@ -120,6 +122,12 @@ pub enum Report {
     ExtraEndgroup,
     /// "Missing } inserted": `\endgroup` where the innermost group was opened by a brace.
     MissingRightBrace,
+    /// "Missing = inserted for \ifnum": the number of the conditional, which has no relation behind its first value.
+    MissingRelation(u16),
+    /// "Extra \else" and its like: the number of a `\fi`, an `\else` or an `\or` that no open conditional allows.
+    ExtraFiOrElse(u16),
+    /// "Incomplete \ifx; all text was ignored after line n": the number of the innermost open conditional, and the line on which skipping began.
+    IncompleteConditional(u16, u64),
 }
 
 /// How a run has ended.
