@@ -4,11 +4,12 @@ ghost use Rattle.rows.specs.Effects as effects;
 ghost use Rattle.rows.specs.Table as table;
 ghost use Rattle.row_frames.specs.Data.{values};
 
+use crate::conditions::tested;
 use crate::data::{Data, location, name, token};
 use equivalents::Loc;
 use rows::{
-    Action, Call, Datum, Effect, Head, Shorthand, byte_of, glue_in, is_glue, is_list, number_in,
-    row_of,
+    Action, Call, Datum, Effect, Head, Shorthand, Test, byte_of, glue_in, is_glue, is_list,
+    number_in, row_of,
 };
 
 /// A mathematical character's code; another number counts as 0.
@@ -116,6 +117,7 @@ fn comes_to(action: Action, read: &Data) -> Effect
         Action::MakeString => Effect::MakeString(token(first)),
         Action::MakeMeaning => Effect::MakeMeaning(token(first)),
         Action::MakeValue => value_made(first),
+        Action::Test(test) => tested(test, read),
     }
 }
 
@@ -140,12 +142,20 @@ pub fn as_definition(call: Call) -> Call
     }
 }
 
-/// Whether the token of a command is read under normal status, whatever is read around it.
+/// Whether an action reads its tokens under normal status, whatever is read around it.
+fn is_unguarded(action: Action) -> bool
+    ensures { result ≡ table.is_unguarded action }
+{
+    match action {
+        Action::PutMarked | Action::MakeString | Action::MakeMeaning => true,
+        Action::Test(Test::Meanings) => true,
+        _ => false,
+    }
+}
+
+/// Whether the tokens of a command are read so.
 pub fn reads_under_normal(head: Head) -> bool
     ensures { result ≡ table.reads_under_normal head }
 {
-    match row_of(head).1 {
-        Action::PutMarked | Action::MakeString | Action::MakeMeaning => true,
-        _ => false,
-    }
+    is_unguarded(row_of(head).1)
 }

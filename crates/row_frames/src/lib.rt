@@ -4,6 +4,7 @@
 //! machine's definition asks for. No call takes memory.
 #![tactic(auto)]
 
+mod conditions;
 mod data;
 mod effects;
 mod feeding;

@@ -11,7 +11,8 @@ ghost use Rattle.row_frames.specs.Data.{values};
 use crate::data::{Data, location, name};
 use rows::{
     Bank, Call, Complaint, Datum, DimenKind, Got, Head, Internal, Kind, Met, Next, Note, Prefix,
-    Stage, Start, Value, byte_of, find_row, list_of, number_in, value_of, value_stage, variable_of,
+    Relation, Stage, Start, Value, byte_of, find_row, list_of, number_in, value_of, value_stage,
+    variable_of,
 };
 use tex_defs::{Frozen, Meaning, Name, Seen, Token};
 use tex_syntax::{Report, Want};
@@ -244,6 +245,34 @@ pub fn numbered_by(bank: Bank, value: Value) -> Got
     }
 }
 
+/// The relation that a token is: an explicit character of category 12.
+fn relation_of(token: Token) -> Option<Relation>
+    ensures { result ≡ stages.relation_of token }
+{
+    match token {
+        Token::Char { cat: 12, code } => match code {
+            b'<' => Some(Relation::Less),
+            b'=' => Some(Relation::Equal),
+            b'>' => Some(Relation::Greater),
+            _ => None,
+        },
+        _ => None,
+    }
+}
+
+/// A relation; another token is given back and reported, and `=` taken.
+fn related(call: Call, token: Token) -> Met
+    ensures { result ≡ stages.related call (stages.relation_of token) }
+{
+    match relation_of(token) {
+        Some(relation) => Met::Takes(Datum::Relation(relation)),
+        None => {
+            let note = Note::Tells(Report::MissingRelation(number_of(call.head)), true);
+            Met::Notes(note, Next::Takes(Datum::Relation(Relation::Equal)))
+        }
+    }
+}
+
 /// The name that a token is.
 fn name_of(token: Token) -> Name
     ensures { result ≡ names.name_of token }
@@ -409,7 +438,10 @@ pub fn on_token(stage: Stage, call: Call, x: Seen) -> Met
             }
         }
         Stage::AnyToken => Met::Takes(Datum::Taken(x)),
+        Stage::UnenteredToken => Met::Takes(Datum::Taken(x)),
+        Stage::ExpandedToken => Met::Takes(Datum::Taken(x)),
         Stage::NonblankToken => Met::Takes(Datum::Taken(x)),
+        Stage::Relation => related(call, x.token),
         Stage::Prefixes(prefix) => prefixed(also(prefix, call), x),
         _ => Met::Leaves,
     }
@@ -469,11 +501,13 @@ pub fn start(stage: Stage, call: Call, read: &Data) -> Start
         Stage::Number | Stage::NumberTo(..) | Stage::NumberUpTo(_) => Start::Begins(Kind::Integer),
         Stage::Dimension | Stage::Glue(_) => Start::Begins(value_kind(stage)),
         Stage::Amount => Start::Begins(value_kind(value_stage(location(read.first())))),
-        Stage::Equals | Stage::NonblankToken => Start::Looks(Want::Nonblank),
+        Stage::Equals | Stage::NonblankToken | Stage::Relation => Start::Looks(Want::Nonblank),
         Stage::ControlSequence | Stage::NewName | Stage::LetEquals => Start::Looks(Want::Raw),
         Stage::Variable | Stage::InternalValue => Start::Looks(Want::Expanded),
+        Stage::ExpandedToken => Start::Looks(Want::Expanded),
         Stage::Keyword(keyword) => Start::Begins(Kind::Keyword(keyword)),
         Stage::Space | Stage::AnyToken => Start::Looks(Want::Raw),
+        Stage::UnenteredToken => Start::Looks(Want::Unentered),
         Stage::Text(expanded) => Start::Begins(Kind::Text(call.name, expanded)),
         Stage::MacroText(expanded) => {
             Start::Begins(Kind::Definition(name(read.first()), expanded))

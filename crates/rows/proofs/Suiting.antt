@@ -36,6 +36,8 @@ use Rattle.rows.specs.declared.stage.Note.TheVariants as note
 use Rattle.rows.specs.declared.arithmetic.Operation.{Operation}
 use Rattle.rows.specs.declared.command.Action.{Action}
 use Rattle.rows.specs.declared.command.Action.TheVariants as action
+use Rattle.rows.specs.declared.command.Test.{Test}
+use Rattle.rows.specs.declared.command.Test.TheVariants as test
 use Rattle.rows.specs.declared.command.Call.{Call}
 use Rattle.rows.specs.declared.command.Head.{Head}
 use Rattle.rows.specs.declared.command.Head.TheVariants.{Primitive, Register}
@@ -53,6 +55,7 @@ use Rattle.rows.specs.Readings.{Fed, Tok, Val, Told, Ask}
 use Rattle.rows.specs.Run.{Outcome, Asks, Takes, Passes, Gathers, Makes, Turns, comes, due, noted, valued, inner, begins, numbers, met_with, looks, again, started, behind, run, no_turn, turned, row}
 use Rattle.rows.specs.Stages.{datum_at, location_read, start, standing, numbered_by, on_token, on_value, on_datum, on_list}
 use Rattle.rows.specs.Table.{stages_in, stages_of, find_row, parameter_row, row_among, row_or_token, action_of, assignment_to}
+use Rattle.rows.specs.Tests.{tested}
 use Rattle.rows.specs.Tokens.{is_at_most, is_up_to, is_equals}
 use Rattle.rows.specs.Suiting.{IsThere, IsVariable, IsSmall, SetsSmall, TakesAll, TakesList}
 
@@ -520,6 +523,11 @@ at_reads (loc.Register register.Toks n) ss h = named_reads n ss h
 at_reads (loc.Register kind n) ss h = any_reads (action.SetAt (loc.Register kind n)) (λ ds. (tt, tt)) ss []
 at_reads l ss h = absurd cc
 
+-- A test uses no location.
+tested_small : (t : Test) (ds : List Datum) → IsSmall (tested t ds)
+tested_small test.Meanings ds = tt
+tested_small t ds = tt
+
 row_reads : (a : Action) (ss : List Stage) → reads_if_set a ss ≡ true → ReadsSmall a ss []
 row_reads (action.SetCode code.Category) ss h = category_reads ss h
 row_reads (action.SetCode kind) ss h = any_reads (action.SetCode kind) (λ ds. (tt, tt)) ss []
@@ -529,6 +537,7 @@ row_reads (action.SetRegister kind) ss h = any_reads (action.SetRegister kind) (
 row_reads (action.Compute operation) ss h = variable_reads operation ss h
 row_reads action.MakeValue ss h = made_reads ss h
 row_reads action.ShowValue ss h = shown_reads ss h
+row_reads (action.Test t) ss h = any_reads (action.Test t) (tested_small t) ss []
 row_reads a ss h = any_reads a (λ ds. tt) ss []
 
 abbrev found_reads : Option (Row × Action) → Bool

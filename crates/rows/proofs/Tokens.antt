@@ -8,10 +8,11 @@ use Rattle.plain_tokens.specs.Tokens.{is_space, is_space_token}
 use Rattle.plain_tokens.specs.Names.{means_relax}
 use Rattle.rows.specs.declared.words.Kind.{Kind}
 use Rattle.rows.specs.declared.words.Kind.TheVariants as kind
+use Rattle.rows.specs.declared.words.Relation.{Relation as Relative}
 use Rattle.rows.specs.declared.internal.Internal.{Internal}
 use Rattle.rows.specs.declared.internal.Internal.TheVariants as internal
 use Rattle.rows.specs.declared.stage.Stage.{Stage}
-use Rattle.rows.specs.declared.stage.Stage.TheVariants.{Equals, ControlSequence, NewName, Variable, InternalValue, TokenList, LetEquals, Space, Prefixes}
+use Rattle.rows.specs.declared.stage.Stage.TheVariants.{Equals, ControlSequence, NewName, Variable, InternalValue, TokenList, LetEquals, Space, Relation, Prefixes}
 use Rattle.rows.specs.declared.stage.Met.{Met}
 use Rattle.rows.specs.declared.stage.Met.TheVariants as met
 use Rattle.rows.specs.declared.stage.Next.TheVariants as next
@@ -19,7 +20,7 @@ use Rattle.rows.specs.declared.command.Call.{Call}
 use Rattle.rows.specs.declared.command.Prefix.{Prefix}
 use Rattle.rows.specs.Tokens.{is_equals, name_to_assign}
 use Rattle.rows.specs.Internal.{variable_of, list_of, value_of}
-use Rattle.rows.specs.Stages.{nothing, named, newly_named, standing, unusable, unusable_behind, the_primitive, also, prefix_of, is_definition, is_assignment, as_command, limit_refused, behind_prefixes, prefixed, on_token}
+use Rattle.rows.specs.Stages.{nothing, named, newly_named, standing, unusable, unusable_behind, the_primitive, relation_of, related, also, prefix_of, is_definition, is_assignment, as_command, limit_refused, behind_prefixes, prefixed, on_token}
 use Rattle.rows.specs.Laws.{rank}
 
 abbrev pub IsLow : Kind → Type 0
@@ -47,6 +48,10 @@ standing_low m (Some (internal.At l)) low = tt
 standing_low m (Some (internal.Numbered b)) low = tt
 standing_low m None low = low
 
+related_low : (c : Call) (o : Option Relative) → MetLow (related c o)
+related_low c (Some r) = tt
+related_low c None = tt
+
 behind_prefixes_low : (c : Call) (x : Seen) → MetLow (behind_prefixes c x)
 behind_prefixes_low c x =
     met_if (is_definition x.meaning) _ _ tt
@@ -67,5 +72,6 @@ token_low TokenList c x =
     (standing_low (met.Begins (kind.Text c.name false)) (list_of x.meaning) (omega arith))
 token_low LetEquals c x = met_if (is_space x) (met.Skips c) (if is_equals x then met.Passes else met.Leaves) tt (met_if (is_equals x) met.Passes met.Leaves tt tt)
 token_low Space c x = met_if (is_space x) met.Passes met.Leaves tt tt
+token_low Relation c x = related_low c (relation_of x.token)
 token_low (Prefixes p) c x = prefixed_low (also p c) (prefix_of x.meaning) x
 token_low s c x = tt

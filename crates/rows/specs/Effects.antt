@@ -15,6 +15,7 @@ use Rattle.rows.specs.Arithmetic.{number_in, glue_in}
 use Rattle.rows.specs.Tokens.{is_at_most}
 use Rattle.rows.specs.Stages.{datum_at, number, name, token_read, location}
 use Rattle.rows.specs.Table.{action_of}
+use Rattle.rows.specs.Tests.{tested}
 
 -- a mathematical character's code; another number, which no row gives, counts as 0
 abbrev pub math_code_of : ℤ → ℕ
@@ -66,6 +67,7 @@ comes_to action.MakeRoman ds = effect.MakeRoman (number 0 ds)
 comes_to action.MakeString ds = effect.MakeString (token_read 0 ds)
 comes_to action.MakeMeaning ds = effect.MakeMeaning (token_read 0 ds)
 comes_to action.MakeValue ds = value_made (datum_at 0 ds)
+comes_to (action.Test test) ds = tested test ds
 
 -- the command that does it
 abbrev pub effect_of : Call → List Datum → Effect

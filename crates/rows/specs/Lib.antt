@@ -5,6 +5,7 @@ pub mod Table
 pub mod Readings
 pub mod Suiting
 pub mod Stages
+pub mod Tests
 pub mod Effects
 pub mod Run
 pub mod Laws

@@ -10,17 +10,19 @@ use Rattle.tex_defs.specs.declared.Seen.{Seen}
 use Rattle.tex_syntax.specs.declared.words.Want.TheVariants as want
 use Rattle.tex_syntax.specs.declared.words.Report.{Report}
 use Rattle.tex_syntax.specs.declared.words.Report.TheVariants as report
-use Rattle.plain_tokens.specs.Tokens.{is_space, is_space_token}
+use Rattle.plain_tokens.specs.Tokens.{is_other, is_space, is_space_token}
 use Rattle.plain_tokens.specs.Categories.{is_between}
 use Rattle.plain_tokens.specs.Names.{name_of, means_relax, means_primitive, is_definition_primitive, long_primitive, outer_primitive, global_primitive, def_primitive}
 use Rattle.rows.specs.declared.words.Datum.{Datum}
 use Rattle.rows.specs.declared.words.Datum.TheVariants as datum
+use Rattle.rows.specs.declared.words.Relation.{Relation as Relative}
+use Rattle.rows.specs.declared.words.Relation.TheVariants as relative
 use Rattle.rows.specs.declared.words.Value.{Value}
 use Rattle.rows.specs.declared.words.Value.TheVariants as value
 use Rattle.rows.specs.declared.words.Kind.{Kind}
 use Rattle.rows.specs.declared.words.Kind.TheVariants as kind
 use Rattle.rows.specs.declared.stage.Stage.{Stage}
-use Rattle.rows.specs.declared.stage.Stage.TheVariants.{Number, NumberTo, NumberUpTo, Dimension, Glue, Amount, Equals, ControlSequence, NewName, Variable, InternalValue, TokenList, Keyword, LetEquals, Space, AnyToken, NonblankToken, Text, MacroText, Prefixes}
+use Rattle.rows.specs.declared.stage.Stage.TheVariants.{Number, NumberTo, NumberUpTo, Dimension, Glue, Amount, Equals, ControlSequence, NewName, Variable, InternalValue, TokenList, Keyword, LetEquals, Space, AnyToken, UnenteredToken, ExpandedToken, NonblankToken, Relation, Text, MacroText, Prefixes}
 use Rattle.rows.specs.declared.stage.Complaint.{Complaint}
 use Rattle.rows.specs.declared.stage.Complaint.TheVariants.{BadCharacterCode, BadRegisterCode, BadMathchar, InvalidCode}
 use Rattle.rows.specs.declared.stage.Start.{Start}
@@ -160,6 +162,18 @@ abbrev pub numbered_by : Bank → Value → Got
 numbered_by b (value.Plain (datum.Number n)) = numbered b n
 numbered_by b v = numbered b (pos 0)
 
+-- RELATIONS
+
+-- an explicit `<`, `=` or `>` of category 12
+abbrev pub relation_of : Token → Option Relative
+relation_of t =
+    if is_other 60 t then Some relative.Less else if is_other 61 t then Some relative.Equal else if is_other 62 t then Some relative.Greater else None
+
+-- another token is given back and reported, and `=` taken
+abbrev pub related : Call → Option Relative → Met
+related c (Some r) = met.Takes (datum.Relation r)
+related c None = met.Notes (note.Tells (report.MissingRelation (number_of c.head)) true) (next.Takes (datum.Relation relative.Equal))
+
 -- PREFIXES
 
 -- with one prefix more
@@ -251,7 +265,10 @@ start ControlSequence c ds = Looks want.Raw
 start LetEquals c ds = Looks want.Raw
 start Space c ds = Looks want.Raw
 start AnyToken c ds = Looks want.Raw
+start UnenteredToken c ds = Looks want.Unentered
+start ExpandedToken c ds = Looks want.Expanded
 start NonblankToken c ds = Looks want.Nonblank
+start Relation c ds = Looks want.Nonblank
 start (Text expanded) c ds = Begins (kind.Text c.name expanded)
 start (MacroText expanded) c ds = Begins (kind.Definition (name 0 ds) expanded)
 start (Prefixes p) c ds = Looks want.Command
@@ -267,7 +284,10 @@ on_token TokenList c x = if means_relax x.meaning then met.Skips c else standing
 on_token LetEquals c x = if is_space x then met.Skips c else if is_equals x then met.Passes else met.Leaves
 on_token Space c x = if is_space x then met.Passes else met.Leaves
 on_token AnyToken c x = met.Takes (datum.Taken x)
+on_token UnenteredToken c x = met.Takes (datum.Taken x)
+on_token ExpandedToken c x = met.Takes (datum.Taken x)
 on_token NonblankToken c x = met.Takes (datum.Taken x)
+on_token Relation c x = related c (relation_of x.token)
 on_token (Prefixes p) c x = prefixed (also p c) (prefix_of x.meaning) x
 on_token s c x = met.Leaves
 

@@ -10,6 +10,7 @@ use Rattle.rows.specs.declared.command.Head.{Head}
 use Rattle.rows.specs.declared.command.Head.TheVariants.{Primitive, Register}
 use Rattle.rows.specs.declared.command.Action.{Action}
 use Rattle.rows.specs.declared.command.Action.TheVariants as action
+use Rattle.rows.specs.declared.command.Test.TheVariants as test
 use Rattle.rows.specs.declared.command.TheConstants.{SYNTAX}
 use Rattle.rows.specs.declared.internal.Internal.{Internal}
 use Rattle.rows.specs.declared.internal.Internal.TheVariants as internal
@@ -88,6 +89,7 @@ abbrev pub is_unguarded : Action → Bool
 is_unguarded action.PutMarked = true
 is_unguarded action.MakeString = true
 is_unguarded action.MakeMeaning = true
+is_unguarded (action.Test test.Meanings) = true
 is_unguarded a = false
 
 abbrev pub reads_under_normal : Head → Bool

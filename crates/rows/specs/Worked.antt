@@ -3,15 +3,16 @@ use Rattle.std.specs.Prelude.{ℕ, ℤ, pos, negsuc, ◌≡◌, ◌==◌, ◌&&�
 use Rattle.tex_defs.specs.declared.Token.{Token}
 use Rattle.tex_defs.specs.declared.Token.TheVariants as token
 use Rattle.tex_defs.specs.declared.Name.{Name}
-use Rattle.tex_defs.specs.declared.Name.TheVariants.{Single, Word, Frozen}
+use Rattle.tex_defs.specs.declared.Name.TheVariants.{Active, Single, Word, Frozen}
 use Rattle.tex_defs.specs.declared.Frozen.TheVariants.{Relax, Inaccessible}
 use Rattle.tex_defs.specs.declared.Meaning.TheVariants as means
 use Rattle.tex_defs.specs.declared.Seen.{Seen}
-use Rattle.tex_syntax.specs.declared.words.Want.TheVariants.{Raw, Nonblank, Expanded}
+use Rattle.tex_syntax.specs.declared.words.Want.TheVariants.{Raw, Unentered, Nonblank, Expanded}
 use Rattle.tex_syntax.specs.declared.words.Want.TheVariants as want
-use Rattle.tex_syntax.specs.declared.words.Report.TheVariants.{BadCharacterCode, BadRegisterCode, BadMathchar, CantUseAfter, InvalidCode, CodeTooGreat, MissingName, PrefixWith, LongOrOuterWith}
+use Rattle.tex_syntax.specs.declared.words.Report.TheVariants.{BadCharacterCode, BadRegisterCode, BadMathchar, CantUseAfter, InvalidCode, CodeTooGreat, MissingName, MissingRelation, PrefixWith, LongOrOuterWith}
 use Rattle.plain_tokens.specs.Categories.{begin_group, space, letter, other}
 use Rattle.prim_table.specs.Primitives.{primitive_name}
+use Rattle.conditionals.specs.declared.choice.Value.TheVariants.{Truth, Case}
 use Rattle.rows.specs.declared.words.Datum.TheVariants.{Number, Found}
 use Rattle.rows.specs.declared.words.Datum.TheVariants as datum
 use Rattle.rows.specs.declared.words.Keyword.TheVariants.{By}
@@ -38,7 +39,7 @@ use Rattle.rows.specs.declared.command.Action.{Action}
 use Rattle.rows.specs.declared.command.Action.TheVariants as action
 use Rattle.rows.specs.declared.command.Row.{Row}
 use Rattle.rows.specs.declared.command.TheConstants.{SYNTAX}
-use Rattle.rows.specs.Table.{reads_under_normal, stages_in}
+use Rattle.rows.specs.Table.{has_row, reads_under_normal, stages_in}
 use Rattle.rows.specs.Readings.{Fed, Tok, Val, Told, Ask, More, Inner, Acts, ActsOn, Defines, Ends, Tells, Inserts, Relaxes}
 use Rattle.rows.specs.Run.{row}
 
@@ -499,6 +500,120 @@ pub record WorkedExpansions : Type 0 where
   pub meaning : steps 60 (Tok x ∷ []) ≡ More Raw ∷ Acts (call 60) (effect.MakeMeaning x) ∷ []
   pub statuses : map (λ n. reads_under_normal (head.Primitive n)) (54 ∷ 55 ∷ 57 ∷ 58 ∷ 59 ∷ 60 ∷ 62 ∷ 30 ∷ []) ≡ false ∷ true ∷ false ∷ false ∷ true ∷ true ∷ false ∷ false ∷ []
 
+-- CONDITIONALS
+
+abbrev pub less : Seen
+less = character other 60
+
+abbrev pub greater : Seen
+greater = character other 62
+
+-- `<` of category 11, and `\x` as a name that means `<`
+abbrev pub less_letter : Seen
+less_letter = character letter 60
+
+abbrev pub implicit_less : Seen
+implicit_less = record { token = token.Named x_name; meaning = means.Char other 60 }
+
+-- a conditional goes on by this truth of its test
+abbrev pub chooses : ℕ → Bool → Ask
+chooses n truth = Acts (call n) (effect.Choose (Truth truth))
+
+-- what `\ifnum` and what `\ifdim` asks for, where a relation stands between the values, and where it is missing, and what comes of the test
+abbrev pub related : Bool → List Ask
+related truth = Inner Integer false ∷ More Nonblank ∷ Inner Integer false ∷ chooses 67 truth ∷ []
+
+abbrev pub unrelated : Bool → List Ask
+unrelated truth = Inner Integer false ∷ More Nonblank ∷ Tells (MissingRelation 67) true ∷ Inner Integer false ∷ chooses 67 truth ∷ []
+
+abbrev pub measures : Bool → List Ask
+measures truth = Inner (Dimension in_points) false ∷ More Nonblank ∷ Inner (Dimension in_points) false ∷ chooses 68 truth ∷ []
+
+-- `\ifnum1<2`, `\ifnum2<2`, `\ifnum-2=-2`, `\ifnum2>-2` and `\ifnum2>2`; a letter in place of the relation, `<` of category 11 and a name that means `<`, where
+-- each counts as `=`; `\ifdim1pt>.5pt`, and a brace in place of the relation
+pub record WorkedRelations : Type 0 where
+  pub is_less : steps 67 (number (pos 1) ∷ Tok less ∷ number (pos 2) ∷ []) ≡ related true
+  pub not_less : steps 67 (number (pos 2) ∷ Tok less ∷ number (pos 2) ∷ []) ≡ related false
+  pub is_equal : steps 67 (number (negsuc 1) ∷ Tok equals ∷ number (negsuc 1) ∷ []) ≡ related true
+  pub is_greater : steps 67 (number (pos 2) ∷ Tok greater ∷ number (negsuc 1) ∷ []) ≡ related true
+  pub not_greater : steps 67 (number (pos 2) ∷ Tok greater ∷ number (pos 2) ∷ []) ≡ related false
+  pub missing : steps 67 (number (pos 7) ∷ Tok a_letter ∷ Told ∷ number (pos 7) ∷ []) ≡ unrelated true
+  pub of_a_letter : steps 67 (number (pos 1) ∷ Tok less_letter ∷ Told ∷ number (pos 2) ∷ []) ≡ unrelated false
+  pub implicit : steps 67 (number (pos 1) ∷ Tok implicit_less ∷ Told ∷ number (pos 2) ∷ []) ≡ unrelated false
+  pub dimensions : steps 68 (points 65536 ∷ Tok greater ∷ points 32768 ∷ []) ≡ measures true
+  pub dimension_missing :
+      steps 68 (points 65536 ∷ Tok a_brace ∷ Told ∷ points 65536 ∷ []) ≡
+      Inner (Dimension in_points) false ∷ More Nonblank ∷ Tells (MissingRelation 68) true ∷ Inner (Dimension in_points) false ∷ chooses 68 true ∷ []
+
+-- `\ifodd` of 3, 2 and -3; `\ifcase` of 2 and -1; `\ifvoid256`, `\ifhbox255` and `\ifvbox-1`
+pub record WorkedNumberTests : Type 0 where
+  pub odd : steps 69 (number (pos 3) ∷ []) ≡ Inner Integer false ∷ chooses 69 true ∷ []
+  pub even : steps 69 (number (pos 2) ∷ []) ≡ Inner Integer false ∷ chooses 69 false ∷ []
+  pub odd_negative : steps 69 (number (negsuc 2) ∷ []) ≡ Inner Integer false ∷ chooses 69 true ∷ []
+  pub third_case : steps 81 (number (pos 2) ∷ []) ≡ Inner Integer false ∷ Acts (call 81) (effect.Choose (Case (pos 2))) ∷ []
+  pub no_case : steps 81 (number (negsuc 0) ∷ []) ≡ Inner Integer false ∷ Acts (call 81) (effect.Choose (Case (negsuc 0))) ∷ []
+  pub void_too_great :
+      steps 74 (number (pos 256) ∷ Told ∷ []) ≡ Inner Integer false ∷ Tells (BadRegisterCode (pos 256)) false ∷ chooses 74 true ∷ []
+  pub hbox : steps 75 (number (pos 255) ∷ []) ≡ Inner Integer false ∷ chooses 75 false ∷ []
+  pub vbox_negative :
+      steps 76 (number (negsuc 0) ∷ Told ∷ []) ≡ Inner Integer false ∷ Tells (BadRegisterCode (negsuc 0)) false ∷ chooses 76 false ∷ []
+
+-- what `\if` (65) and what `\ifcat` (66) asks for, and what comes of the test
+abbrev pub sees : ℕ → Bool → List Ask
+sees n truth = More Expanded ∷ More Expanded ∷ chooses n truth ∷ []
+
+-- the characters `a` of category 12 and `b`, and `\x` as a name that means the letter `a`
+abbrev pub other_a : Seen
+other_a = character other 97
+
+abbrev pub b_letter : Seen
+b_letter = character letter 98
+
+abbrev pub implicit_a : Seen
+implicit_a = record { token = token.Named x_name; meaning = means.Char letter 97 }
+
+-- a name that `\noexpand` kept from being expanded, as the active characters `~` and `!`
+abbrev pub kept : Name → Seen
+kept n = record { token = token.Named n; meaning = means.RelaxMarked }
+
+abbrev pub kept_tie : Seen
+kept_tie = kept (Active 126)
+
+abbrev pub kept_mark : Seen
+kept_mark = kept (Active 33)
+
+-- `\if`: `ab`, `a` of two categories, and a name that means `a`; two names that are no characters, one of `\chardef`, and one that is no character before the
+-- character 0; the active character `~`, kept, before the character `~` and before a name that is no character; `\x`, kept; `~` where it means `\relax`
+pub record WorkedCodeTests : Type 0 where
+  pub another : steps 65 (Tok a_letter ∷ Tok b_letter ∷ []) ≡ sees 65 false
+  pub another_category : steps 65 (Tok a_letter ∷ Tok other_a ∷ []) ≡ sees 65 true
+  pub implicit : steps 65 (Tok implicit_a ∷ Tok a_letter ∷ []) ≡ sees 65 true
+  pub names : steps 65 (Tok (primitive 1) ∷ Tok (primitive 5) ∷ []) ≡ sees 65 true
+  pub given : steps 65 (Tok (character_name 97) ∷ Tok a_letter ∷ []) ≡ sees 65 false
+  pub no_character : steps 65 (Tok (primitive 1) ∷ Tok (character other 0) ∷ []) ≡ sees 65 false
+  pub kept_active : steps 65 (Tok kept_tie ∷ Tok (character other 126) ∷ []) ≡ sees 65 true
+  pub kept_and_name : steps 65 (Tok kept_tie ∷ Tok (primitive 1) ∷ []) ≡ sees 65 false
+  pub kept_name : steps 65 (Tok (kept x_name) ∷ Tok (primitive 1) ∷ []) ≡ sees 65 true
+  pub relax : steps 65 (Tok (record { token = token.Named (Active 126); meaning = means.Prim 1 }) ∷ Tok (primitive 5) ∷ []) ≡ sees 65 true
+
+-- `\ifcat`: `ab`, `a` of two categories; two names that are no characters, and one before a brace; two active characters, kept, and one before a name that is no
+-- character
+pub record WorkedCategoryTests : Type 0 where
+  pub same : steps 66 (Tok a_letter ∷ Tok b_letter ∷ []) ≡ sees 66 true
+  pub another : steps 66 (Tok a_letter ∷ Tok other_a ∷ []) ≡ sees 66 false
+  pub names : steps 66 (Tok (primitive 1) ∷ Tok (character_name 97) ∷ []) ≡ sees 66 true
+  pub name_and_brace : steps 66 (Tok (primitive 1) ∷ Tok a_brace ∷ []) ≡ sees 66 false
+  pub kept_both : steps 66 (Tok kept_tie ∷ Tok kept_mark ∷ []) ≡ sees 66 true
+  pub kept_and_name : steps 66 (Tok kept_tie ∷ Tok (primitive 1) ∷ []) ≡ sees 66 false
+
+-- `\ifx`; which conditionals read their tokens under normal status; which have no row: those that read nothing, `\ifeof`, and `\fi`, `\else` and `\or`
+pub record WorkedComparisons : Type 0 where
+  pub names : steps 77 (Tok x ∷ Tok y ∷ []) ≡ More Unentered ∷ More Unentered ∷ Acts (call 77) (effect.Compare x y) ∷ []
+  pub statuses : map (λ n. reads_under_normal (head.Primitive n)) (65 ∷ 66 ∷ 67 ∷ 77 ∷ 81 ∷ []) ≡ false ∷ false ∷ false ∷ true ∷ false ∷ []
+  pub rowless :
+      map (λ n. has_row (head.Primitive n)) (69 ∷ 70 ∷ 71 ∷ 72 ∷ 73 ∷ 74 ∷ 78 ∷ 79 ∷ 80 ∷ 81 ∷ 82 ∷ 83 ∷ 84 ∷ []) ≡
+      true ∷ false ∷ false ∷ false ∷ false ∷ true ∷ false ∷ false ∷ false ∷ true ∷ false ∷ false ∷ false ∷ []
+
 -- EACH ROW that sets a code or a register begins with the character's or the register's number, from 0 to 255; a category code is at most 15. Each that
 -- gives a name a character or a register reads its number, from 0 to 255, behind the name, and a mathematical character's is at most 32767.
 abbrev pub is_whole : Action → List Stage → Bool
@@ -522,13 +637,15 @@ are_whole (first ∷ rows) = is_whole first.2 (stages_in first.1) && are_whole r
 
 -- the numbers above, and the names of their primitives
 abbrev pub numbers : List ℕ
-numbers = 1 ∷ 8 ∷ 9 ∷ 10 ∷ 11 ∷ 12 ∷ 13 ∷ 14 ∷ 15 ∷ 16 ∷ 23 ∷ 24 ∷ 25 ∷ 26 ∷ 27 ∷ 28 ∷ 29 ∷ 30 ∷ 31 ∷ 32 ∷ 33 ∷ 34 ∷ 35 ∷ 36 ∷ 37 ∷ 38 ∷ 39 ∷ 40 ∷ 41 ∷ 42 ∷ 43 ∷ 44 ∷ 45 ∷ 46 ∷ 47 ∷ 48 ∷ 49 ∷ 52 ∷ 54 ∷ 55 ∷ 57 ∷ 58 ∷ 59 ∷ 60 ∷ 62 ∷ 128 ∷ 130 ∷ 133 ∷ 134 ∷ 139 ∷ 140 ∷ 161 ∷ 176 ∷ 179 ∷ 186 ∷ []
+numbers = 1 ∷ 8 ∷ 9 ∷ 10 ∷ 11 ∷ 12 ∷ 13 ∷ 14 ∷ 15 ∷ 16 ∷ 23 ∷ 24 ∷ 25 ∷ 26 ∷ 27 ∷ 28 ∷ 29 ∷ 30 ∷ 31 ∷ 32 ∷ 33 ∷ 34 ∷ 35 ∷ 36 ∷ 37 ∷ 38 ∷ 39 ∷ 40 ∷ 41 ∷ 42 ∷ 43 ∷ 44 ∷ 45 ∷ 46 ∷ 47 ∷ 48 ∷ 49 ∷ 52 ∷ 54 ∷ 55 ∷ 57 ∷ 58 ∷ 59 ∷ 60 ∷ 62 ∷ 65 ∷ 66 ∷ 67 ∷ 68 ∷ 69 ∷ 70 ∷ 71 ∷ 72 ∷ 73 ∷ 74 ∷ 75 ∷ 76 ∷ 77 ∷ 78 ∷ 79 ∷ 80 ∷ 81 ∷ 82 ∷ 83 ∷ 84 ∷ 128 ∷ 130 ∷ 133 ∷ 134 ∷ 139 ∷ 140 ∷ 161 ∷ 176 ∷ 179 ∷ 186 ∷ []
 
 abbrev pub commands : List (List ℕ)
 commands =
     codes "relax" ∷ codes "ignorespaces" ∷ codes "message" ∷ codes "errmessage" ∷ codes "show" ∷ codes "showthe" ∷ codes "uppercase" ∷ codes "lowercase" ∷ codes "aftergroup" ∷ codes "afterassignment" ∷ codes "long" ∷ codes "outer" ∷ codes "global" ∷ codes "def" ∷ codes "gdef" ∷ codes "edef" ∷ codes "xdef" ∷
     codes "let" ∷ codes "futurelet" ∷ codes "advance" ∷ codes "multiply" ∷ codes "divide" ∷ codes "catcode" ∷ codes "lccode" ∷ codes "uccode" ∷ codes "sfcode" ∷ codes "mathcode" ∷ codes "delcode" ∷ codes "count" ∷ codes "dimen" ∷ codes "skip" ∷ codes "muskip" ∷ codes "toks" ∷
     codes "chardef" ∷ codes "mathchardef" ∷ codes "countdef" ∷ codes "dimendef" ∷ codes "toksdef" ∷ codes "expandafter" ∷ codes "noexpand" ∷ codes "number" ∷ codes "romannumeral" ∷ codes "string" ∷ codes "meaning" ∷ codes "the" ∷
+    codes "if" ∷ codes "ifcat" ∷ codes "ifnum" ∷ codes "ifdim" ∷ codes "ifodd" ∷ codes "ifvmode" ∷ codes "ifhmode" ∷ codes "ifmmode" ∷ codes "ifinner" ∷ codes "ifvoid" ∷
+    codes "ifhbox" ∷ codes "ifvbox" ∷ codes "ifx" ∷ codes "ifeof" ∷ codes "iftrue" ∷ codes "iffalse" ∷ codes "ifcase" ∷ codes "fi" ∷ codes "else" ∷ codes "or" ∷
     codes "globaldefs" ∷ codes "escapechar" ∷ codes "endlinechar" ∷ codes "newlinechar" ∷ codes "errorcontextlines" ∷ codes "parindent" ∷ codes "lineskip" ∷ codes "thinmuskip" ∷ codes "everypar" ∷ codes "errhelp" ∷ []
 
 pub record WorkedRows : Type 0 where
@@ -550,3 +667,8 @@ pub record WorkedRows : Type 0 where
   pub lists : WorkedLists
   pub list_values : WorkedListValues
   pub expansions : WorkedExpansions
+  pub relations : WorkedRelations
+  pub number_tests : WorkedNumberTests
+  pub code_tests : WorkedCodeTests
+  pub category_tests : WorkedCategoryTests
+  pub comparisons : WorkedComparisons

@@ -10,9 +10,9 @@ use crate::internal::{
 use crate::stage::Complaint::{BadCharacterCode, BadMathchar, BadRegisterCode, InvalidCode};
 use crate::stage::Stage;
 use crate::stage::Stage::{
-    Amount, AnyToken, ControlSequence, Dimension, Equals, Glue, InternalValue, Keyword, LetEquals,
-    MacroText, NewName, NonblankToken, Number, NumberTo, NumberUpTo, Prefixes, Space, Text,
-    TokenList, Variable,
+    Amount, AnyToken, ControlSequence, Dimension, Equals, ExpandedToken, Glue, InternalValue,
+    Keyword, LetEquals, MacroText, NewName, NonblankToken, Number, NumberTo, NumberUpTo, Prefixes,
+    Relation, Space, Text, TokenList, UnenteredToken, Variable,
 };
 use crate::words::Datum;
 use Action::{
@@ -23,6 +23,7 @@ use Action::{
 };
 use Head::{Primitive, Register};
 use Row::{Four, One, Three, Two};
+use conditionals::{Aim, Ender};
 use equivalents::CodeKind::{Category, Delimiter, Lowercase, Math, SpaceFactor, Uppercase};
 use equivalents::{CodeKind, Loc};
 use tex_defs::{Name, RegisterKind, Seen};
@@ -67,6 +68,32 @@ impl Row {
     }
 }
 
+/// What a conditional tests. *The TeXbook*, chapter 20; *TeX: The Program*, part 28 (`conditional`).
+#[derive(Clone, Copy)]
+pub enum Test {
+    /// Whether two characters have the same code: `\if`.
+    Codes,
+    /// Whether they have the same category: `\ifcat`.
+    Categories,
+    /// The relation of two numbers or of two dimensions: `\ifnum`, `\ifdim`.
+    Relation,
+    /// Whether a number is odd: `\ifodd`.
+    Odd,
+    /// Whether two tokens mean the same: `\ifx`.
+    Meanings,
+    /// The number of a case: `\ifcase`.
+    Case,
+    /// It is always so.
+    Constant(bool),
+}
+
+/// A character, as `\if` and `\ifcat` see it; what is no character has category 0 and code 256.
+#[derive(Clone, Copy)]
+pub struct Character {
+    pub category: u8,
+    pub code: u16,
+}
+
 /// What a command does, as a word of the table; with what was read it is an [`Effect`].
 #[derive(Clone, Copy)]
 pub enum Action {
@@ -108,6 +135,8 @@ pub enum Action {
     MakeString,
     MakeMeaning,
     MakeValue,
+    /// A conditional goes on by its test.
+    Test(Test),
 }
 
 /// What a shorthand definition makes a name stand for. *The TeXbook*, chapter 24; *TeX: The Program*, part 49 (`shorthand_def`).
@@ -178,6 +207,12 @@ pub enum Effect {
     MakeValue(Loc),
     /// The list that stands at the location enters an expanded text as it stands, or is put in front.
     PutList(Loc),
+    /// The conditional goes on by this value of its test.
+    Choose(conditionals::Value),
+    /// It goes on by whether the two tokens mean the same.
+    Compare(Seen, Seen),
+    /// Text was skipped to this ender, for a conditional that seeks this.
+    Reach(Aim, Ender),
     /// The name of the list's characters is entered, means `\relax` in this group where it meant nothing, and is put in front.
     MakeName,
     /// The file is opened whose name is the list's characters; the token behind the name, if it is to go back, goes back first.
@@ -338,6 +373,36 @@ pub const SYNTAX: &[(u16, Row, Action)] = &[
     (59, One(AnyToken), MakeString),
     (60, One(AnyToken), MakeMeaning),
     (62, One(InternalValue), MakeValue),
+    (
+        65,
+        Two(ExpandedToken, ExpandedToken),
+        Action::Test(Test::Codes),
+    ),
+    (
+        66,
+        Two(ExpandedToken, ExpandedToken),
+        Action::Test(Test::Categories),
+    ),
+    (
+        67,
+        Three(Number, Relation, Number),
+        Action::Test(Test::Relation),
+    ),
+    (
+        68,
+        Three(Dimension, Relation, Dimension),
+        Action::Test(Test::Relation),
+    ),
+    (69, One(Number), Action::Test(Test::Odd)),
+    (74, One(REGISTER), Action::Test(Test::Constant(true))),
+    (75, One(REGISTER), Action::Test(Test::Constant(false))),
+    (76, One(REGISTER), Action::Test(Test::Constant(false))),
+    (
+        77,
+        Two(UnenteredToken, UnenteredToken),
+        Action::Test(Test::Meanings),
+    ),
+    (81, One(Number), Action::Test(Test::Case)),
 ];
 
 /// The row of a primitive and what it does, among these.

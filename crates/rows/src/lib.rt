@@ -16,7 +16,8 @@ pub use arithmetic::{
     number_in, value_computed,
 };
 pub use command::{
-    Action, Call, Effect, Head, Prefix, Row, SYNTAX, Shorthand, find_row, row_of, value_stage,
+    Action, Call, Character, Effect, Head, Prefix, Row, SYNTAX, Shorthand, Test, find_row, row_of,
+    value_stage,
 };
 pub use internal::{
     Bank, Internal, byte_of, internal_of, is_dimension, is_fetchable, is_glue, is_list, is_mu,
@@ -27,4 +28,4 @@ pub use laws::{
     rows_have_no_value, worked_rows,
 };
 pub use stage::{Complaint, Got, Met, Next, Note, Stage, Start};
-pub use words::{Datum, DimenKind, Keyword, Kind, Value};
+pub use words::{Datum, DimenKind, Keyword, Kind, Relation, Value};

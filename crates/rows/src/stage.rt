@@ -49,8 +49,14 @@ pub enum Stage {
     Space,
     /// A token as it stands.
     AnyToken,
+    /// A token as it stands, whose name isn't entered.
+    UnenteredToken,
+    /// A token, by expansion.
+    ExpandedToken,
     /// The first token that is no space, by expansion.
     NonblankToken,
+    /// A relation: `<`, `=` or `>`; where it is missing, that is reported, and `=` taken.
+    Relation,
     /// A balanced text, and whether it is expanded.
     Text(bool),
     /// The list of a macro, and whether its body is expanded.

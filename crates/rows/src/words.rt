@@ -26,6 +26,14 @@ pub enum Keyword {
     Mu,
 }
 
+/// The relation of two numbers or dimensions that a conditional tests.
+#[derive(Clone, Copy)]
+pub enum Relation {
+    Less,
+    Equal,
+    Greater,
+}
+
 /// What a stage has read.
 #[derive(Clone, Copy)]
 pub enum Datum {
@@ -37,6 +45,7 @@ pub enum Datum {
     At(Loc),
     /// Whether a keyword was there.
     Found(bool),
+    Relation(Relation),
     /// The integer before a fraction, and whether a point stood directly behind its decimal digits.
     Factor(i32, bool),
     /// A dimension in sp; an infinite one in 1/65536 of a unit of this order of infinity, from 1 to 3.

@@ -121,4 +121,40 @@ returns c = record {
     refused = refl;
   };
   expansions = record { expandafter = refl; noexpand = refl; number_made = refl; romannumeral = refl; string = refl; meaning = refl; statuses = refl };
+  relations = record {
+    is_less = refl;
+    not_less = refl;
+    is_equal = refl;
+    is_greater = refl;
+    not_greater = refl;
+    missing = refl;
+    of_a_letter = refl;
+    implicit = refl;
+    dimensions = refl;
+    dimension_missing = refl;
+  };
+  number_tests = record {
+    odd = refl;
+    even = refl;
+    odd_negative = refl;
+    third_case = refl;
+    no_case = refl;
+    void_too_great = refl;
+    hbox = refl;
+    vbox_negative = refl;
+  };
+  code_tests = record {
+    another = refl;
+    another_category = refl;
+    implicit = refl;
+    names = refl;
+    given = refl;
+    no_character = refl;
+    kept_active = refl;
+    kept_and_name = refl;
+    kept_name = refl;
+    relax = refl;
+  };
+  category_tests = record { same = refl; another = refl; names = refl; name_and_brace = refl; kept_both = refl; kept_and_name = refl };
+  comparisons = record { names = refl; statuses = refl; rowless = refl };
 }
