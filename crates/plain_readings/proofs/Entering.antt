@@ -22,11 +22,11 @@ use Rattle.plain_readings.specs.Lists.{build_ask, built, build_fed, manner, text
 use Rattle.plain_readings.specs.Calls.{call_ask, gathered}
 use Rattle.plain_readings.specs.Factors.{as_factor}
 use Rattle.plain_readings.specs.Measures.{dimen_fed, glue_fed}
-use Rattle.plain_readings.specs.Readings.{Kind, Reads, Spelling, FileName, Behind, Arguments, ask, lists}
+use Rattle.plain_readings.specs.Readings.{Kind, Reads, Spelling, FileName, Behind, Skips, Arguments, ask, lists}
 use Rattle.plain_readings.proofs.Wants.{AsksUncopied}
 use Rattle.plain_readings.proofs.RowWants.{row_uncopied}
 use Rattle.plain_readings.proofs.MeasureWants.{dimension_uncopied, glue_uncopied}
-use Rattle.plain_readings.proofs.Steps.{integer_holds, spelling_holds, naming_holds}
+use Rattle.plain_readings.proofs.Steps.{integer_holds, spelling_holds, naming_holds, skipping_holds}
 use Rattle.plain_readings.proofs.Keywords.{keyword_holds}
 use Rattle.plain_readings.proofs.Factors.{factor_is}
 
@@ -198,6 +198,7 @@ uncopied (Reads (Definition name expanded)) fed h = absurd h
 uncopied (Spelling c) fed h = spelling_holds (λ b a. AsksUncopied a) (λ b want plain. plain) (λ report back. tt) (λ b. tt) (λ b c ts. tt) c [] false fed
 uncopied (FileName c) fed h = naming_holds (λ b a. AsksUncopied a) (λ b want plain. plain) (λ report back. tt) (λ b. tt) (λ b c back ts. tt) c Nonblank tt [] false fed
 uncopied (Behind c x) fed h = tt
+uncopied (Skips c aim line) fed h = skipping_holds (λ b a. AsksUncopied a) (λ b want plain. plain) (λ report back. tt) (λ b. tt) (λ b d to e. tt) c aim 0 false fed
 uncopied (Arguments name long number ts) [] h = tt
 uncopied (Arguments name long number ts) (y ∷ fed) h = call_uncopied name (gathered long ts (y ∷ fed))
 

@@ -9,10 +9,10 @@ use Rattle.rows.specs.Readings.{Fed}
 use Rattle.plain_readings.specs.Integers.{integer}
 use Rattle.plain_readings.specs.Lists.{build_ask, text, definition}
 use Rattle.plain_readings.specs.Calls.{call_ask, gathered}
-use Rattle.plain_readings.specs.Readings.{Kind, Reads, Spelling, FileName, Behind, Arguments, ask}
+use Rattle.plain_readings.specs.Readings.{Kind, Reads, Spelling, FileName, Behind, Skips, Arguments, ask}
 use Rattle.plain_readings.specs.Laws.{is_met, Lends}
 use Rattle.plain_readings.proofs.Lent.{row_lends}
-use Rattle.plain_readings.proofs.Steps.{integer_holds, spelling_holds, naming_holds}
+use Rattle.plain_readings.proofs.Steps.{integer_holds, spelling_holds, naming_holds, skipping_holds}
 use Rattle.plain_readings.proofs.Keywords.{keyword_holds}
 use Rattle.plain_readings.proofs.Factors.{factor_lends}
 use Rattle.plain_readings.proofs.Measuring.{dimension_lends, glue_lends}
@@ -42,5 +42,6 @@ lends (Reads (Definition name expanded)) fed = build_lends (is_met false fed) (d
 lends (Spelling c) fed = spelling_holds (λ b a. Lends (is_met false fed) a) (λ b want plain. tt) (λ report back. tt) (λ b. tt) (λ b c ts. tt) c [] false fed
 lends (FileName c) fed = naming_holds (λ b a. Lends (is_met false fed) a) (λ b want plain. tt) (λ report back. tt) (λ b. tt) (λ b c back ts. tt) c Nonblank tt [] false fed
 lends (Behind c x) fed = tt
+lends (Skips c aim line) fed = skipping_holds (λ b a. Lends (is_met false fed) a) (λ b want plain. tt) (λ report back. tt) (λ b. tt) (λ b d to e. tt) c aim 0 false fed
 lends (Arguments name long number ts) [] = tt
 lends (Arguments name long number ts) (y ∷ fed) = call_lends (is_met false (y ∷ fed)) name (gathered long ts (y ∷ fed))

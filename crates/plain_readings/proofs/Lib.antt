@@ -16,6 +16,7 @@ pub mod Lending
 pub mod Values
 pub mod Lower
 pub mod Notes
+pub mod Skipped
 pub mod RowWants
 pub mod MeasureWants
 pub mod Entering

@@ -17,9 +17,9 @@ use Rattle.rows.proofs.Tokens.{IsLow}
 use Rattle.rows.proofs.Runs.{row_holds}
 use Rattle.plain_readings.specs.Lists.{build_ask, text, definition}
 use Rattle.plain_readings.specs.Calls.{call_ask, gathered}
-use Rattle.plain_readings.specs.Readings.{Kind, Reads, Spelling, FileName, Behind, Arguments, ask}
+use Rattle.plain_readings.specs.Readings.{Kind, Reads, Spelling, FileName, Behind, Skips, Arguments, ask}
 use Rattle.plain_readings.specs.Laws.{rank, BeginsBy, GivesValue}
-use Rattle.plain_readings.proofs.Steps.{integer_holds, spelling_holds, naming_holds}
+use Rattle.plain_readings.proofs.Steps.{integer_holds, spelling_holds, naming_holds, skipping_holds}
 use Rattle.plain_readings.proofs.Keywords.{keyword_holds}
 use Rattle.plain_readings.proofs.Values.{values}
 
@@ -76,6 +76,7 @@ lower (Reads (Definition name expanded)) fed = definition_lower name expanded (d
 lower (Spelling c) fed = spelling_holds (λ b a. BeginsBy (Spelling c) a) (λ b want plain. tt) (λ report back. tt) (λ b. tt) (λ b d ts. tt) c [] false fed
 lower (FileName c) fed = naming_holds (λ b a. BeginsBy (FileName c) a) (λ b want plain. tt) (λ report back. tt) (λ b. tt) (λ b d back ts. tt) c Nonblank tt [] false fed
 lower (Behind c x) fed = tt
+lower (Skips c aim line) fed = skipping_holds (λ b a. BeginsBy (Skips c aim line) a) (λ b want plain. tt) (λ report back. tt) (λ b. tt) (λ b d to e. tt) c aim 0 false fed
 lower (Arguments name long number ts) [] = tt
 lower (Arguments name long number ts) (y ∷ fed) = call_lower name long number ts (gathered long ts (y ∷ fed))
 

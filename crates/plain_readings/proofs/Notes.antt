@@ -14,13 +14,13 @@ use Rattle.rows.specs.Run.{due}
 use Rattle.rows.proofs.Runs.{row_holds}
 use Rattle.plain_readings.specs.Lists.{build_ask, build_fed, manner, text, definition}
 use Rattle.plain_readings.specs.Calls.{call_ask, call_fed, gathered, mode_of}
-use Rattle.plain_readings.specs.Readings.{Kind, Reads, Spelling, FileName, Behind, Arguments, ask}
+use Rattle.plain_readings.specs.Readings.{Kind, Reads, Spelling, FileName, Behind, Skips, Arguments, ask}
 use Rattle.plain_readings.specs.Laws.{reports_due, GivesValue, IsSingle}
 use Rattle.plain_readings.proofs.Quiet as quiet
 use Rattle.plain_readings.proofs.Quiet.{parameters_quiet, first_quiet}
 use Rattle.plain_readings.proofs.Extra as extra
 use Rattle.plain_readings.proofs.Extra.{call_quiet}
-use Rattle.plain_readings.proofs.Steps.{integer_holds, spelling_holds, naming_holds}
+use Rattle.plain_readings.proofs.Steps.{integer_holds, spelling_holds, naming_holds, skipping_holds}
 use Rattle.plain_readings.proofs.Keywords.{keyword_holds}
 use Rattle.plain_readings.proofs.Values.{values}
 use Rattle.plain_readings.proofs.Factors.{factor_reports}
@@ -134,6 +134,9 @@ told_quiet (FileName c) fed h =
     quiet_last (ask (FileName c) (fed ++ Told ∷ [])) false fed
     (naming_holds IsQuiet (λ b want plain. any b _ refl) (λ report back. tt) (λ b. any b _ refl) (λ b c back ts. any b _ refl) c Nonblank tt [] false (fed ++ Told ∷ []))
 told_quiet (Behind c x) fed h = refl
+told_quiet (Skips c aim line) fed h =
+    quiet_last (ask (Skips c aim line) (fed ++ Told ∷ [])) false fed
+    (skipping_holds IsQuiet (λ b want plain. any b _ refl) (λ report back. tt) (λ b. any b _ refl) (λ b d to e. any b _ refl) c aim 0 false (fed ++ Told ∷ []))
 told_quiet (Arguments name long number ts) fed h = arguments_quiet name long number ts fed
 
 pub single : (k : Kind) (fed : List Fed) → IsSingle k → reports_due (ask k (fed ++ Told ∷ [])) ≡ 0

@@ -12,7 +12,7 @@ use Rattle.rows.specs.declared.command.Call.{Call}
 use Rattle.rows.specs.Stages.{start, value_kind, location}
 use Rattle.rows.specs.Table.{row_of, first_in, rest_in, value_stage}
 use Rattle.rows.specs.Run.{started, behind, run, turned}
-use Rattle.plain_readings.specs.Readings.{Kind, Reads, Spelling, FileName, Behind, Arguments, ask}
+use Rattle.plain_readings.specs.Readings.{Kind, Reads, Spelling, FileName, Behind, Skips, Arguments, ask}
 use Rattle.plain_readings.specs.Laws.{IsRead, Starts, rank}
 
 abbrev IsLow : Start → Type 0
@@ -74,4 +74,5 @@ starts (Reads (Definition name expanded)) h = tt
 starts (Spelling c) h = tt
 starts (FileName c) h = tt
 starts (Behind c x) h = absurd h
+starts (Skips c aim line) h = tt
 starts (Arguments name long number ts) h = tt

@@ -1,14 +1,17 @@
--- A law of integers, of `\csname` and of `\input` is proved once, by induction over what they were fed with: it holds of all that they ask for,
+-- A law of integers, of `\csname`, of `\input` and of skipped text is proved once, by induction over what they were fed with: it holds of all that they ask for,
 -- where it holds of what each step of their definitions asks for.
 use Rattle.std.proofs.Common.{ℕ, ℤ, pos, ◌+◌, ◌*◌, Bool, true, false, not, List, [], ◌∷◌, ◌++◌, Option, Some, None}
 use Rattle.std.specs.Prelude.{if◌then◌else◌, nat_le}
 use Rattle.tex_defs.specs.declared.Token.{Token}
 use Rattle.tex_defs.specs.declared.Seen.{Seen}
 use Rattle.tex_syntax.specs.declared.words.Want.{Want}
-use Rattle.tex_syntax.specs.declared.words.Want.TheVariants.{Raw, Expanded, Nonblank}
+use Rattle.tex_syntax.specs.declared.words.Want.TheVariants.{Raw, Expanded, Nonblank, Unentered}
 use Rattle.tex_syntax.specs.declared.words.Report.{Report}
 use Rattle.tex_syntax.specs.declared.words.Report.TheVariants.{MissingNumber, ImproperConstant, NumberTooBig, IncompatibleUnits, MissingEndcsname}
 use Rattle.plain_tokens.specs.Tokens.{is_other, is_space}
+use Rattle.conditionals.specs.declared.choice.Aim.{Aim}
+use Rattle.conditionals.specs.declared.skip.Ender.{Ender}
+use Rattle.conditionals.specs.Skipping.{part, ends_at, open_behind}
 use Rattle.equivalents.specs.declared.values.Loc.{Loc}
 use Rattle.rows.specs.declared.words.Datum.TheVariants as datum
 use Rattle.rows.specs.declared.words.Value.TheVariants as value
@@ -18,12 +21,14 @@ use Rattle.rows.specs.declared.internal.Internal.{Internal}
 use Rattle.rows.specs.declared.internal.Internal.TheVariants as internal
 use Rattle.rows.specs.Internal.{byte_of, location_in, bad_number, internal_of, integer_of, with_sign, is_mu}
 use Rattle.rows.specs.declared.command.Call.{Call}
+use Rattle.rows.specs.declared.command.Effect.TheVariants.{Reach}
 use Rattle.rows.specs.Tokens.{is_character, is_at_most}
 use Rattle.rows.specs.Laws.{is_told}
-use Rattle.rows.specs.Readings.{Fed, Tok, Val, Told, Fetched, Ask, More, Inner, Ends, Tells, Fetches}
+use Rattle.rows.specs.Readings.{Fed, Tok, Val, Told, Fetched, Ask, More, Inner, Acts, Ends, Tells, Fetches}
 use Rattle.plain_readings.specs.Integers.{ends_with, is_digit, digit_of, is_minus, is_plus, greatest_integer, signed, digits_dropped, too_big, digits, missing, first_digit, behind_number, behind_code, constant, code_of, improper_code, mu_found, fetched, bad_numbered, with_number, numbered, internal_integer, by_meaning, unsigned, integer}
 use Rattle.plain_readings.specs.Spelling.{is_endcsname, makes, endcsname_missing, spelling}
 use Rattle.plain_readings.specs.FileNames.{character_meant, is_blank, opens, named_on, file_naming}
+use Rattle.plain_readings.specs.Skips.{ended, skipping}
 use Rattle.plain_readings.proofs.Wants.{IsUncopied}
 
 -- a law speaks of an answer, and of whether a note came last
@@ -151,3 +156,14 @@ module _ (P : Bool → Ask → Type 0) (more : (b : Bool) (want : Want) → IsUn
     naming_holds c want plain ts b (Tok x ∷ fed) =
         named_holds c ts (is_told false fed) (character_meant x.meaning) (λ us. file_naming c Expanded us fed) (λ us. naming_holds c Expanded tt us false fed)
     naming_holds c want plain ts b (y ∷ fed) = end _
+
+  module _ (end : (b : Bool) → P b Ends) (reach : (b : Bool) (c : Call) (aim : Aim) (e : Ender) → P b (Acts c (Reach aim e))) where
+    ended_holds : (c : Call) (aim : Aim) (b : Bool) (o : Option Ender) (onward : Ask) → P b onward → P b (ended c aim o onward)
+    ended_holds c aim b None onward h = h
+    ended_holds c aim b (Some e) onward h = reach b c aim e
+
+    pub skipping_holds : (c : Call) (aim : Aim) (depth : ℕ) (b : Bool) (fed : List Fed) → P (is_told b fed) (skipping c aim depth fed)
+    skipping_holds c aim depth b [] = more b Unentered tt
+    skipping_holds c aim depth b (Tok x ∷ fed) =
+        ended_holds c aim (is_told false fed) (ends_at depth (part x.meaning)) _ (skipping_holds c aim (open_behind depth (part x.meaning)) false fed)
+    skipping_holds c aim depth b (y ∷ fed) = end _

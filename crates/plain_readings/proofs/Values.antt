@@ -17,10 +17,10 @@ use Rattle.plain_readings.specs.Glues as glues
 use Rattle.plain_readings.specs.Measures.{dimen_fed, glue_fed}
 use Rattle.plain_readings.specs.Lists.{build_ask, built, text, definition, build_fed, manner}
 use Rattle.plain_readings.specs.Calls.{call_ask, gathered}
-use Rattle.plain_readings.specs.Readings.{Kind, Reads, Spelling, FileName, Behind, Arguments, ask, lists}
+use Rattle.plain_readings.specs.Readings.{Kind, Reads, Spelling, FileName, Behind, Skips, Arguments, ask, lists}
 use Rattle.plain_readings.specs.Laws.{GivesValue, EndsAs}
 use Rattle.plain_readings.proofs.Full.{EndsFull, parameters_full}
-use Rattle.plain_readings.proofs.Steps.{integer_holds, spelling_holds, naming_holds}
+use Rattle.plain_readings.proofs.Steps.{integer_holds, spelling_holds, naming_holds, skipping_holds}
 use Rattle.plain_readings.proofs.Keywords.{keyword_holds}
 use Rattle.plain_readings.proofs.Factors.{factor_value}
 use Rattle.plain_readings.proofs.Measuring.{dimension_value, glue_value_given}
@@ -62,5 +62,6 @@ values (Reads (Definition name expanded)) fed =
 values (Spelling c) fed = spelling_holds (λ b a. IsValueless a) (λ b want plain. tt) (λ report back. tt) (λ b. tt) (λ b c ts. tt) c [] false fed
 values (FileName c) fed = naming_holds (λ b a. IsValueless a) (λ b want plain. tt) (λ report back. tt) (λ b. tt) (λ b c back ts. tt) c Nonblank tt [] false fed
 values (Behind c x) fed = tt
+values (Skips c aim line) fed = skipping_holds (λ b a. IsValueless a) (λ b want plain. tt) (λ report back. tt) (λ b. tt) (λ b d to e. tt) c aim 0 false fed
 values (Arguments name long number ts) [] = tt
 values (Arguments name long number ts) (y ∷ fed) = call_valueless name (gathered long ts (y ∷ fed))

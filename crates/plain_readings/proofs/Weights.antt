@@ -21,7 +21,7 @@ use Rattle.rows.specs.declared.command.Effect.{Effect}
 use Rattle.rows.specs.declared.command.Effect.TheVariants.{ExpandBehind}
 use Rattle.rows.specs.Readings.{Fed, Tok, Val, Told, Fetched, Ask, More, Inner, Acts, ActsOn, Defines, Ends, Calls, Fails, RunsAway, Tells, Inserts, Puts, Relaxes, Fetches, Magnifies}
 use Rattle.rows.specs.Laws.{IsValueless}
-use Rattle.plain_readings.specs.Readings.{Kind, Reads, Spelling, FileName, Behind, Arguments, ask, lists}
+use Rattle.plain_readings.specs.Readings.{Kind, Reads, Spelling, FileName, Behind, Skips, Arguments, ask, lists}
 use Rattle.plain_readings.specs.Lists.{build_ask, text, definition}
 use Rattle.plain_readings.specs.Dimens as dimens
 use Rattle.plain_readings.specs.Glues as glues
@@ -222,6 +222,7 @@ noted (Reads (Definition name expanded)) fed h =
 noted (Spelling c) fed h = noted_if_light (Spelling c) fed h (note_light (Spelling c) fed refl tt (values (Spelling c) (fed ++ Told ∷ [])))
 noted (FileName c) fed h = noted_if_light (FileName c) fed h (note_light (FileName c) fed refl tt (values (FileName c) (fed ++ Told ∷ [])))
 noted (Behind c x) fed h = noted_if_light (Behind c x) fed h (note_light (Behind c x) fed refl tt (values (Behind c x) (fed ++ Told ∷ [])))
+noted (Skips c aim line) fed h = noted_if_light (Skips c aim line) fed h (note_light (Skips c aim line) fed refl tt (values (Skips c aim line) (fed ++ Told ∷ [])))
 noted (Arguments name long number ts) fed h =
     noted_if_light (Arguments name long number ts) fed h (note_light (Arguments name long number ts) fed refl tt (values (Arguments name long number ts) (fed ++ Told ∷ [])))
 
@@ -249,6 +250,7 @@ fetched (Reads (Definition name expanded)) fed l v e = absurd (built_fetches (de
 fetched (Spelling c) fed l v e = absurd (valueless_fetches (ask (Spelling c) fed) l (values (Spelling c) fed) e)
 fetched (FileName c) fed l v e = absurd (valueless_fetches (ask (FileName c) fed) l (values (FileName c) fed) e)
 fetched (Behind c x) fed l v e = absurd (valueless_fetches (ask (Behind c x) fed) l (values (Behind c x) fed) e)
+fetched (Skips c aim line) fed l v e = absurd (valueless_fetches (ask (Skips c aim line) fed) l (values (Skips c aim line) fed) e)
 fetched (Arguments name long number ts) fed l v e =
     absurd (valueless_fetches (ask (Arguments name long number ts) fed) l (values (Arguments name long number ts) fed) e)
 

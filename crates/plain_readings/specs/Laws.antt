@@ -1,19 +1,24 @@
 -- The laws of the readings, on which the machine's runs stand.
-use Rattle.std.specs.Prelude.{ℕ, ◌+◌, ◌-◌, ◌<◌, ◌≤◌, ◌≡◌, ◌≢◌, Bool, true, false, List, [], ◌∷◌, ◌++◌, length}
+use Rattle.std.specs.Prelude.{ℕ, ◌+◌, ◌-◌, ◌<◌, ◌≤◌, ◌≡◌, ◌≢◌, Bool, true, false, List, [], ◌∷◌, ◌++◌, length, take, map, None}
 use Rattle.tex_defs.specs.declared.Token.{Token}
-use Rattle.tex_syntax.specs.declared.words.Want.TheVariants.{Copied}
+use Rattle.tex_defs.specs.declared.Seen.{Seen}
+use Rattle.tex_syntax.specs.declared.words.Want.TheVariants.{Copied, Unentered}
 use Rattle.tex_syntax.specs.declared.words.Report.{Report}
 use Rattle.tex_syntax.specs.declared.words.Report.TheVariants.{MissingNumber, IncompatibleUnits}
 use Rattle.plain_tokens.specs.Puts.{grow_first}
+use Rattle.conditionals.specs.declared.choice.Aim.{Aim}
+use Rattle.conditionals.specs.declared.skip.Ender.{Ender}
+use Rattle.conditionals.specs.Skipping.{ender_at, greatest_count, IsSkipped}
 use Rattle.rows.specs.declared.words.Datum.TheVariants as datum
 use Rattle.rows.specs.declared.words.Value.{Value}
 use Rattle.rows.specs.declared.words.Value.TheVariants as value
 use Rattle.rows.specs.declared.words.Kind.{Kind as Begun}
 use Rattle.rows.specs.declared.words.Kind.TheVariants.{Command, Integer, Factor, Dimension, Glue, Keyword, Text, Definition}
 use Rattle.rows.specs.declared.command.Call.{Call}
+use Rattle.rows.specs.declared.command.Effect.TheVariants.{Reach}
 use Rattle.rows.specs.Laws.{IsValueless}
-use Rattle.rows.specs.Readings.{Fed, Tok, Told, Entered, Ask, More, Inner, Done, ActsOn, Tells, Inserts, Puts, Fetches, Magnifies}
-use Rattle.plain_readings.specs.Readings.{Kind, Reads, Spelling, FileName, Behind, ask, lists}
+use Rattle.rows.specs.Readings.{Fed, Tok, Told, Entered, Ask, More, Inner, Done, Acts, ActsOn, Tells, Inserts, Puts, Fetches, Magnifies}
+use Rattle.plain_readings.specs.Readings.{Kind, Reads, Spelling, FileName, Behind, Skips, ask, lists}
 
 -- RANKS. A reading that was fed with nothing begins only readings of a lower rank.
 abbrev pub rank : Kind → ℕ
@@ -137,3 +142,13 @@ IsSingle k = Unit {0}
 pub record NotesFall : Type 0 where
   pub falls : (k : Kind) (fed : List Fed) → reports_due (ask k (fed ++ Told ∷ [])) ≤ reports_due (ask k fed) - 1
   pub single : (k : Kind) (fed : List Fed) → IsSingle k → reports_due (ask k (fed ++ Told ∷ [])) ≡ 0
+
+-- SKIPPED TEXT. In a text of fewer than 2^64 - 1 tokens, the ender of what is skipped is reached when it has been read, and a token more is asked for
+-- where none ends it.
+pub record SkippedTexts : Type 0 where
+  pub reaches :
+      (c : Call) (aim : Aim) (line : ℕ) (text : List Seen) (k : ℕ) (e : Ender) → length text < greatest_count → IsSkipped text k e →
+      ask (Skips c aim line) (map Tok (take (k + 1) text)) ≡ Acts c (Reach aim e)
+  pub goes_on :
+      (c : Call) (aim : Aim) (line : ℕ) (text : List Seen) → length text < greatest_count → ((k : ℕ) → ender_at text k ≡ None) →
+      ask (Skips c aim line) (map Tok text) ≡ More Unentered

@@ -8,6 +8,7 @@ pub mod Lists
 pub mod Calls
 pub mod Spelling
 pub mod FileNames
+pub mod Skips
 pub mod Readings
 pub mod Scanning
 pub mod Laws

@@ -5,6 +5,7 @@ use Rattle.tex_defs.specs.declared.Token.{Token}
 use Rattle.tex_defs.specs.declared.Seen.{Seen}
 use Rattle.plain_tokens.specs.Puts.{list_of_tokens}
 use Rattle.tex_syntax.specs.declared.words.Want.TheVariants.{Nonblank}
+use Rattle.conditionals.specs.declared.choice.Aim.{Aim}
 use Rattle.rows.specs.declared.words.Kind.{Kind as Begun}
 use Rattle.rows.specs.declared.words.Kind.TheVariants.{Command, Integer, Factor, Dimension, Glue, Keyword, Text, Definition}
 use Rattle.rows.specs.declared.command.Call.{Call}
@@ -19,14 +20,17 @@ use Rattle.plain_readings.specs.Lists.{build_ask, built, text, definition}
 use Rattle.plain_readings.specs.Calls.{gathered, arguments, call_lists}
 use Rattle.plain_readings.specs.Spelling.{spelling, characters}
 use Rattle.plain_readings.specs.FileNames.{file_naming, file_characters}
+use Rattle.plain_readings.specs.Skips.{skipping}
 
 -- What may be open: a command, or what a command begins; `\csname`; `\input`; the token that `\expandafter` puts back, once what stood behind
--- it is expanded; the arguments of a call of the macro of this name, as it was written, with the macro's number and its list.
+-- it is expanded; text that a conditional skips, which seeks this, from this line on; the arguments of a call of the macro of this name, as it
+-- was written, with the macro's number and its list.
 pub data Kind : Type 0 where
   Reads : Begun → Kind
   Spelling : Call → Kind
   FileName : Call → Kind
   Behind : Call → Seen → Kind
+  Skips : Call → Aim → (line : ℕ) → Kind
   Arguments : Name → (long : Bool) → (number : ℕ) → (text : List Token) → Kind
 
 -- WHAT A READING ASKS FOR after all that it was fed with
@@ -46,6 +50,7 @@ ask (Reads k) fed = begun_ask k fed
 ask (Spelling c) fed = spelling c [] fed
 ask (FileName c) fed = file_naming c Nonblank [] fed
 ask (Behind c x) fed = Acts c (PutBack x)
+ask (Skips c aim line) fed = skipping c aim 0 fed
 ask (Arguments name long number ts) fed = arguments name long ts fed
 
 -- THE LISTS THAT IT HOLDS, its last first
@@ -71,6 +76,7 @@ lists (Reads k) fed = begun_lists k fed
 lists (Spelling c) fed = characters fed ∷ []
 lists (FileName c) fed = file_characters fed ∷ []
 lists (Behind c x) fed = []
+lists (Skips c aim line) fed = []
 lists (Arguments name long number ts) fed = call_lists (gathered long ts fed)
 
 -- A READING of the machine, with all that it was fed with. All that are open stand in a list, the innermost first.

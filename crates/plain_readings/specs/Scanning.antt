@@ -6,12 +6,13 @@ use Rattle.tex_syntax.specs.declared.words.Scanned.{Scanned}
 use Rattle.tex_syntax.specs.declared.words.Scanned.TheVariants as scanned
 use Rattle.rows.specs.declared.words.Kind.TheVariants.{Command, Text, Definition}
 use Rattle.rows.specs.Table.{reads_under_normal}
-use Rattle.plain_readings.specs.Readings.{Kind, Reads, Arguments, Reading, lists}
+use Rattle.plain_readings.specs.Readings.{Kind, Reads, Arguments, Skips, Reading, lists}
 
--- What a reading is at a check: it is read itself, under this name; it reads its token under normal status; or it counts as what is read
--- around it.
+-- What a reading is at a check: it is read itself, under this name; it skips text, from this line on; it reads its token under normal status; or
+-- it counts as what is read around it.
 pub data Status : Type 0 where
   Scans : Scanned → Name → Status
+  Ignores : (line : ℕ) → Status
   Unguarded : Status
   Inherits : Status
 
@@ -24,13 +25,13 @@ status (Reads (Command c)) = command_status (reads_under_normal c.head)
 status (Reads (Text name expanded)) = Scans scanned.Text name
 status (Reads (Definition name expanded)) = Scans scanned.Definition name
 status (Arguments name long number ts) = Scans scanned.Use name
+status (Skips c aim line) = Ignores line
 status k = Inherits
 
--- what is read, under its name, and its list as far as it is built
-pub record Scanning : Type 0 where
-  pub what : Scanned
-  pub name : Name
-  pub list : List Token
+-- what is read, under its name, with its list as far as it is built; or what is skipped, from this line on
+pub data Scanning : Type 0 where
+  Builds : Scanned → Name → (list : List Token) → Scanning
+  Skipped : (line : ℕ) → Scanning
 
 -- the first of so many lists; where there is none, that of no token
 abbrev pub first_of : (count : ℕ) → List (List Token) → List Token
@@ -39,10 +40,12 @@ first_of (suc n) [] = []
 first_of (suc n) (ts ∷ held) = ts
 
 abbrev pub scanned_at : Status → (list : List Token) → (around : Option Scanning) → Option Scanning
-scanned_at (Scans what name) list around = Some (record { what = what; name = name; list = list })
+scanned_at (Scans what name) list around = Some (Builds what name list)
+scanned_at (Ignores line) list around = Some (Skipped line)
 scanned_at s list around = around
 
--- The innermost text, definition or call; of the lists of all readings, the innermost's first, each reading has as many as it holds.
+-- The innermost text, definition or call, or text that is skipped; of the lists of all readings, the innermost's first, each reading has as many as it
+-- holds.
 abbrev pub innermost_scanned : List Reading → (held : List (List Token)) → Option Scanning
 innermost_scanned [] held = None
 innermost_scanned (r ∷ rs) held =

@@ -7,17 +7,22 @@ use Rattle.tex_defs.specs.declared.Meaning.TheVariants as means
 use Rattle.tex_defs.specs.declared.Meaning.{Meaning}
 use Rattle.tex_defs.specs.declared.RegisterKind.TheVariants as register
 use Rattle.tex_defs.specs.declared.Seen.{Seen}
-use Rattle.tex_syntax.specs.declared.words.Want.TheVariants.{Raw, Expanded, Copied, Nonblank}
+use Rattle.tex_syntax.specs.declared.words.Want.TheVariants.{Raw, Expanded, Copied, Nonblank, Unentered}
 use Rattle.tex_syntax.specs.declared.words.Want.TheVariants as want
 use Rattle.tex_syntax.specs.declared.words.Report.TheVariants.{ImproperConstant, MissingNumber, NumberTooBig, BadCharacterCode, BadRegisterCode, IncompatibleUnits, DimensionTooLarge, MissingBrace, MissingEndcsname, ExtraBrace, ParagraphEnded, UseMismatch}
 use Rattle.plain_tokens.specs.Categories.{begin_group, end_group, parameter, space, letter, other}
+use Rattle.conditionals.specs.declared.choice.Aim.{Aim}
+use Rattle.conditionals.specs.declared.choice.Aim.TheVariants.{Other, Case, Fi as AimsAtFi}
+use Rattle.conditionals.specs.declared.skip.Ender.{Ender}
+use Rattle.conditionals.specs.declared.skip.Ender.TheVariants.{Fi, Else, Or}
+use Rattle.conditionals.specs.Worked.{an_if, an_ifcase, a_fi, an_else, an_or, let_fi, marked_fi}
 use Rattle.rows.specs.declared.words.Datum.TheVariants.{Number}
 use Rattle.rows.specs.declared.words.Datum.TheVariants as datum
 use Rattle.rows.specs.declared.words.Value.TheVariants as value
 use Rattle.rows.specs.declared.words.Keyword.TheVariants.{By, Plus, Minus, Fil, L, True, Em, Ex, Pt}
 use Rattle.rows.specs.declared.words.Kind.TheVariants.{Command, Integer, Factor, Dimension, Glue as GlueOf, Keyword, Text, Definition}
 use Rattle.tex_syntax.specs.declared.words.Scanned.TheVariants as scanned
-use Rattle.rows.specs.declared.command.Effect.TheVariants.{MakeName, StartInput, PutBack}
+use Rattle.rows.specs.declared.command.Effect.TheVariants.{MakeName, StartInput, PutBack, Reach}
 use Rattle.equivalents.specs.declared.values.CodeKind.TheVariants as code
 use Rattle.equivalents.specs.declared.values.Glue.{Glue}
 use Rattle.equivalents.specs.declared.values.Loc.{Loc}
@@ -29,8 +34,8 @@ use Rattle.rows.specs.Readings.{Fed, Tok, Val, Told, Fetched, Entered, Cut, Ask,
 use Rattle.plain_readings.specs.Integers.{ends_with}
 use Rattle.plain_readings.specs.Keywords.{ends_found}
 use Rattle.plain_readings.specs.Calls.{par_token}
-use Rattle.plain_readings.specs.Readings.{Kind, Reads, Spelling, FileName, Behind, Arguments, Reading, ask, lists}
-use Rattle.plain_readings.specs.Scanning.{Scanning, scanning}
+use Rattle.plain_readings.specs.Readings.{Kind, Reads, Spelling, FileName, Behind, Skips, Arguments, Reading, ask, lists}
+use Rattle.plain_readings.specs.Scanning.{Scanning, Builds, Skipped, scanning}
 
 -- what a reading asks for before each item and behind the last, and the lists that it holds then
 abbrev pub steps : Kind → List Fed → List Ask
@@ -338,6 +343,36 @@ pub record WorkedFiles : Type 0 where
   pub active :
       steps input (Tok (record { token = token.Named (name.Active 126); meaning = means.Undefined }) ∷ []) ≡ More Nonblank ∷ ActsOn (call 63) (StartInput true) [] ∷ []
 
+-- SKIPPED TEXT
+
+-- of `\iffalse`, from line 3 on
+abbrev pub skips : Aim → Kind
+skips aim = Skips (call 80) aim 3
+
+-- where it asks for so many tokens, and then this comes
+abbrev pub unentered : ℕ → List Ask → List Ask
+unentered zero asks = asks
+unentered (suc n) asks = More Unentered ∷ unentered n asks
+
+abbrev pub reaches : Aim → Ender → List Ask
+reaches aim e = Acts (call 80) (Reach aim e) ∷ []
+
+-- `a\else`; `\if a\else\fi\fi`, whose `\else` is the inner one's; `\ifcase\or\if\or\fi\or\fi\or`; a name that means `\fi`, behind a `\fi` that
+-- `\noexpand` kept, which means `\relax`; a name that means `\fi` closes an inner one; `\if\else`, which goes on; what follows counts no more; a note ends it
+pub record WorkedSkips : Type 0 where
+  pub plain : steps (skips (Other true)) (Tok a_letter ∷ Tok an_else ∷ []) ≡ unentered 2 (reaches (Other true) Else)
+  pub inner_else :
+      steps (skips AimsAtFi) (Tok an_if ∷ Tok a_letter ∷ Tok an_else ∷ Tok a_fi ∷ Tok a_fi ∷ []) ≡ unentered 5 (reaches AimsAtFi Fi)
+  pub nested :
+      steps (skips (Case 2)) (Tok an_ifcase ∷ Tok an_or ∷ Tok an_if ∷ Tok an_or ∷ Tok a_fi ∷ Tok an_or ∷ Tok a_fi ∷ Tok an_or ∷ []) ≡
+      unentered 8 (reaches (Case 2) Or)
+  pub marked : steps (skips (Other true)) (Tok marked_fi ∷ Tok let_fi ∷ []) ≡ unentered 2 (reaches (Other true) Fi)
+  pub named : steps (skips (Other true)) (Tok an_if ∷ Tok let_fi ∷ Tok an_or ∷ []) ≡ unentered 3 (reaches (Other true) Or)
+  pub goes_on : steps (skips (Other true)) (Tok an_if ∷ Tok an_else ∷ []) ≡ unentered 3 []
+  pub once : ask (skips (Other true)) (Tok a_fi ∷ Tok a_letter ∷ Tok an_else ∷ []) ≡ Acts (call 80) (Reach (Other true) Fi)
+  pub senseless : steps (skips (Other true)) (Tok a_letter ∷ Told ∷ []) ≡ unentered 2 (Ends ∷ [])
+  pub held : holds (skips (Other true)) (Tok a_letter ∷ Tok a_fi ∷ []) ≡ [] ∷ [] ∷ [] ∷ []
+
 -- LISTS
 
 abbrev pub left : Seen
@@ -432,21 +467,27 @@ a_call fed = record { kind = two_places; fed = fed }
 abbrev pub without_places : Reading
 without_places = record { kind = Arguments x_name false 0 (full_stop ∷ token.EndPlaces ∷ []); fed = [] }
 
+abbrev pub a_skip : Reading
+a_skip = record { kind = skips (Other true); fed = Tok a_letter ∷ [] }
+
 abbrev pub the_text : Option Scanning
-the_text = Some (record { what = scanned.Text; name = x_name; list = a_token ∷ [] })
+the_text = Some (Builds scanned.Text x_name (a_token ∷ []))
 
 -- in the text of `\message`; in a number within it; at `\expandafter`, and at `\string`, which reads its token under normal status, also where a
--- number within it inherits; in a call within the text, without places and in a place; in `\message` before its text; where nothing is read
+-- number within it inherits; in a call within the text, without places and in a place; in text that is skipped within the text, and in a number within
+-- that; in `\message` before its text; where nothing is read
 pub record WorkedChecks : Type 0 where
   pub text : scanning (a_text ∷ a_command 9 ∷ []) ((a_token ∷ []) ∷ []) ≡ the_text
   pub number : scanning (an_integer ∷ a_command 57 ∷ a_text ∷ a_command 9 ∷ []) ((a_token ∷ []) ∷ []) ≡ the_text
   pub behind : scanning (a_command 54 ∷ a_text ∷ a_command 9 ∷ []) ((a_token ∷ []) ∷ []) ≡ the_text
   pub unguarded : scanning (a_command 59 ∷ a_text ∷ a_command 9 ∷ []) ((a_token ∷ []) ∷ []) ≡ None
   pub within_unguarded : scanning (a_command 57 ∷ a_command 59 ∷ a_text ∷ []) ((a_token ∷ []) ∷ []) ≡ the_text
-  pub call : scanning (without_places ∷ a_text ∷ []) ((a_token ∷ []) ∷ []) ≡ Some (record { what = scanned.Use; name = x_name; list = [] })
+  pub call : scanning (without_places ∷ a_text ∷ []) ((a_token ∷ []) ∷ []) ≡ Some (Builds scanned.Use x_name [])
   pub argument :
       scanning (a_call (Tok b_letter ∷ []) ∷ a_text ∷ []) ([] ∷ (b_token ∷ []) ∷ (a_token ∷ []) ∷ []) ≡
-      Some (record { what = scanned.Use; name = x_name; list = [] })
+      Some (Builds scanned.Use x_name [])
+  pub skipped : scanning (a_skip ∷ a_text ∷ []) ((a_token ∷ []) ∷ []) ≡ Some (Skipped 3)
+  pub within_skipped : scanning (an_integer ∷ a_skip ∷ a_text ∷ []) ((a_token ∷ []) ∷ []) ≡ Some (Skipped 3)
   pub command : scanning (a_command 9 ∷ []) [] ≡ None
   pub none : scanning [] [] ≡ None
 
@@ -458,6 +499,7 @@ pub record WorkedReadings : Type 0 where
   pub keywords : WorkedKeywords
   pub names : WorkedNames
   pub files : WorkedFiles
+  pub skipped : WorkedSkips
   pub built : WorkedLists
   pub calls : WorkedCalls
   pub checks : WorkedChecks

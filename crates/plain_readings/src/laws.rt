@@ -1,5 +1,5 @@
 // Laws of the readings: the functions have no bodies, their contracts are the laws.
-ghost use Rattle.plain_readings.specs.Laws.{ReadingsStart, ReadingsBeginLower, TokensAreLent, ValuesAreTheirs, NamesAreHeld, TokensEnter, NotesFall};
+ghost use Rattle.plain_readings.specs.Laws.{ReadingsStart, ReadingsBeginLower, TokensAreLent, ValuesAreTheirs, NamesAreHeld, TokensEnter, SkippedTexts, NotesFall};
 ghost use Rattle.plain_readings.specs.Weights.{WeightsFall};
 ghost use Rattle.plain_readings.specs.Worked.{WorkedReadings};
 
@@ -31,6 +31,11 @@ pub fn names_are_held()
 /// A token that enters an expanded text as it stands goes onto its list, and another is asked for.
 pub fn tokens_enter()
     ensures { TokensEnter }
+{}
+
+/// Text that a conditional skips ends with the token with which TeX's rule ends it, where it has fewer than 2^64 - 1 tokens.
+pub fn skipped_texts()
+    ensures { SkippedTexts }
 {}
 
 /// Behind a report so many may follow at once as its measure says, and none but in a dimension or in glue.

@@ -9,7 +9,7 @@ use Rattle.reading_frames.specs.Resumes.{resume}
 use Rattle.reading_frames.specs.Stack.{Stack, asks_in}
 use Rattle.reading_frames.specs.Weights.{frames_weight, opening_frame, innermost_weight, innermost_end, asked_weight, begun_weight, begun_with_weight, StacksFall, IsInner, IsEnd}
 use Rattle.reading_frames.specs.declared.ask.Opening.{Opening}
-use Rattle.reading_frames.specs.declared.ask.Opening.TheVariants.{Reads, Spelling, FileName, Behind}
+use Rattle.reading_frames.specs.declared.ask.Opening.TheVariants.{Reads, Spelling, FileName, Behind, Skips}
 use Rattle.reading_frames.specs.declared.frame.Frame.{Frame}
 use Rattle.reading_frames.proofs.Weights.{frame_ends, frame_heavy}
 
@@ -35,6 +35,7 @@ openings (Reads k) = omega arith
 openings (Spelling c) = omega arith
 openings (FileName c) = omega arith
 openings (Behind c x) = omega arith
+openings (Skips c aim line) = omega arith
 
 -- WHAT ENDS
 

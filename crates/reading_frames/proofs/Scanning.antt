@@ -2,19 +2,20 @@
 use Rattle.std.proofs.Common.{◌≡◌, ◌<◌, ℕ, ◌+◌, suc, Bool, true, false, List, [], ◌∷◌, length, take, drop, get_or, reverse, Option, Some, None, arith, refl, sym, subst, ap, ◌∙◌}
 use Rattle.std.proofs.Math.Seq.{take-suc, take-length}
 use Rattle.std.proofs.lemmas.List.{drop-drop, reverse-append}
-use Rattle.tex_defs.specs.declared.Name.{Name}
 use Rattle.tex_defs.specs.declared.Token.{Token}
-use Rattle.tex_syntax.specs.declared.words.Scanned.{Scanned}
 use Rattle.rows.specs.Table.{reads_under_normal}
 use Rattle.plain_readings.specs.Readings.{Reading, lists}
-use Rattle.plain_readings.specs.Scanning.{Status, Scans, Unguarded, Inherits, command_status, status, Scanning, first_of, scanned_at, innermost_scanned, scanning}
+use Rattle.plain_readings.specs.Scanning.{Status, Scans, Ignores, Unguarded, Inherits, command_status, status, Scanning, first_of, scanned_at, innermost_scanned, scanning}
 use Rattle.plain_readings.specs.Scanning as machine
 use Rattle.reading_frames.specs.Sees.{Lists, top_list}
 use Rattle.reading_frames.specs.Resumes.{list_count, frame_status, read_at, reads_unguarded}
 use Rattle.reading_frames.specs.Stands.{FramesStand}
-use Rattle.reading_frames.specs.Stack.{Found, found_at, innermost_found, unless_unguarded, found_in, scanning_of}
+use Rattle.reading_frames.specs.Stack.{found_at, innermost_found, unless_unguarded, found_in, scanning_of}
+use Rattle.reading_frames.specs.declared.ask.Found.{Found}
+use Rattle.reading_frames.specs.declared.skip.SkipScan.{SkipScan}
+use Rattle.reading_frames.specs.declared.text.BuildScan.{BuildScan}
 use Rattle.reading_frames.specs.declared.frame.Frame.{Frame}
-use Rattle.reading_frames.specs.declared.frame.Frame.TheVariants.{Command, Integer, Factor, Dimension, Glue, Keyword, Build, Spelling, FileName, Behind}
+use Rattle.reading_frames.specs.declared.frame.Frame.TheVariants.{Command, Integer, Factor, Dimension, Glue, Keyword, Build, Spelling, FileName, Behind, Skips}
 use Rattle.reading_frames.proofs.Held.{lists_counted}
 
 command_inherits : (b : Bool) (list : List Token) (o : Option Scanning) → scanned_at (command_status b) list o ≡ o
@@ -25,7 +26,7 @@ first_list : (held : Lists) → first_of 1 held ≡ top_list held
 first_list [] = refl
 first_list (list ∷ held) = refl
 
--- what is read itself has its list on top
+-- what is read itself has its list on top; of what is skipped none counts
 on_top : (f : Frame) (held : Lists) (o : Option Scanning) → scanned_at (frame_status f) (first_of (list_count f) held) o ≡ scanned_at (frame_status f) (top_list held) o
 on_top (Command scan p) held o = command_inherits (reads_under_normal p) _ o ∙ sym (command_inherits (reads_under_normal p) (top_list held) o)
 on_top (Integer scan) held o = refl
@@ -37,9 +38,11 @@ on_top (Build scan) held o = ap (λ (list : List Token). scanned_at (frame_statu
 on_top (Spelling scan) held o = refl
 on_top (FileName scan) held o = refl
 on_top (Behind c x) held o = refl
+on_top (Skips scan) held o = refl
 
-found_scanned : (s : Status) (n : ℕ) (held : Lists) (o : Found) → scanning_of held (found_at s n o) ≡ scanned_at s (top_list (drop n held)) (scanning_of held o)
+found_scanned : (s : Status) (n : ℕ) (held : Lists) (o : Option Found) → scanning_of held (found_at s n o) ≡ scanned_at s (top_list (drop n held)) (scanning_of held o)
 found_scanned (Scans what name) n held o = refl
+found_scanned (Ignores line) n held o = refl
 found_scanned Unguarded n held o = refl
 found_scanned Inherits n held o = refl
 
@@ -58,8 +61,9 @@ among (f ∷ fs) n held (r ∷ rs) stands =
     on_top f (drop n held) (scanning_of held (innermost_found fs (n + list_count f))) ∙
     sym (found_scanned (frame_status f) n held (innermost_found fs (n + list_count f)))
 
-guarded : (s : Status) (held : Lists) (o : Found) → machine.unless_unguarded s (scanning_of held o) ≡ scanning_of held (unless_unguarded s o)
+guarded : (s : Status) (held : Lists) (o : Option Found) → machine.unless_unguarded s (scanning_of held o) ≡ scanning_of held (unless_unguarded s o)
 guarded (Scans what name) held o = refl
+guarded (Ignores line) held o = refl
 guarded Unguarded held o = refl
 guarded Inherits held o = refl
 
@@ -74,38 +78,47 @@ scans (f ∷ fs) held (r ∷ rs) stands =
 
 -- THE FRAMES ONE BY ONE, the innermost first
 
+-- one that builds nothing and skips nothing
+command_unread : (b : Bool) (n : ℕ) → None ≡ read_at (command_status b) n
+command_unread true n = refl
+command_unread false n = refl
+
+pub unread : (f : Frame) (n : ℕ) → ((s : BuildScan) → f ≡ Build s → ⊥) → ((s : SkipScan) → f ≡ Skips s → ⊥) → None ≡ read_at (frame_status f) n
+unread (Command scan head) n builds skips = command_unread (reads_under_normal head) n
+unread (Build scan) n builds skips = absurd (builds scan refl)
+unread (Skips scan) n builds skips = absurd (skips scan refl)
+unread f n builds skips = refl
+
 -- the innermost of so many, and one more
 one_more : (fs : List Frame) (i n : ℕ) (f : Frame) → i < length fs → innermost_found (reverse (take (suc i) fs)) n ≡ innermost_found (get_or fs i f ∷ reverse (take i fs)) n
 one_more fs i n f h = rw (take-suc fs i f h) (ap (λ (gs : List Frame). innermost_found gs n) (reverse-append (take i fs) (get_or fs i f ∷ [])))
 
 -- one in which nothing is read
-around : (s : Status) (n : ℕ) (o : Found) → read_at s ≡ None → found_at s n o ≡ o
+around : (s : Status) (n : ℕ) (o : Option Found) → read_at s n ≡ None → found_at s n o ≡ o
 around (Scans what name) n o h = absurd cc
+around (Ignores line) n o h = absurd cc
 around Unguarded n o h = refl
 around Inherits n o h = refl
 
-abbrev numbered : ℕ → Option (Scanned × Name) → Found
-numbered n None = None
-numbered n (Some read) = Some (read.0, read.1, n)
+read_here : (s : Status) (n : ℕ) (o : Option Found) (found : Found) → read_at s n ≡ Some found → found_at s n o ≡ Some found
+read_here (Scans what name) n o found h = h
+read_here (Ignores line) n o found h = h
+read_here Unguarded n o found h = absurd cc
+read_here Inherits n o found h = absurd cc
 
-read_here : (s : Status) (n : ℕ) (o : Found) (what : Scanned) (name : Name) → read_at s ≡ Some (what, name) → found_at s n o ≡ Some (what, name, n)
-read_here (Scans what name) n o x y h = ap (numbered n) h
-read_here Unguarded n o x y h = absurd cc
-read_here Inherits n o x y h = absurd cc
-
-pub passes : (fs : List Frame) (i j n m : ℕ) (f : Frame) → j ≡ i + 1 → i < length fs → get_or fs i f ≡ f → read_at (frame_status f) ≡ None → m ≡ n + list_count f →
+pub passes : (fs : List Frame) (i j n m : ℕ) (f : Frame) → j ≡ i + 1 → i < length fs → get_or fs i f ≡ f → read_at (frame_status f) n ≡ None → m ≡ n + list_count f →
     innermost_found (reverse (take j fs)) n ≡ innermost_found (reverse (take i fs)) m
 passes fs i j n m f e h same none count =
     let g : j ≡ suc i = omega (arith, e) in
     rw g (rw count (one_more fs i n f h ∙ ap (λ (x : Frame). innermost_found (x ∷ reverse (take i fs)) n) same ∙
     around (frame_status f) n (innermost_found (reverse (take i fs)) (n + list_count f)) none))
 
-pub finds : (fs : List Frame) (i j n : ℕ) (f : Frame) (what : Scanned) (name : Name) → j ≡ i + 1 → i < length fs → get_or fs i f ≡ f → read_at (frame_status f) ≡ Some (what, name) →
-    innermost_found (reverse (take j fs)) n ≡ Some (what, name, n)
-finds fs i j n f what name e h same found =
+pub finds : (fs : List Frame) (i j n : ℕ) (f : Frame) (found : Found) → j ≡ i + 1 → i < length fs → get_or fs i f ≡ f → read_at (frame_status f) n ≡ Some found →
+    innermost_found (reverse (take j fs)) n ≡ Some found
+finds fs i j n f found e h same is =
     let g : j ≡ suc i = omega (arith, e) in
     rw g (one_more fs i n f h ∙ ap (λ (x : Frame). innermost_found (x ∷ reverse (take i fs)) n) same ∙
-    read_here (frame_status f) n (innermost_found (reverse (take i fs)) (n + list_count f)) what name found)
+    read_here (frame_status f) n (innermost_found (reverse (take i fs)) (n + list_count f)) found is)
 
 pub taken_all : (fs : List Frame) (i : ℕ) → i ≡ length fs → take i fs ≡ fs
 taken_all fs i e = rw e (take-length fs)
@@ -114,21 +127,22 @@ taken_all fs i e = rw e (take-length fs)
 pub unguarded_found : (f : Frame) (fs : List Frame) → reads_unguarded (frame_status f) ≡ true → found_in (f ∷ fs) ≡ None
 unguarded_found f fs h = none (frame_status f) (innermost_found (f ∷ fs) 0) h
   where
-    none : (s : Status) (o : Found) → reads_unguarded s ≡ true → unless_unguarded s o ≡ None
+    none : (s : Status) (o : Option Found) → reads_unguarded s ≡ true → unless_unguarded s o ≡ None
     none (Scans what name) o h = absurd cc
+    none (Ignores line) o h = absurd cc
     none Unguarded o h = refl
     none Inherits o h = absurd cc
 
-guarded_same : (s : Status) (o : Found) → reads_unguarded s ≡ false → unless_unguarded s o ≡ o
+guarded_same : (s : Status) (o : Option Found) → reads_unguarded s ≡ false → unless_unguarded s o ≡ o
 guarded_same (Scans what name) o h = refl
+guarded_same (Ignores line) o h = refl
 guarded_same Unguarded o h = absurd cc
 guarded_same Inherits o h = refl
 
-pub first_found : (f : Frame) (fs : List Frame) (what : Scanned) (name : Name) → reads_unguarded (frame_status f) ≡ false → read_at (frame_status f) ≡ Some (what, name) →
-    found_in (f ∷ fs) ≡ Some (what, name, 0)
-first_found f fs what name h found = guarded_same (frame_status f) (innermost_found (f ∷ fs) 0) h ∙ read_here (frame_status f) 0 (innermost_found fs (0 + list_count f)) what name found
+pub first_found : (f : Frame) (fs : List Frame) (found : Found) → reads_unguarded (frame_status f) ≡ false → read_at (frame_status f) 0 ≡ Some found → found_in (f ∷ fs) ≡ Some found
+first_found f fs found h is = guarded_same (frame_status f) (innermost_found (f ∷ fs) 0) h ∙ read_here (frame_status f) 0 (innermost_found fs (0 + list_count f)) found is
 
-pub beneath_found : (f : Frame) (fs : List Frame) → reads_unguarded (frame_status f) ≡ false → read_at (frame_status f) ≡ None → found_in (f ∷ fs) ≡ innermost_found fs (list_count f)
+pub beneath_found : (f : Frame) (fs : List Frame) → reads_unguarded (frame_status f) ≡ false → read_at (frame_status f) 0 ≡ None → found_in (f ∷ fs) ≡ innermost_found fs (list_count f)
 beneath_found f fs h none =
     let count : 0 + list_count f ≡ list_count f = omega arith in
     guarded_same (frame_status f) (innermost_found (f ∷ fs) 0) h ∙ around (frame_status f) 0 (innermost_found fs (0 + list_count f)) none ∙

@@ -28,6 +28,7 @@ use Rattle.plain_readings.specs.Dimens as dimens
 use Rattle.plain_readings.specs.Glues as glues
 use Rattle.plain_readings.specs.Measures.{dimen_ask, dimen_value, glue_ask, glue_value}
 use Rattle.plain_readings.specs.Weights.{value_frame, act_frame, value_weight, act_weight, behind_weight, fetching_behind, ask_weight, IsNoted}
+use Rattle.conditionals.specs.declared.choice.Aim.{Aim}
 use Rattle.plain_readings.proofs.Weights.{effect_light, note_heavy, begins_light}
 use Rattle.scan_dimens.specs.Resumes as keyword
 use Rattle.scan_dimens.specs.declared.keyword.KeywordScan.{KeywordScan}
@@ -40,7 +41,7 @@ use Rattle.scan_numbers.specs.FactorResumes as factor
 use Rattle.scan_numbers.specs.declared.number.NumberScan.{NumberScan}
 use Rattle.scan_numbers.specs.declared.factor.FactorScan.{FactorScan}
 use Rattle.reading_frames.specs.Sees.{Lists, has_no_token}
-use Rattle.reading_frames.specs.Resumes.{resume, resume_command, resume_name, name_at, file_at, resume_build, build_at}
+use Rattle.reading_frames.specs.Resumes.{resume, resume_command, resume_name, name_at, file_at, skip_at, resume_build, build_at}
 use Rattle.reading_frames.specs.Stack.{asks_in, frames_of}
 use Rattle.reading_frames.specs.Weights.{frame_end, own_weight, asks_weight, innermost_weight, begun_weight, fed_weight, IsReported, IsEnd}
 use Rattle.reading_frames.specs.declared.ask.Opening.{Opening}
@@ -53,6 +54,8 @@ use Rattle.reading_frames.specs.declared.command.CommandScan.TheVariants as comm
 use Rattle.reading_frames.specs.declared.spelling.SpellPlace.{SpellPlace}
 use Rattle.reading_frames.specs.declared.spelling.SpellPlace.TheVariants as spell
 use Rattle.reading_frames.specs.declared.spelling.SpellScan.{SpellScan}
+use Rattle.reading_frames.specs.declared.skip.SkipPlace.{SkipPlace}
+use Rattle.reading_frames.specs.declared.skip.SkipPlace.TheVariants as skip
 use Rattle.reading_frames.specs.declared.file_name.FilePlace.{FilePlace}
 use Rattle.reading_frames.specs.declared.file_name.FilePlace.TheVariants as file
 use Rattle.reading_frames.specs.declared.file_name.FileScan.{FileScan}
@@ -60,7 +63,7 @@ use Rattle.reading_frames.specs.declared.text.BuildPlace.{BuildPlace}
 use Rattle.reading_frames.specs.declared.text.BuildPlace.TheVariants as at
 use Rattle.reading_frames.specs.declared.text.BuildScan.{BuildScan}
 use Rattle.reading_frames.specs.declared.frame.Frame.{Frame}
-use Rattle.reading_frames.specs.declared.frame.Frame.TheVariants.{Command, Integer, Factor, Dimension, Glue, Keyword, Build, Spelling, FileName, Behind}
+use Rattle.reading_frames.specs.declared.frame.Frame.TheVariants.{Command, Integer, Factor, Dimension, Glue, Keyword, Build, Spelling, FileName, Behind, Skips}
 use Rattle.reading_frames.proofs.Rows.{told_holds, value_holds}
 use Rattle.reading_frames.proofs.Asking.{frame_asks}
 use Rattle.reading_frames.proofs.Keywords.{keyword_light, keyword_small, keyword_told, keyword_unfetched, keyword_unended}
@@ -210,6 +213,13 @@ file_light_at c file.Inside = omega arith
 file_light_at c (file.Whole back) = omega arith
 file_light_at c file.Stopped = omega arith
 
+-- skipped text
+
+skip_light_at : (c : Call) (aim : Aim) (p : SkipPlace) → ask_weight behind_weight (skip_at c aim p []) ≤ 61
+skip_light_at c aim (skip.Inside s) = omega arith
+skip_light_at c aim (skip.Whole e) = omega arith
+skip_light_at c aim skip.Stopped = omega arith
+
 -- ALL
 
 inner_light : (k : Kind) (begins : Bool) → ask_weight behind_weight (Inner k begins) ≤ 92
@@ -241,6 +251,7 @@ all_light (Build s) = omega (arith, build_at_light s.manner s.place [])
 all_light (Spelling s) = omega (arith, name_light_at s.call s.place)
 all_light (FileName s) = omega (arith, file_light_at s.call s.place)
 all_light (Behind c x) = omega arith
+all_light (Skips s) = omega (arith, skip_light_at s.call s.aim s.place)
 
 pub small : (fs : List Frame) → innermost_weight fs < act_frame + act_weight
 small [] = omega arith
@@ -421,6 +432,7 @@ frame_ends (Build s) h = absurd (build_unended (resume_build s [] []) h)
 frame_ends (Spelling s) h = refl
 frame_ends (FileName s) h = refl
 frame_ends (Behind c x) h = refl
+frame_ends (Skips s) h = refl
 
 -- a frame weighs more than nothing
 pub frame_heavy : (f : Frame) → value_frame ≤ own_weight f

@@ -5,7 +5,7 @@ use Rattle.reading_frames.specs.Resumes.{list_count}
 use Rattle.reading_frames.specs.Stack.{innermost_lists, innermost_count, lists_beneath}
 use Rattle.reading_frames.specs.Stands.{opened_lists}
 use Rattle.reading_frames.specs.declared.ask.Opening.{Opening}
-use Rattle.reading_frames.specs.declared.ask.Opening.TheVariants.{Reads, Spelling, FileName, Behind}
+use Rattle.reading_frames.specs.declared.ask.Opening.TheVariants.{Reads, Spelling, FileName, Behind, Skips}
 use Rattle.rows.specs.declared.words.Kind.TheVariants.{Command, Integer, Factor, Dimension, Glue, Keyword, Text, Definition}
 use Rattle.reading_frames.specs.declared.frame.Frame.{Frame}
 use Rattle.reading_frames.proofs.Held.{built_now}
@@ -29,6 +29,7 @@ opened_list (Reads (Dimension k)) held h = absurd (omega (arith, h))
 opened_list (Reads (Glue mu)) held h = absurd (omega (arith, h))
 opened_list (Reads (Keyword w)) held h = absurd (omega (arith, h))
 opened_list (Behind c x) held h = absurd (omega (arith, h))
+opened_list (Skips c aim line) held h = absurd (omega (arith, h))
 opened_list (Reads (Text name expanded)) held h = refl
 opened_list (Reads (Definition name expanded)) held h = refl
 opened_list (Spelling c) held h = refl

@@ -1,6 +1,5 @@
 -- What a frame will answer on what is still to come, and the list that it will have built.
 use Rattle.std.specs.Prelude.{ℕ, ◌≡◌, ◌+◌, Bool, true, false, not, List, [], ◌∷◌, ◌++◌, drop, Option, Some, None}
-use Rattle.tex_defs.specs.declared.Name.{Name}
 use Rattle.tex_defs.specs.declared.Token.{Token}
 use Rattle.tex_syntax.specs.declared.words.Scanned.{Scanned}
 use Rattle.tex_syntax.specs.declared.words.Scanned.TheVariants as scanned
@@ -9,19 +8,21 @@ use Rattle.tex_syntax.specs.declared.words.Want.TheVariants.{Expanded, Nonblank}
 use Rattle.plain_state.specs.Definitions as build
 use Rattle.list_builder.specs.Stages as stages
 use Rattle.list_builder.specs.Stages.{cell_count}
+use Rattle.conditionals.specs.declared.choice.Aim.{Aim}
 use Rattle.rows.specs.declared.words.Value.{Value}
 use Rattle.rows.specs.declared.words.Value.TheVariants as value
 use Rattle.rows.specs.declared.command.Call.{Call}
-use Rattle.rows.specs.declared.command.Effect.TheVariants.{PutBack}
+use Rattle.rows.specs.declared.command.Effect.TheVariants.{PutBack, Reach}
 use Rattle.rows.specs.Readings.{Fed, Ask, Ends}
 use Rattle.rows.specs.Readings as reading
 use Rattle.row_frames.specs.Resumes as row
 use Rattle.rows.specs.Table.{reads_under_normal}
 use Rattle.plain_readings.specs.Readings.{kept_list}
-use Rattle.plain_readings.specs.Scanning.{Status, Scans, Unguarded, Inherits, command_status}
+use Rattle.plain_readings.specs.Scanning.{Status, Scans, Ignores, Unguarded, Inherits, command_status}
 use Rattle.plain_readings.specs.Lists.{build_fed, build_ask, built}
 use Rattle.plain_readings.specs.Spelling.{spelling, characters, endcsname_missing, makes}
 use Rattle.plain_readings.specs.FileNames.{file_naming, file_characters, opens}
+use Rattle.plain_readings.specs.Skips.{skipping}
 use Rattle.plain_readings.specs.Measures.{dimen_fed, dimen_ask, glue_fed, glue_ask}
 use Rattle.scan_numbers.specs.Resumes as number
 use Rattle.scan_numbers.specs.FactorResumes as factor
@@ -30,6 +31,8 @@ use Rattle.scan_dimens.specs.DimenResumes as dimen
 use Rattle.scan_glue.specs.GlueResumes as glue
 use Rattle.reading_frames.specs.declared.ask.Ask.{Ask as Answer}
 use Rattle.reading_frames.specs.declared.ask.Ask.TheVariants as answer
+use Rattle.reading_frames.specs.declared.ask.Found.{Found}
+use Rattle.reading_frames.specs.declared.ask.Found.TheVariants.{Builds, Skipped}
 use Rattle.reading_frames.specs.declared.ask.Grown.{Grown}
 use Rattle.reading_frames.specs.declared.command.CommandScan.{CommandScan}
 use Rattle.reading_frames.specs.declared.command.CommandScan.TheVariants as command
@@ -39,11 +42,14 @@ use Rattle.reading_frames.specs.declared.spelling.SpellScan.{SpellScan}
 use Rattle.reading_frames.specs.declared.file_name.FilePlace.{FilePlace}
 use Rattle.reading_frames.specs.declared.file_name.FilePlace.TheVariants as file
 use Rattle.reading_frames.specs.declared.file_name.FileScan.{FileScan}
+use Rattle.reading_frames.specs.declared.skip.SkipPlace.{SkipPlace}
+use Rattle.reading_frames.specs.declared.skip.SkipPlace.TheVariants as skip
+use Rattle.reading_frames.specs.declared.skip.SkipScan.{SkipScan}
 use Rattle.reading_frames.specs.declared.text.BuildPlace.{BuildPlace}
 use Rattle.reading_frames.specs.declared.text.BuildPlace.TheVariants as place
 use Rattle.reading_frames.specs.declared.text.BuildScan.{BuildScan}
 use Rattle.reading_frames.specs.declared.frame.Frame.{Frame}
-use Rattle.reading_frames.specs.declared.frame.Frame.TheVariants.{Command, Integer, Factor, Dimension, Glue, Keyword, Build, Spelling, FileName, Behind}
+use Rattle.reading_frames.specs.declared.frame.Frame.TheVariants.{Command, Integer, Factor, Dimension, Glue, Keyword, Build, Spelling, FileName, Behind, Skips}
 use Rattle.reading_frames.specs.Sees.{Lists, top_list, kept_list_of}
 
 -- A command, and the list with which it is to do something
@@ -133,6 +139,16 @@ file_list_at p list fed = list
 abbrev pub file_list : FileScan → List Token → List Fed → List Token
 file_list scan list fed = file_list_at scan.place list fed
 
+-- Text that is skipped, where so many of its conditionals are open
+
+abbrev pub skip_at : Call → Aim → SkipPlace → List Fed → Ask
+skip_at c aim (skip.Inside s) fed = skipping c aim s.depth fed
+skip_at c aim (skip.Whole e) fed = reading.Acts c (Reach aim e)
+skip_at c aim skip.Stopped fed = Ends
+
+abbrev pub resume_skip : SkipScan → List Fed → Ask
+resume_skip scan fed = skip_at scan.call scan.aim scan.place fed
+
 -- A list that is built, as far as this
 
 abbrev pub build_at : Manner → BuildPlace → List Token → List Fed → build.Answer
@@ -165,6 +181,7 @@ resume (Build scan) held fed = build_ask (resume_build scan (top_list held) fed)
 resume (Spelling scan) held fed = resume_name scan (top_list held) fed
 resume (FileName scan) held fed = resume_file scan (top_list held) fed
 resume (Behind c x) held fed = reading.Acts c (PutBack x)
+resume (Skips scan) held fed = resume_skip scan fed
 
 -- the lists that it will have built then
 abbrev pub building : Frame → Lists → List Fed → Lists
@@ -178,6 +195,7 @@ building (Build scan) held fed = built (resume_build scan (top_list held) fed) �
 building (Spelling scan) held fed = name_list scan (top_list held) fed ∷ []
 building (FileName scan) held fed = file_list scan (top_list held) fed ∷ []
 building (Behind c x) held fed = []
+building (Skips scan) held fed = []
 
 -- how many lists of its own are held now
 abbrev pub list_count : Frame → ℕ
@@ -209,12 +227,14 @@ built_as false = scanned.Text
 abbrev pub frame_status : Frame → Status
 frame_status (Command scan head) = command_status (reads_under_normal head)
 frame_status (Build scan) = Scans (built_as scan.defines) scan.manner.name
+frame_status (Skips scan) = Ignores scan.line
 frame_status f = Inherits
 
--- what is read at a check, and its name, where a reading is of this status; and whether it reads its token under normal status
-abbrev pub read_at : Status → Option (Scanned × Name)
-read_at (Scans what name) = Some (what, name)
-read_at s = None
+-- what is read at a check, where a reading is of this status and its list has this number; and whether it reads its token under normal status
+abbrev pub read_at : Status → (number : ℕ) → Option Found
+read_at (Scans what name) n = Some (Builds what name n)
+read_at (Ignores line) n = Some (Skipped line)
+read_at s n = None
 
 abbrev pub reads_unguarded : Status → Bool
 reads_unguarded Unguarded = true

@@ -7,7 +7,7 @@ use Rattle.rows.specs.Readings as reading
 use Rattle.plain_readings.specs.Readings.{Kind}
 use Rattle.plain_readings.specs.Readings as kind
 use Rattle.reading_frames.specs.declared.ask.Opening.{Opening}
-use Rattle.reading_frames.specs.declared.ask.Opening.TheVariants.{Reads, Spelling, FileName, Behind}
+use Rattle.reading_frames.specs.declared.ask.Opening.TheVariants.{Reads, Spelling, FileName, Behind, Skips}
 use Rattle.reading_frames.specs.declared.ask.Ask.{Ask}
 use Rattle.reading_frames.specs.declared.ask.Ask.TheVariants.{More, Inner, Done, Acts, ActsOn, Defines, Ends, Tells, Inserts, Puts, Relaxes, Magnifies, Fetches}
 use Rattle.reading_frames.specs.declared.ask.Grown.{Grown}
@@ -47,6 +47,7 @@ kind_of (Reads k) = kind.Reads k
 kind_of (Spelling c) = kind.Spelling c
 kind_of (FileName c) = kind.FileName c
 kind_of (Behind c x) = kind.Behind c x
+kind_of (Skips c aim line) = kind.Skips c aim line
 
 abbrev pub ask_of : Lists → Ask → reading.Ask
 ask_of held (More want) = reading.More want

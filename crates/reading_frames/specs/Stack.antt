@@ -1,20 +1,21 @@
 -- The stack of all open readings, the innermost first.
 use Rattle.std.specs.Prelude.{◌≡◌, ℕ, ◌+◌, ◌≤◌, ◌<◌, ◌^◌, List, [], ◌∷◌, Option, Some, None, length, drop}
 use Rattle.tex_defs.specs.declared.Full.{Full}
-use Rattle.tex_defs.specs.declared.Name.{Name}
 use Rattle.tex_defs.specs.declared.Table.TheVariants.{ExpansionDepth}
 use Rattle.tex_defs.specs.declared.Token.{Token}
-use Rattle.tex_syntax.specs.declared.words.Scanned.{Scanned}
 use Rattle.tex_syntax.specs.declared.words.Want.TheVariants.{Copied}
 use Rattle.plain_tokens.specs.Puts.{grow_first}
 use Rattle.rows.specs.Readings as reading
 use Rattle.rows.specs.Readings.{Fed, More, Entered}
 use Rattle.plain_readings.specs.Readings.{Reading, ask, fed_with}
-use Rattle.plain_readings.specs.Scanning.{Status, Scans, Unguarded, Scanning}
+use Rattle.plain_readings.specs.Scanning.{Status, Scans, Ignores, Unguarded, Scanning}
+use Rattle.plain_readings.specs.Scanning as machine
 use Rattle.reading_frames.specs.Sees.{Lists, top_list, ask_of}
 use Rattle.reading_frames.specs.Resumes.{resume, building, list_count, frame_status, groups}
 use Rattle.reading_frames.specs.Stands.{FramesStand, AreShallow}
 use Rattle.reading_frames.specs.declared.ask.Ask.{Ask}
+use Rattle.reading_frames.specs.declared.ask.Found.{Found}
+use Rattle.reading_frames.specs.declared.ask.Found.TheVariants.{Builds, Skipped}
 use Rattle.reading_frames.specs.declared.frame.Frame.{Frame}
 
 pub record Stack : Type 0 where
@@ -81,30 +82,30 @@ abbrev pub with_innermost : Option Frame → List Frame → List Frame
 with_innermost None fs = fs
 with_innermost (Some f) fs = in_place f fs
 
--- WHAT IS READ AT A CHECK: this, under its name; its list is the one of this number among those that are held, the innermost being number 0.
-abbrev pub Found : Type 0
-Found = Option (Scanned × Name × ℕ)
-
-abbrev pub found_at : Status → ℕ → (around : Found) → Found
-found_at (Scans what name) n around = Some (what, name, n)
+-- WHAT IS READ AT A CHECK. What is read itself has the list of this number among those that are held, the innermost being number 0.
+abbrev pub found_at : Status → ℕ → (around : Option Found) → Option Found
+found_at (Scans what name) n around = Some (Builds what name n)
+found_at (Ignores line) n around = Some (Skipped line)
 found_at s n around = around
 
 -- the innermost of these, over so many lists of those within
-abbrev pub innermost_found : List Frame → ℕ → Found
+abbrev pub innermost_found : List Frame → ℕ → Option Found
 innermost_found [] n = None
 innermost_found (f ∷ fs) n = found_at (frame_status f) n (innermost_found fs (n + list_count f))
 
-abbrev pub unless_unguarded : Status → Found → Found
+abbrev pub unless_unguarded : Status → Option Found → Option Found
 unless_unguarded Unguarded o = None
 unless_unguarded s o = o
 
-abbrev pub found_in : List Frame → Found
+abbrev pub found_in : List Frame → Option Found
 found_in [] = None
 found_in (f ∷ fs) = unless_unguarded (frame_status f) (innermost_found (f ∷ fs) 0)
 
-abbrev pub scanning_of : Lists → Found → Option Scanning
+-- over the lists that are held
+abbrev pub scanning_of : Lists → Option Found → Option Scanning
 scanning_of held None = None
-scanning_of held (Some found) = Some (record { what = found.0; name = found.1; list = top_list (drop found.2 held) })
+scanning_of held (Some (Builds what name n)) = Some (machine.Builds what name (top_list (drop n held)))
+scanning_of held (Some (Skipped line)) = Some (machine.Skipped line)
 
 -- A TOKEN OF A LIST enters an expanded text as it stands: the innermost frame, which asks for a token that is copied, stands as it is for its reading
 -- that is fed with that token too, whose list has it, and asks for another so.

@@ -7,7 +7,7 @@ use Rattle.plain_readings.specs.Scanning.{status}
 use Rattle.reading_frames.specs.Sees.{Lists, top_list}
 use Rattle.reading_frames.specs.Resumes.{resume, building, list_count, below, frame_status, groups}
 use Rattle.reading_frames.specs.declared.ask.Opening.{Opening}
-use Rattle.reading_frames.specs.declared.ask.Opening.TheVariants.{Reads, Behind}
+use Rattle.reading_frames.specs.declared.ask.Opening.TheVariants.{Reads, Behind, Skips}
 use Rattle.reading_frames.specs.declared.frame.Frame.{Frame}
 
 -- not the arguments of a call
@@ -44,6 +44,7 @@ opened_lists (Reads (Dimension k)) held = held
 opened_lists (Reads (Glue mu)) held = held
 opened_lists (Reads (Keyword w)) held = held
 opened_lists (Behind c x) held = held
+opened_lists (Skips c aim line) held = held
 opened_lists o held = [] ∷ held
 
 -- A reading begins: over the lists as they become, its frame answers what the reading does that was fed with nothing.

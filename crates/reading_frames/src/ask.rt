@@ -1,10 +1,12 @@
-// What may be opened, what an open reading asks for, and what goes onto its list.
+// What may be opened, what an open reading asks for, what goes onto its list, and what is read at a check.
+use conditionals::Aim;
 use equivalents::Loc;
 use rows::{Call, Effect, Kind, Value};
 use tex_defs::{Name, Seen, Token};
-use tex_syntax::{Report, Want};
+use tex_syntax::{Report, Scanned, Want};
 
-/// What may be opened: a reading that a command is or begins, `\csname`, `\input`, or the token that waits behind one that is expanded.
+/// What may be opened: a reading that a command is or begins, `\csname`, `\input`, the token that waits behind one that is expanded, or text
+/// that is skipped.
 #[derive(Clone, Copy)]
 pub enum Opening {
     Reads(Kind),
@@ -12,6 +14,8 @@ pub enum Opening {
     FileName(Call),
     /// The command is `\expandafter`.
     Behind(Call, Seen),
+    /// The command is a conditional, which seeks this, from this line on, counted from 1.
+    Skips(Call, Aim, u64),
 }
 
 /// What an open reading asks for. Where a list is spoken of, it is the one on top, if it is listed, and else the list of no token.
@@ -50,6 +54,15 @@ pub enum Ask {
 pub struct Grown {
     pub first: Option<Token>,
     pub second: Option<Token>,
+}
+
+/// What is read where a file ends or the name of an `\outer` macro comes.
+#[derive(Clone, Copy)]
+pub enum Found {
+    /// This, under its name, with the number of its list among those that are held, the innermost being number 0.
+    Builds(Scanned, Name, u32),
+    /// Text is skipped, from this line on, counted from 1.
+    Skipped(u64),
 }
 
 impl Grown {

@@ -16,9 +16,10 @@ ghost use Rattle.scan_dimens.specs.Sees as keywords;
 ghost use Rattle.scan_dimens.specs.DimenSees as dimens;
 ghost use Rattle.scan_glue.specs.GlueSees as glues;
 
-use crate::ask::{Ask, Grown, Opening};
+use crate::ask::{Ask, Found, Grown, Opening};
 use crate::command::CommandScan;
 use crate::file_name::FileScan;
+use crate::skip::SkipScan;
 use crate::spelling::SpellScan;
 use crate::text::BuildScan;
 use equivalents::Val as StoredValue;
@@ -27,8 +28,7 @@ use rows::{Call, Datum, Effect, Head, Kind, Value};
 use scan_dimens::{DimenAsk, DimenScan, KeywordAsk, KeywordScan};
 use scan_glue::{GlueAsk, GlueScan};
 use scan_numbers::{FactorAsk, FactorScan, NumberScan};
-use tex_defs::{Name, Seen};
-use tex_syntax::Scanned;
+use tex_defs::Seen;
 
 /// An open reading.
 #[derive(Clone, Copy)]
@@ -50,6 +50,8 @@ pub enum Frame {
     FileName(FileScan),
     /// A token that waits behind one that is expanded, and is put back then.
     Behind(Call, Seen),
+    /// Text that a conditional skips.
+    Skips(SkipScan),
 }
 
 // What an integer's scanner asks for.
@@ -177,6 +179,7 @@ impl Frame {
             Opening::Spelling(call) => Frame::Spelling(SpellScan::new(call)),
             Opening::FileName(call) => Frame::FileName(FileScan::new(call)),
             Opening::Behind(call, x) => Frame::Behind(call, x),
+            Opening::Skips(call, aim, line) => Frame::Skips(SkipScan::new(call, aim, line)),
         }
     }
 
@@ -197,6 +200,7 @@ impl Frame {
             Frame::Spelling(scan) => scan.ask(),
             Frame::FileName(scan) => scan.ask(),
             Frame::Behind(call, x) => Ask::Acts(*call, Effect::PutBack(*x)),
+            Frame::Skips(scan) => scan.ask(),
         }
     }
 
@@ -244,6 +248,10 @@ impl Frame {
             Frame::Build(scan) => scan.feed(x),
             Frame::Spelling(scan) => scan.feed(x),
             Frame::FileName(scan) => scan.feed(x),
+            Frame::Skips(scan) => {
+                scan.feed(x);
+                Grown::none()
+            }
             Frame::Behind(..) => Grown::none(),
         }
     }
@@ -293,6 +301,10 @@ impl Frame {
                 Grown::none()
             }
             Frame::FileName(scan) => {
+                scan.stop();
+                Grown::none()
+            }
+            Frame::Skips(scan) => {
                 scan.stop();
                 Grown::none()
             }
@@ -346,6 +358,10 @@ impl Frame {
                 scan.stop();
                 false
             }
+            Frame::Skips(scan) => {
+                scan.stop();
+                false
+            }
             Frame::Build(_) | Frame::Behind(..) => false,
         }
     }
@@ -370,6 +386,7 @@ impl Frame {
             Frame::Keyword(scan) => scan.stop(),
             Frame::Spelling(scan) => scan.stop(),
             Frame::FileName(scan) => scan.stop(),
+            Frame::Skips(scan) => scan.stop(),
             Frame::Build(_) | Frame::Behind(..) => {}
         }
     }
@@ -393,16 +410,17 @@ impl Frame {
             Frame::Command(scan, _) => { if scan.is_listed() { 1 } else { 0 } }
             Frame::Build(_) | Frame::Spelling(_) | Frame::FileName(_) => 1,
             Frame::Integer(_) | Frame::Factor(_) | Frame::Dimension(_) | Frame::Glue(_) => 0,
-            Frame::Keyword(_) | Frame::Behind(..) => 0,
+            Frame::Keyword(_) | Frame::Behind(..) | Frame::Skips(_) => 0,
         }
     }
 
-    /// What is read here at a check, and its name.
-    pub fn scanned(&self) -> Option<(Scanned, Name)>
-        ensures { result ≡ read_at (frame_status self.now) }
+    /// What is read here at a check; the list that it builds has this number.
+    pub fn scanned(&self, number: u32) -> Option<Found>
+        ensures { result ≡ read_at (frame_status self.now) number }
     {
         match self {
-            Frame::Build(scan) => Some((scan.what(), scan.manner.name)),
+            Frame::Build(scan) => Some(Found::Builds(scan.what(), scan.manner.name, number)),
+            Frame::Skips(scan) => Some(Found::Skipped(scan.line)),
             _ => None,
         }
     }

@@ -10,10 +10,11 @@ mod file_name;
 mod frame;
 mod laws;
 mod readings;
+mod skip;
 mod spelling;
 mod text;
 
-pub use ask::{Ask, Grown, Opening};
+pub use ask::{Ask, Found, Grown, Opening};
 pub use command::CommandScan;
 pub use file_name::{FilePlace, FileScan};
 pub use frame::Frame;
@@ -22,5 +23,6 @@ pub use laws::{
     rules_are_light, tokens_enter, weights_are_small,
 };
 pub use readings::Readings;
+pub use skip::{SkipPlace, SkipScan};
 pub use spelling::{SpellPlace, SpellScan};
 pub use text::{BuildPlace, BuildScan};

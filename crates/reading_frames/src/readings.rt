@@ -13,14 +13,14 @@ ghost use Rattle.reading_frames.specs.Stands.{FramesStand, AreShallow, opened_li
 ghost use Rattle.reading_frames.specs.Stack.{Stack, AsksCopied, depth_full, asks_in, asked_in, asked_of, innermost_groups, innermost_count, innermost_lists, innermost_of, with_innermost, lists_beneath, found_in, innermost_found, scanning_of};
 ghost use Rattle.reading_frames.specs.Weights.{frames_weight, opening_frame, opening_end, innermost_weight, innermost_end, innermost_fed, innermost_puts, begun_weight, begun_with_weight, IsReported};
 
-use crate::ask::{Ask, Grown, Opening};
+use crate::ask::{Ask, Found, Grown, Opening};
 use crate::frame::Frame;
 use equivalents::Val as StoredValue;
 use rows::Value;
 use std::alloc::{AllocError, Global};
 use std::marker::Model;
-use tex_defs::{Full, Name, Seen, Table};
-use tex_syntax::{Scanned, Want};
+use tex_defs::{Full, Seen, Table};
+use tex_syntax::Want;
 
 /// All open readings, the innermost apart, and room for as many as the expansion depth.
 ///
@@ -45,16 +45,16 @@ impl Model for Readings {
 }
 
 /// What is being read in the innermost of these, the outermost first, that is read at a check; so many lists are held within.
-#[tactic(auto, using(crate::proofs::Scanning::passes, crate::proofs::Scanning::finds, crate::proofs::Scanning::taken_all))]
-fn scanned_among(frames: &[Frame], within: u32) -> Option<(Scanned, Name, u32)>
+#[tactic(auto, using(crate::proofs::Scanning::passes, crate::proofs::Scanning::taken_all))]
+fn scanned_among(frames: &[Frame], within: u32) -> Option<Found>
     requires { within + length frames.now < 2 ^ 32 }
     ensures { result ≡ innermost_found (reverse frames.now) within }
 {
     let mut number = within;
     for i in (0..frames.len()).rev() {
         let frame = &frames[i];
-        if let Some((what, name)) = frame.scanned() {
-            return Some((what, name, number));
+        if let Some(found) = frame.scanned(number) {
+            return Some(found);
         }
         number += frame.list_count();
     }
@@ -319,10 +319,9 @@ impl Readings {
         has_list
     }
 
-    /// What is being read where a file ends or the name of an `\outer` macro comes: what it is, its name, and the number of its list among
-    /// those that are held, the innermost being number 0.
-    #[tactic(auto, using(crate::proofs::Scanning::scans, crate::proofs::Scanning::unguarded_found, crate::proofs::Scanning::first_found, crate::proofs::Scanning::beneath_found))]
-    pub fn scanned(&self) -> Option<(Scanned, Name, u32)>
+    /// What is being read where a file ends or the name of an `\outer` macro comes: the innermost text or definition, or text that is skipped.
+    #[tactic(auto, using(crate::proofs::Scanning::scans, crate::proofs::Scanning::unguarded_found, crate::proofs::Scanning::beneath_found))]
+    pub fn scanned(&self) -> Option<Found>
         ensures is { result ≡ found_in self.now.frames }
         ensures scans { (held : Lists) (work : List Reading) → FramesStand self.now.frames held work → scanning work held ≡ scanning_of held result }
     {
@@ -332,8 +331,8 @@ impl Readings {
         if frame.is_unguarded() {
             return None;
         }
-        match frame.scanned() {
-            Some((what, name)) => Some((what, name, 0)),
+        match frame.scanned(0) {
+            Some(found) => Some(found),
             None => scanned_among(&self.beneath, frame.list_count()),
         }
     }
