@@ -4,7 +4,7 @@ use Rattle.std.specs.Prelude.{Option, Some, None, if◌then◌else◌, nat_lt, n
 use Rattle.std.specs.Ordering.{int_eq}
 use Rattle.tex_syntax.specs.declared.words.Report.{Report}
 use Rattle.tex_syntax.specs.declared.words.Scanned.{Scanned}
-use Rattle.tex_syntax.specs.declared.words.Report.TheVariants.{ArithmeticOverflow, InvalidCharacter, FileEnded, UndefinedName, ExtraEndcsname, TooManyBraces, ForgottenEndgroup, ExtraEndgroup, MissingRightBrace, IncompatibleMagnification, IllegalMagnification}
+use Rattle.tex_syntax.specs.declared.words.Report.TheVariants.{ArithmeticOverflow, InvalidCharacter, FileEnded, UndefinedName, ExtraEndcsname, TooManyBraces, ForgottenEndgroup, ExtraEndgroup, MissingRightBrace, IncompatibleMagnification, IllegalMagnification, ExtraFiOrElse, IncompleteConditional}
 use Rattle.tex_syntax.specs.declared.words.Outcome.{Outcome}
 use Rattle.tex_syntax.specs.declared.words.Outcome.TheVariants.{Finished, AtFatal}
 use Rattle.tex_syntax.specs.declared.words.Scanned.TheVariants as scanned
@@ -18,7 +18,7 @@ use Rattle.tex_defs.specs.declared.Meaning.TheVariants as means
 use Rattle.tex_defs.specs.declared.RegisterKind.{RegisterKind}
 use Rattle.tex_defs.specs.Places.{Transcript}
 use Rattle.tex_defs.specs.declared.Fatal.TheVariants.{NoFile, HundredErrors}
-use Rattle.plain_tokens.specs.Categories.{begin_group, end_group}
+use Rattle.plain_tokens.specs.Categories.{begin_group, end_group, is_between}
 use Rattle.plain_tokens.specs.Names.{name_of, relax_primitive, end_primitive}
 use Rattle.plain_tokens.specs.Tokens.{character_codes, is_undefined, made_text}
 use Rattle.plain_tokens.specs.Meanings.{name_meaning, meaning_to_let, seen_as}
@@ -28,7 +28,27 @@ use Rattle.plain_tokens.specs.LexLaws.{LeavesLess}
 use Rattle.plain_tokens.proofs.LexRests.{less}
 use Rattle.plain_tokens.specs.Puts.{Item, Put as PutList, passed, call_put, list_put}
 use Rattle.plain_tokens.specs.Pending.{Pending, Source, Progress, Begun as BegunFile, Closed as ClosedFile, beneath, from_begun, Pulled, TokenFrom, LexemeFrom, LineTaken, InvalidMet, FileOver, NothingLeft, settle, pulled, from_front, from_list, from_line, from_file}
-use Rattle.plain_tokens.specs.Arguments.{has_parameters}
+use Rattle.plain_tokens.specs.Arguments.{are_same, has_parameters}
+use Rattle.conditionals.specs.declared.choice.Aim.{Aim}
+use Rattle.conditionals.specs.declared.choice.Aim.TheVariants as aim
+use Rattle.conditionals.specs.declared.choice.Value.{Value as TestValue}
+use Rattle.conditionals.specs.declared.choice.Value.TheVariants.{Truth}
+use Rattle.conditionals.specs.declared.choice.End.TheVariants as ending
+use Rattle.conditionals.specs.declared.choice.Passing.{Passing}
+use Rattle.conditionals.specs.declared.choice.Passing.TheVariants as passing
+use Rattle.conditionals.specs.declared.choice.Step.{Step as EnderStep}
+use Rattle.conditionals.specs.declared.choice.Step.TheVariants as step
+use Rattle.conditionals.specs.declared.limits.Limit.{Limit}
+use Rattle.conditionals.specs.declared.limits.Met.{Met}
+use Rattle.conditionals.specs.declared.limits.Met.TheVariants as limited
+use Rattle.conditionals.specs.declared.open.Conditional.{Conditional}
+use Rattle.conditionals.specs.declared.skip.Ender.{Ender}
+use Rattle.conditionals.specs.declared.skip.Ender.TheVariants.{Fi, Else, Or}
+use Rattle.conditionals.specs.Choices as choices
+use Rattle.conditionals.specs.Limits as limits
+use Rattle.conditionals.specs.Open.{limit_of, innermost_test, above_sought, constant_test}
+use Rattle.conditionals.specs.Same.{same_meaning}
+use Rattle.plain_tokens.specs.Printed.{Style}
 use Rattle.save_stack.specs.declared.GroupKind.{GroupKind}
 use Rattle.save_stack.specs.declared.GroupKind.TheVariants.{Simple, SemiSimple}
 use Rattle.equivalents.specs.declared.values.Loc.{Loc}
@@ -52,13 +72,13 @@ use Rattle.rows.specs.Table.{has_row}
 use Rattle.rows.specs.Arithmetic.{value_computed}
 use Rattle.rows.specs.Internal.{value_text}
 use Rattle.rows.specs.Readings.{Fed, Val, Told, Cut, Entered as EntersText, Ask, More, Inner, Done, Acts, ActsOn, Defines, Ends as Closes, Calls, Fails, RunsAway, Tells, Inserts, Puts, Relaxes, Fetches, Magnifies}
-use Rattle.plain_readings.specs.Readings.{Kind, Reads, Spelling, FileName, Arguments, Behind, Reading, ask, lists, fed_with}
+use Rattle.plain_readings.specs.Readings.{Kind, Reads, Spelling, FileName, Arguments, Behind, Skips, Reading, ask, lists, fed_with}
 use Rattle.plain_readings.specs.Spelling.{endcsname_primitive}
-use Rattle.plain_readings.specs.Scanning.{Scanning, scanning}
+use Rattle.plain_readings.specs.Scanning.{Scanning, Builds, Skipped as Ignored, scanning}
 use Rattle.plain_readings.specs.Laws.{IsRead}
 use Rattle.plain_readings.specs.Weights.{frame_weight, value_frame, act_frame, value_weight, act_weight, end_weight, ask_weight, weight, IsNoted, IsLast, WeightsFall}
-use Rattle.plain_machine.specs.States.{State, Files, Move, Settled, Skipped, FileClosed, FileEnds, FileOpened, Spelt, NameInProgress, Entered, Kept as KeptBytes, Grows, Feeds, Completed, Opened, ListBegun, ListGrown, Put, ListDropped, Called, Set, Assigned, Defined, ListSet, GroupOpened, GroupClosed, KeptForGroup, KeptForAssignment, MagnificationSet, Written, Begun, Ended, Closed, Reported, Flawed, Stopped, Handed, made}
-use Rattle.plain_machine.specs.Plan.{Page, page_of, style_of, plan, ruled, planned, answered, handed, checked, at_line, check_noted, inserted_at, away_text, ran_away, page_behind, reported, behind_report, reports_room, finish, groups_left, stomach, command, register, primitive, begingroup_primitive, endgroup_primitive, right_brace, put_each, group_ended, brace_met, endgroup_met, character, expansion, expanded, expanded_as, csname_primitive, jobname_primitive, input_primitive, endinput_primitive, input_met, frozen_relax, unless_found, input_begun, is_expandable_primitive, job_in, begun, call_of, called_meaning, put_body, body_put, token_line, wanted, enters_names, feeding, given_back, grown_to, first_list, noting, noting_kind, put_one, put_text, put_made, put_characters, put_inserted, arguments_put, called_with, failed, failed_away, inner_begun, done, value_tokens, told, and_closed, expanded_behind, marked, meaning_characters, shown, is_global, behind_assignment, assigned, kept_for_group, number_or_glue, computed_to, short_meaning, value_shown, standing_shown, list_number, tokens_entered, list_given, copies, is_copying, acts_above, list_set, macro_defined, newly_spelt, spelt, relax_if_undefined, name_made, entered, acts_on, acts_in, is_magnification, magnification_set, legal_or_not, compared}
+use Rattle.plain_machine.specs.States.{State, Files, Move, Settled, Skipped, FileClosed, FileEnds, FileOpened, Spelt, NameInProgress, Entered, Kept as KeptBytes, Grows, Feeds, Completed, Opened, ListBegun, ListGrown, Put, ListDropped, Called, Set, Assigned, Defined, ListSet, GroupOpened, GroupClosed, KeptForGroup, KeptForAssignment, MagnificationSet, ConditionOpened, LimitSet, ConditionClosed, Written, Begun, Ended, Closed, Reported, Flawed, Stopped, Handed, made}
+use Rattle.plain_machine.specs.Plan.{Page, page_of, style_of, plan, ruled, planned, answered, handed, checked, at_line, check_noted, inserted_at, away_text, ran_away, incomplete, frozen_fi, page_behind, reported, behind_report, reports_room, finish, groups_left, conditionals_left, stomach, command, register, primitive, begingroup_primitive, endgroup_primitive, right_brace, put_each, group_ended, brace_met, endgroup_met, character, expansion, expanded, expanded_as, csname_primitive, jobname_primitive, input_primitive, endinput_primitive, input_met, frozen_relax, first_conditional, fi_primitive, else_primitive, or_primitive, ender_number, skips, limited_or_skips, chosen, conditional_begun, ender_comes, ender_met, conditional_met, passed as passed_by, reached, unless_found, input_begun, is_expandable_primitive, job_in, begun, call_of, called_meaning, put_body, body_put, token_line, wanted, enters_names, feeding, given_back, grown_to, first_list, noting, noting_kind, put_one, put_text, put_made, put_characters, put_inserted, arguments_put, called_with, failed, failed_away, inner_begun, done, value_tokens, told, and_closed, expanded_behind, marked, meaning_characters, tokens_meant, shown, is_global, behind_assignment, assigned, kept_for_group, number_or_glue, computed_to, short_meaning, value_shown, standing_shown, list_number, tokens_entered, list_given, copies, is_copying, acts_above, list_set, macro_defined, newly_spelt, spelt, relax_if_undefined, name_made, entered, acts_on, acts_in, is_magnification, magnification_set, legal_or_not, compared}
 use Rattle.plain_machine.specs.Runs.{step_of, all_made}
 use Rattle.plain_machine.proofs.Falling.{enter}
 use Rattle.plain_machine.proofs.Settling.{pulled_settled}
@@ -170,6 +190,9 @@ is_plain GroupClosed = true
 is_plain (KeptForGroup t) = true
 is_plain (KeptForAssignment after) = true
 is_plain (MagnificationSet n) = true
+is_plain (ConditionOpened test line) = true
+is_plain (LimitSet l) = true
+is_plain ConditionClosed = true
 is_plain (Written p bs) = true
 is_plain Reported = true
 is_plain Flawed = true
@@ -220,6 +243,9 @@ kept GroupClosed s h = record { work = refl; stopped = refl; pending = refl }
 kept (KeptForGroup t) s h = record { work = refl; stopped = refl; pending = refl }
 kept (KeptForAssignment after) s h = record { work = refl; stopped = refl; pending = refl }
 kept (MagnificationSet n) s h = record { work = refl; stopped = refl; pending = refl }
+kept (ConditionOpened test line) s h = record { work = refl; stopped = refl; pending = refl }
+kept (LimitSet l) s h = record { work = refl; stopped = refl; pending = refl }
+kept ConditionClosed s h = record { work = refl; stopped = refl; pending = refl }
 kept (Written p bs) s h = record { work = refl; stopped = refl; pending = refl }
 kept Reported s h = record { work = refl; stopped = refl; pending = refl }
 kept Flawed s h = record { work = refl; stopped = refl; pending = refl }
@@ -315,6 +341,10 @@ plain_name page characters =
     (all_plain (relax_if_undefined page.now.meanings (spelt page.names characters)) (put_one (token.Named (spelt page.names characters)))
     (plain_relax page.now.meanings (spelt page.names characters)) (plain_one (token.Named (spelt page.names characters))))
 
+plain_left : (style : Style) (cs : List Conditional) → AllPlain (conditionals_left style cs)
+plain_left style [] = tt
+plain_left style (c ∷ cs) = (refl, plain_left style cs)
+
 plain_each : (ts : List Token) → AllPlain (put_each ts)
 plain_each [] = tt
 plain_each (t ∷ ts) = all_plain (put_one t) (put_each ts) (plain_one t) (plain_each ts)
@@ -378,15 +408,22 @@ module _ (falls : WeightsFall) (s : State) (q : Pending) (e : s.stopped ≡ None
   noted_below scanned.Definition v k = below v k
   noted_below scanned.Text v k = below v k
 
-  away_below : (page : Page) (report : Report) (what : Scanning) → Drops (state_weight s) (ran_away page report what []) u
-  away_below page report what =
-      drops_plain (state_weight s) u (Written Transcript (away_text page what) ∷ put_one (inserted_at what.what)) (reported (page_behind page (away_text page what)) report (check_noted what.what []))
-      (refl, plain_one (inserted_at what.what))
-      (λ v k. drops_report (state_weight s) v (page_behind page (away_text page what)) report (check_noted what.what []) (some_weight s e) (λ x l. noted_below what.what x (kept_on u v x k l)))
+  away_below : (page : Page) (report : Report) (what : Scanned) (list : List Token) → Drops (state_weight s) (ran_away page report what list []) u
+  away_below page report what list =
+      drops_plain (state_weight s) u (Written Transcript (away_text page what list) ∷ put_one (inserted_at what)) (reported (page_behind page (away_text page what list)) report (check_noted what []))
+      (refl, plain_one (inserted_at what))
+      (λ v k. drops_report (state_weight s) v (page_behind page (away_text page what list)) report (check_noted what []) (some_weight s e) (λ x l. noted_below what x (kept_on u v x k l)))
+
+  incomplete_below : (page : Page) (line : ℕ) → Drops (state_weight s) (incomplete page line []) u
+  incomplete_below page line =
+      let report : Report = IncompleteConditional (innermost_test page.conditionals) line in
+      drops_plain (state_weight s) u (put_one frozen_fi) (reported page report []) (plain_one frozen_fi)
+      (λ v k. drops_report (state_weight s) v page report [] (some_weight s e) (λ x l. below x (kept_on u v x k l)))
 
   check_below : (page : Page) (o : Option Scanning) → Drops (state_weight s) (checked page o) u
   check_below page None = below u (kept_none u)
-  check_below page (Some what) = away_below page (FileEnded what.what what.name) what
+  check_below page (Some (Builds what name list)) = away_below page (FileEnded what name) what list
+  check_below page (Some (Ignored line)) = incomplete_below page line
 
 module _ (falls : WeightsFall) (s : State) (enters : Bool) (o : Option Scanning) (onward : Seen → List Move) (e : s.stopped ≡ None) where
   -- the pull comes once the finished lists in front have gone
@@ -443,6 +480,11 @@ module _ (n : ℕ) (v : State) (e : v.stopped ≡ None) (less : state_weight v <
   drops_begun : (u : State) (j : Kind) → Kept v u → IsRead j → Drops n (Begun j ∷ []) u
   drops_begun u j k h = rw (k.stopped, k.work, e) (omega (arith, k.pending, more j h))
 
+  drops_begun_behind : (u : State) (j : Kind) (ms : List Move) → Kept v u → IsRead j → AllPlain ms → Drops n (Begun j ∷ ms) u
+  drops_begun_behind u j ms k h plain =
+      let t : State = made (Begun j) (record u { due = ms }) in
+      drops_all n t ms plain (λ x l. rw (l.stopped, l.work, k.stopped, k.work, e) (omega (arith, l.pending, k.pending, more j h)))
+
   -- a reading that begins, and ends behind moves that are plain
   drops_ended : (u : State) (j : Kind) (ms : List Move) → Kept v u → AllPlain ms → Drops n (Begun j ∷ (ms ++ Closed ∷ [])) u
   drops_ended u j ms k h =
@@ -467,28 +509,83 @@ module _ (n : ℕ) (v : State) (e : v.stopped ≡ None) (less : state_weight v <
   drops_input u true t c k = drops_stays u (put_one t ++ put_one frozen_relax) k (all_plain (put_one t) (put_one frozen_relax) (plain_one t) (plain_one frozen_relax))
   drops_input u false t c k = rw (k.stopped, k.work, e) (omega (arith, k.pending, more (FileName c) tt))
 
-  drops_expansion : (u : State) (page : Page) (t : Token) (number : ℕ) → Kept v u → Drops n (expansion page t number) u
-  drops_expansion u page t number k = by (number == csname_primitive) (number == jobname_primitive) (number == input_primitive) (number == endinput_primitive) where
-    by : (b c d f : Bool) →
+  drops_undefined : (u : State) (page : Page) (report : Report) → Kept v u → Drops n (reported page report []) u
+  drops_undefined u page report k = drops_report n u page report [] some (λ x l. stays x (kept_on v u x k l))
+
+  -- a conditional reads on, or skips text
+  drops_limited : (u : State) (page : Page) (c : Call) (a : Aim) (o : Option Limit) → Kept v u → Drops n (limited_or_skips page c a o) u
+  drops_limited u page c a None k = drops_begun u (Skips c a page.line) k tt
+  drops_limited u page c a (Some l) k = drops_stays u (LimitSet l ∷ []) k (refl, tt)
+
+  drops_chosen : (u : State) (page : Page) (c : Call) (value : TestValue) → Kept v u → Drops n (chosen page c value) u
+  drops_chosen u page c value k = drops_limited u page c (choices.aim value) (choices.start (choices.aim value)) k
+
+  drops_conditional_begun : (u : State) (page : Page) (c : Call) (number : ℕ) (o : Option Bool) → Kept v u → Drops n (conditional_begun page c number o) u
+  drops_conditional_begun u page c number None k = drops_begun_behind u (Reads (Row c)) (ConditionOpened number page.line ∷ []) k tt (refl, tt)
+  drops_conditional_begun u page c number (Some truth) k =
+      let behind : List Move = chosen page c (Truth truth) in
+      let x : State = made (Begun (Reads (Row c))) (record u { due = ConditionOpened number page.line ∷ Closed ∷ behind }) in
+      let y : State = made (ConditionOpened number page.line) (record x { due = Closed ∷ behind }) in
+      drops_chosen (made Closed (record y { due = behind })) page c (Truth truth) (record { work = k.work; stopped = k.stopped; pending = k.pending })
+
+  drops_ender : (u : State) (page : Page) (t : Token) (c : Call) (ender : Ender) (m : Met) → Kept v u → Drops n (ender_comes page t c ender m) u
+  drops_ender u page t c ender limited.RelaxBefore k = drops_stays u (put_one t ++ put_one frozen_relax) k (all_plain (put_one t) (put_one frozen_relax) (plain_one t) (plain_one frozen_relax))
+  drops_ender u page t c ender limited.Extra k = drops_undefined u page (ExtraFiOrElse (ender_number ender)) k
+  drops_ender u page t c ender limited.SkipsToFi k = drops_begun u (Skips c aim.Fi page.line) k tt
+  drops_ender u page t c ender limited.Closes k = drops_stays u (ConditionClosed ∷ []) k (refl, tt)
+
+  drops_conditional : (u : State) (page : Page) (t : Token) (c : Call) (number : ℕ) → Kept v u → Drops n (conditional_met page t c number) u
+  drops_conditional u page t c number k = by (number == fi_primitive) (number == else_primitive) (number == or_primitive) where
+    met : (ender : Ender) → Drops n (ender_met page t c ender) u
+    met ender = drops_ender u page t c ender (limits.met (limit_of page.conditionals) ender) k
+
+    by : (b d f : Bool) →
         Drops n (
-        if b then Begun (Spelling (call_of t (Primitive number))) ∷ []
-        else if c then begun t (Primitive number) ++ (put_characters (job_in page.strings) ++ Closed ∷ [])
-        else if d then input_met page t (call_of t (Primitive number))
-        else if f then FileEnds ∷ []
-        else begun t (Primitive number)
+        if b then ender_met page t c Fi
+        else if d then ender_met page t c Else
+        else if f then ender_met page t c Or
+        else conditional_begun page c number (constant_test number)
         ) u
-    by true c d f = drops_begun u (Spelling (call_of t (Primitive number))) k tt
-    by false true d f = drops_ended u (Reads (Row (call_of t (Primitive number)))) (put_characters (job_in page.strings)) k (plain_text (made_text (job_in page.strings)))
-    by false false true f = drops_input u page.naming t (call_of t (Primitive number)) k
-    by false false false true = drops_stays u (FileEnds ∷ []) k (refl, tt)
-    by false false false false = drops_begun u (Reads (Row (call_of t (Primitive number)))) k tt
+    by true d f = met Fi
+    by false true f = met Else
+    by false false true = met Or
+    by false false false = drops_conditional_begun u page c number (constant_test number) k
+
+  -- skipped text has ended, or goes on behind an ender
+  drops_passed : (u : State) (page : Page) (p : Passing) (c : Call) (a : Aim) → Kept v u → Drops n (passed_by page p (skips page c a)) u
+  drops_passed u page passing.Nothing c a k = drops_begun u (Skips c a page.line) k tt
+  drops_passed u page passing.ClosesAbove c a k =
+      drops_plain n u (ConditionClosed ∷ []) (skips page c a) (refl, tt) (λ x l. drops_begun x (Skips c a page.line) (kept_on v u x k l) tt)
+  drops_passed u page passing.ExtraOr c a k =
+      drops_report n u page (ExtraFiOrElse or_primitive) (skips page c a) some (λ x l. drops_begun x (Skips c a page.line) (kept_on v u x k l) tt)
+
+  drops_reached : (u : State) (page : Page) (c : Call) (s : EnderStep) → Kept v u → Drops n (reached page c s) u
+  drops_reached u page c (step.Skips p choice) k = drops_passed u page p c choice.aim k
+  drops_reached u page c (step.Ends (ending.Reads l)) k = drops_stays u (LimitSet l ∷ []) k (refl, tt)
+  drops_reached u page c (step.Ends ending.Closes) k = drops_stays u (ConditionClosed ∷ []) k (refl, tt)
+
+  drops_expansion : (u : State) (page : Page) (t : Token) (number : ℕ) → Kept v u → Drops n (expansion page t number) u
+  drops_expansion u page t number k =
+      by (number == csname_primitive) (number == jobname_primitive) (number == input_primitive) (number == endinput_primitive) (is_between first_conditional or_primitive number) where
+        by : (b c d f g : Bool) →
+            Drops n (
+            if b then Begun (Spelling (call_of t (Primitive number))) ∷ []
+            else if c then begun t (Primitive number) ++ (put_characters (job_in page.strings) ++ Closed ∷ [])
+            else if d then input_met page t (call_of t (Primitive number))
+            else if f then FileEnds ∷ []
+            else if g then conditional_met page t (call_of t (Primitive number)) number
+            else begun t (Primitive number)
+            ) u
+        by true c d f g = drops_begun u (Spelling (call_of t (Primitive number))) k tt
+        by false true d f g = drops_ended u (Reads (Row (call_of t (Primitive number)))) (put_characters (job_in page.strings)) k (plain_text (made_text (job_in page.strings)))
+        by false false true f g = drops_input u page.naming t (call_of t (Primitive number)) k
+        by false false false true g = drops_stays u (FileEnds ∷ []) k (refl, tt)
+        by false false false false true = drops_conditional u page t (call_of t (Primitive number)) number k
+        by false false false false false = drops_begun u (Reads (Row (call_of t (Primitive number)))) k tt
 
   drops_unless : (u : State) (b : Bool) (page : Page) (t : Token) (number : ℕ) (ms : List Move) → Kept v u → Drops n ms u → Drops n (if b then expansion page t number else ms) u
   drops_unless u true page t number ms k d = drops_expansion u page t number k
   drops_unless u false page t number ms k d = d
-
-  drops_undefined : (u : State) (page : Page) (report : Report) → Kept v u → Drops n (reported page report []) u
-  drops_undefined u page report k = drops_report n u page report [] some (λ x l. stays x (kept_on v u x k l))
 
   -- a token is expanded, or comes to moves that stay below
   drops_expanded : (u : State) (page : Page) (t : Token) (m : Meaning Unit) (ms : List Move) → Kept v u → Drops n ms u → Drops n (expanded_as page t m ms) u
@@ -530,7 +627,9 @@ module _ (n : ℕ) (v : State) (e : v.stopped ≡ None) (less : state_weight v <
             else token_line page (means.Prim number)
             ) u
         by true c d o g f = drops_begun u (Reads (Row (call_of t (Primitive number)))) k tt
-        by false true d o g f = halted_none n u (fresh_line page.in_line ++ groups_left page) Finished some
+        by false true d o g f =
+            drops_plain n u (Written Transcript (fresh_line page.in_line ++ groups_left page) ∷ conditionals_left (style_of page) page.conditionals) (Stopped Finished ∷ [])
+            (refl, plain_left (style_of page) page.conditionals) (λ x l. some)
         by false false true o g f = stays u k
         by false false false true g f = drops_stays u (GroupOpened SemiSimple ∷ []) k (refl, tt)
         by false false false false true f = drops_endgroup u page t page.group k
@@ -616,18 +715,42 @@ module _ (falls : WeightsFall) (s : State) (k : Kind) (fed : List Fed) (rs : Lis
     falls_failed : (page : Page) (report : Report) (u : State) → Kept s u → Drops (state_weight s) (failed page report) u
     falls_failed page report u h = drops_report (state_weight s) u page report (Closed ∷ []) (some_weight s e) (λ v l. falls_closed v (kept_on s u v h l))
 
+    rule_failed : (page : Page) (report : Report) → Rule s (put_one page.last.token ++ failed page report)
+    rule_failed page report = Falls (drops_plain (state_weight s) s (put_one page.last.token) (failed page report) (plain_one page.last.token) (λ u h. falls_failed page report u h))
+
     rule_away : (page : Page) (report : Report) (o : Option Scanning) → Rule s (failed_away page report o)
-    rule_away page report None = Falls (drops_plain (state_weight s) s (put_one page.last.token) (failed page report) (plain_one page.last.token) (λ u h. falls_failed page report u h))
-    rule_away page report (Some what) =
-        Falls (drops_plain (state_weight s) s (Written Transcript (away_text page what) ∷ put_one page.last.token) (failed (page_behind page (away_text page what)) report)
-        (refl, plain_one page.last.token) (λ u h. falls_failed (page_behind page (away_text page what)) report u h))
+    rule_away page report None = rule_failed page report
+    rule_away page report (Some (Ignored line)) = rule_failed page report
+    rule_away page report (Some (Builds what name list)) =
+        Falls (drops_plain (state_weight s) s (Written Transcript (away_text page what list) ∷ put_one page.last.token) (failed (page_behind page (away_text page what list)) report)
+        (refl, plain_one page.last.token) (λ u h. falls_failed (page_behind page (away_text page what list)) report u h))
+
+    -- behind its end
+    abbrev ended_before : List Move → State
+    ended_before ms = made Closed (record s { due = ms })
+
+    ended_lighter : (ms : List Move) → state_weight (ended_before ms) < state_weight s
+    ended_lighter ms = rw (e, w) (omega (arith, asked_least falls rs, heavy, framed))
+
+    ended_begins : (ms : List Move) (j : Kind) → IsRead j → 1 + (weight j [] + (frame_weight j + frames (ended_before ms).work)) + check_weight * pending_weight s.pending < state_weight s
+    ended_begins ms j h = rw (e, w) (omega (arith, heavy, framed, falls.begun_by_act j h, (falls.frames j).1))
 
     -- the command behind it is obeyed in its place
     rule_obeyed : (page : Page) (t : Token) (m : Meaning Unit) → Rule s (Closed ∷ command page t m)
     rule_obeyed page t m =
-        let v : State = made Closed (record s { due = command page t m }) in
-        Falls (drops_command (state_weight s) v e (rw (e, w) (omega (arith, asked_least falls rs, heavy, framed)))
-        (λ j h. rw (e, w) (omega (arith, heavy, framed, falls.begun_by_act j h, (falls.frames j).1))) v page t m (kept_none v))
+        let v : State = ended_before (command page t m) in
+        Falls (drops_command (state_weight s) v e (ended_lighter (command page t m)) (ended_begins (command page t m)) v page t m (kept_none v))
+
+    -- a conditional goes on by its test, or by the ender to which text was skipped
+    rule_chosen : (page : Page) (c : Call) (value : TestValue) → Rule s (Closed ∷ chosen page c value)
+    rule_chosen page c value =
+        let v : State = ended_before (chosen page c value) in
+        Falls (drops_chosen (state_weight s) v e (ended_lighter (chosen page c value)) (ended_begins (chosen page c value)) v page c value (kept_none v))
+
+    rule_reached : (page : Page) (c : Call) (x : EnderStep) → Rule s (Closed ∷ reached page c x)
+    rule_reached page c x =
+        let v : State = ended_before (reached page c x) in
+        Falls (drops_reached (state_weight s) v e (ended_lighter (reached page c x)) (ended_begins (reached page c x)) v page c x (kept_none v))
 
     rule_acts_on : (page : Page) (c : Call) (f : Effect) (ts : List Token) → Rule s (acts_on page c f ts)
     rule_acts_on page c effect.Message ts = rule_closed (Written Transcript (message_bytes (style_of page) page.in_line ts) ∷ []) (refl, tt)
@@ -708,6 +831,9 @@ module _ (falls : WeightsFall) (s : State) (k : Kind) (fed : List Fed) (rs : Lis
           by (effect.MakeMeaning x) is h a = rule_closed h a (put_characters (meaning_characters page x)) (plain_text (made_text (meaning_characters page x)))
           by (effect.MakeValue l) is h a =
               rule_closed h a (put_characters (value_text l (value_seen (get page.now l)))) (plain_text (made_text (value_text l (value_seen (get page.now l)))))
+          by (effect.Choose value) is h a = rule_chosen h a page c value
+          by (effect.Compare x y) is h a = rule_chosen h a page c (Truth (same_meaning x.meaning y.meaning (are_same (tokens_meant page x) (tokens_meant page y))))
+          by (effect.Reach aim ender) is h a = rule_reached h a page c (choices.step aim (above_sought aim page.conditionals) ender)
           by f is h a = rule_closed h a [] tt
 
   -- another reading begins

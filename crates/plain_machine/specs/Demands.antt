@@ -1,6 +1,6 @@
 -- What each move needs of the tables, and where it doesn't fit.
 use Rattle.std.specs.Prelude.{ℕ, ◌+◌, List, [], ◌∷◌, length, Option}
-use Rattle.tex_defs.specs.declared.Table.TheVariants.{ExpansionDepth}
+use Rattle.tex_defs.specs.declared.Table.TheVariants.{ExpansionDepth, ConditionStackSize}
 use Rattle.tex_defs.specs.declared.Full.{Full}
 use Rattle.tex_defs.specs.declared.Sizes.{Sizes}
 use Rattle.plain_tokens.specs.Puts.{next_item}
@@ -8,9 +8,10 @@ use Rattle.plain_tokens.specs.Pending.{all_puts}
 use Rattle.plain_tokens.specs.Tables.{Demand, held_words, lists_words, memory, level, opened_level, parameters, string, new_name, next_line, next_file, text_level, spelt_name, refused}
 use Rattle.equivalents.specs.Groups.{set_demands, name_demands, group_demands, token_demands}
 use Rattle.equivalents.specs.Holding.{lists_held, shared_words}
+use Rattle.conditionals.specs.declared.open.Conditional.{Conditional}
 use Rattle.rows.specs.Readings.{Tok}
 use Rattle.plain_readings.specs.Readings.{Reading, lists}
-use Rattle.plain_machine.specs.States.{Move, Handed, Taken, FirstTaken, FileOpened, Spelt, Entered, Kept, Grows, Opened, ListBegun, ListGrown, Put, Called, CalledWith, Set, Assigned, Defined, ListSet, GroupOpened, KeptForGroup, Begun, BegunWith, State}
+use Rattle.plain_machine.specs.States.{Move, Handed, Taken, FirstTaken, FileOpened, Spelt, Entered, Kept, Grows, Opened, ListBegun, ListGrown, Put, Called, CalledWith, Set, Assigned, Defined, ListSet, GroupOpened, KeptForGroup, ConditionOpened, Begun, BegunWith, State}
 
 -- the words of main memory that are used
 abbrev pub words : State → ℕ
@@ -19,6 +20,10 @@ words s = shared_words 0 (lists_held s.groups) (all_puts s.pending) s.macros + h
 -- one reading more
 abbrev pub depth : List Reading → Demand
 depth work = record { table = ExpansionDepth; used = length work; need = 1 }
+
+-- one conditional more
+abbrev pub condition : List Conditional → Demand
+condition cs = record { table = ConditionStackSize; used = length cs; need = 1 }
 
 -- What a move needs, in the order in which the tables are asked.
 abbrev pub demands : Move → State → List Demand
@@ -44,6 +49,7 @@ demands (Defined global name long outer ts) s = name_demands global s.groups nam
 demands (ListSet global l ts) s = set_demands global s.groups l
 demands (GroupOpened kind) s = group_demands s.groups
 demands (KeptForGroup t) s = token_demands s.groups
+demands (ConditionOpened test line) s = condition s.conditionals ∷ []
 demands m s = []
 
 -- Where a move doesn't fit: the table, what is used of it, and its size.

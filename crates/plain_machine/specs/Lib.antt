@@ -6,5 +6,6 @@ pub mod Bounded
 pub mod Does
 pub mod Extended
 pub mod Meaning
+pub mod Skips
 pub mod Numbers
 pub mod Rows

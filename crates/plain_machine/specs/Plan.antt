@@ -2,9 +2,9 @@
 use Rattle.std.specs.Prelude.{ℕ, zero, suc, ℤ, pos, negsuc, nat_abs, Bool, true, false, ◌==◌, ◌||◌, List, [], ◌∷◌, ◌++◌, length, map, drop, slice_index_or, nat_lt, if◌then◌else◌, Option, Some, None}
 use Rattle.std.specs.Ordering.{int_eq}
 use Rattle.tex_syntax.specs.declared.words.Want.{Want}
-use Rattle.tex_syntax.specs.declared.words.Want.TheVariants.{Raw, Expanded, Copied, Nonblank, Command}
+use Rattle.tex_syntax.specs.declared.words.Want.TheVariants.{Raw, Unentered, Expanded, Copied, Nonblank, Command}
 use Rattle.tex_syntax.specs.declared.words.Report.{Report}
-use Rattle.tex_syntax.specs.declared.words.Report.TheVariants.{ArithmeticOverflow, UndefinedName, InvalidCharacter, FileEnded, Forbidden, ExtraEndcsname, TooManyBraces, ForgottenEndgroup, ExtraEndgroup, MissingRightBrace, IncompatibleMagnification, IllegalMagnification}
+use Rattle.tex_syntax.specs.declared.words.Report.TheVariants.{ArithmeticOverflow, UndefinedName, InvalidCharacter, FileEnded, Forbidden, ExtraEndcsname, TooManyBraces, ForgottenEndgroup, ExtraEndgroup, MissingRightBrace, IncompatibleMagnification, IllegalMagnification, ExtraFiOrElse, IncompleteConditional}
 use Rattle.tex_syntax.specs.declared.words.Scanned.{Scanned}
 use Rattle.tex_syntax.specs.declared.words.Scanned.TheVariants as scanned
 use Rattle.tex_syntax.specs.declared.words.Outcome.{Outcome}
@@ -41,10 +41,30 @@ use Rattle.plain_tokens.specs.Printed.{Style, meaning_text, meaning_tokens}
 use Rattle.plain_tokens.specs.Numerals.{whole_number, roman}
 use Rattle.plain_tokens.specs.Lines.{first_line}
 use Rattle.plain_tokens.specs.Pending.{Pulled, TokenFrom, LexemeFrom, LineTaken, InvalidMet, FileOver, NothingLeft, bottom, pulled}
-use Rattle.plain_tokens.specs.Arguments.{has_parameters, arguments_in, work_in}
+use Rattle.plain_tokens.specs.Arguments.{has_parameters, arguments_in, work_in, are_same}
 use Rattle.plain_tokens.specs.Arguments as call
-use Rattle.plain_state.specs.Reports.{in_line_after, missing_file_bytes, fresh_line, end_in_group, report_bytes, error_message_bytes, shown_meaning_bytes, shown_value_bytes, string_text, hundred_line, emergency, no_end_line, no_file_line, token_line_bytes, runaway_bytes, message_bytes}
+use Rattle.plain_state.specs.Reports.{in_line_after, missing_file_bytes, fresh_line, end_in_group, end_in_conditional, report_bytes, error_message_bytes, shown_meaning_bytes, shown_value_bytes, string_text, hundred_line, emergency, no_end_line, no_file_line, token_line_bytes, runaway_bytes, message_bytes}
 use Rattle.command_words.specs.Words.{job_name, file_name}
+use Rattle.conditionals.specs.declared.choice.Aim.{Aim}
+use Rattle.conditionals.specs.declared.choice.Aim.TheVariants as aim
+use Rattle.conditionals.specs.declared.choice.Value.{Value as TestValue}
+use Rattle.conditionals.specs.declared.choice.Value.TheVariants.{Truth}
+use Rattle.conditionals.specs.declared.choice.End.{End}
+use Rattle.conditionals.specs.declared.choice.End.TheVariants as ending
+use Rattle.conditionals.specs.declared.choice.Passing.{Passing}
+use Rattle.conditionals.specs.declared.choice.Passing.TheVariants as passing
+use Rattle.conditionals.specs.declared.choice.Step.{Step}
+use Rattle.conditionals.specs.declared.choice.Step.TheVariants as step
+use Rattle.conditionals.specs.declared.limits.Limit.{Limit}
+use Rattle.conditionals.specs.declared.limits.Met.{Met}
+use Rattle.conditionals.specs.declared.limits.Met.TheVariants as limited
+use Rattle.conditionals.specs.declared.open.Conditional.{Conditional}
+use Rattle.conditionals.specs.declared.skip.Ender.{Ender}
+use Rattle.conditionals.specs.declared.skip.Ender.TheVariants.{Fi, Else, Or}
+use Rattle.conditionals.specs.Choices as choices
+use Rattle.conditionals.specs.Limits as limits
+use Rattle.conditionals.specs.Open.{limit_of, innermost_test, above_sought, constant_test}
+use Rattle.conditionals.specs.Same.{same_meaning}
 use Rattle.rows.specs.declared.words.Value.{Value}
 use Rattle.rows.specs.declared.words.Value.TheVariants as value
 use Rattle.rows.specs.declared.words.Kind.TheVariants.{Command as Row}
@@ -61,13 +81,13 @@ use Rattle.rows.specs.Internal.{value_text}
 use Rattle.rows.specs.Readings.{Fed, Tok, Told, Cut, Fetched, Entered, Ask, More, Inner, Done, Acts, ActsOn, Defines, Ends as Closes, Calls, Fails, RunsAway, Tells, Inserts, Puts, Relaxes, Fetches, Magnifies}
 use Rattle.plain_readings.specs.Calls.{gathered, par_token}
 use Rattle.plain_readings.specs.Spelling.{endcsname_primitive}
-use Rattle.plain_readings.specs.Readings.{Kind, Reads, Spelling, FileName, Arguments, Behind, Reading, ask, lists}
-use Rattle.plain_readings.specs.Scanning.{Scanning, scanning}
+use Rattle.plain_readings.specs.Readings.{Kind, Reads, Spelling, FileName, Arguments, Behind, Skips, Reading, ask, lists}
+use Rattle.plain_readings.specs.Scanning.{Scanning, Builds, Skipped as Ignored, scanning}
 use Rattle.equivalents.specs.Parameters.{integer_in, style_in}
-use Rattle.plain_machine.specs.States.{Move, Handed, Taken, FirstTaken, Settled, Skipped, FileClosed, FileEnds, FileOpened, Spelt, NameInProgress, Files, Entered, Kept, Grows, Feeds, Completed, Opened, ListBegun, ListGrown, Put, ListDropped, Called, CalledWith, Set, Assigned, Defined, ListSet, GroupOpened, GroupClosed, KeptForGroup, KeptForAssignment, MagnificationSet, Written, Begun, BegunWith, Ended, Closed, Reported, Flawed, Stopped, State, no_token, made}
+use Rattle.plain_machine.specs.States.{Move, Handed, Taken, FirstTaken, Settled, Skipped, FileClosed, FileEnds, FileOpened, Spelt, NameInProgress, Files, Entered, Kept, Grows, Feeds, Completed, Opened, ListBegun, ListGrown, Put, ListDropped, Called, CalledWith, Set, Assigned, Defined, ListSet, GroupOpened, GroupClosed, KeptForGroup, KeptForAssignment, MagnificationSet, ConditionOpened, LimitSet, ConditionClosed, Written, Begun, BegunWith, Ended, Closed, Reported, Flawed, Stopped, State, no_token, made}
 
 -- What the moves of a rule depend on: what stands at all locations, how many groups are open, the kind of the innermost and the tokens that come after it
--- (the last first), the token that comes behind the next assignment, the magnification that is set for good, the names entered, the job's name, the macros' lists, the token
+-- (the last first), the token that comes behind the next assignment, the magnification that is set for good, the open conditionals, the names entered, the job's name, the macros' lists, the token
 -- that a reading was fed with last, whether a file's name is being read, whether the transcript's column isn't 0, the number of the line that is read, the reports so far, and
 -- whether token lines are left out.
 pub record Page : Type 0 where
@@ -77,6 +97,7 @@ pub record Page : Type 0 where
   pub tokens : List Token
   pub after : Option Token
   pub mag_set : ℕ
+  pub conditionals : List Conditional
   pub names : List (List ℕ)
   pub strings : List (List ℕ)
   pub macros : List (List Token)
@@ -95,6 +116,7 @@ page_of s = record {
   tokens = tokens_after s.groups;
   after = s.after;
   mag_set = s.mag_set;
+  conditionals = s.conditionals;
   names = s.names;
   strings = s.strings;
   macros = s.macros;
@@ -114,9 +136,16 @@ style_of page = style_in page.now page.names
 abbrev pub groups_left : Page → List ℕ
 groups_left page = if page.depth == 0 then [] else end_in_group (style_of page) page.depth
 
+-- the line that says where it came, for each open conditional
+abbrev pub conditionals_left : Style → List Conditional → List Move
+conditionals_left style [] = []
+conditionals_left style (c ∷ cs) = Written Transcript (end_in_conditional style c.test c.line) ∷ conditionals_left style cs
+
 -- `\end`: the run ends on a fresh line
 abbrev pub finish : Page → List Move
-finish page = Written Transcript (fresh_line page.in_line ++ groups_left page) ∷ Stopped Finished ∷ []
+finish page =
+    Written Transcript (fresh_line page.in_line ++ groups_left page)
+    ∷ (conditionals_left (style_of page) page.conditionals ++ Stopped Finished ∷ [])
 
 -- nothing is left to be read
 abbrev pub no_end : Page → List Move
@@ -230,6 +259,60 @@ frozen_relax = token.Named (name.Frozen frozen.Relax)
 abbrev pub input_met : Page → Token → Call → List Move
 input_met page t c = if page.naming then put_one t ++ put_one frozen_relax else Begun (FileName c) ∷ NameInProgress true ∷ []
 
+-- CONDITIONALS
+
+-- text is skipped for a conditional that seeks this, from here on
+abbrev pub skips : Page → Call → Aim → List Move
+skips page c a = Begun (Skips c a page.line) ∷ []
+
+-- it reads on with this limit, or skips text
+abbrev pub limited_or_skips : Page → Call → Aim → Option Limit → List Move
+limited_or_skips page c a (Some l) = LimitSet l ∷ []
+limited_or_skips page c a None = skips page c a
+
+-- by the value of its test
+abbrev pub chosen : Page → Call → TestValue → List Move
+chosen page c v = limited_or_skips page c (choices.aim v) (choices.start (choices.aim v))
+
+-- One begins: a reading of what it tests, and the conditional, on this line. What reads nothing ends at once.
+abbrev pub conditional_begun : Page → Call → ℕ → Option Bool → List Move
+conditional_begun page c number None = Begun (Reads (Row c)) ∷ ConditionOpened number page.line ∷ []
+conditional_begun page c number (Some truth) = Begun (Reads (Row c)) ∷ ConditionOpened number page.line ∷ Closed ∷ chosen page c (Truth truth)
+
+abbrev pub first_conditional : ℕ
+first_conditional = 65
+
+abbrev pub fi_primitive : ℕ
+fi_primitive = 82
+
+abbrev pub else_primitive : ℕ
+else_primitive = 83
+
+abbrev pub or_primitive : ℕ
+or_primitive = 84
+
+abbrev pub ender_number : Ender → ℕ
+ender_number Fi = fi_primitive
+ender_number Else = else_primitive
+ender_number Or = or_primitive
+
+-- a `\fi`, an `\else` or an `\or` in text that is read, by how far the innermost conditional has come
+abbrev pub ender_comes : Page → Token → Call → Ender → Met → List Move
+ender_comes page t c e limited.RelaxBefore = put_one t ++ put_one frozen_relax
+ender_comes page t c e limited.Extra = reported page (ExtraFiOrElse (ender_number e)) []
+ender_comes page t c e limited.SkipsToFi = skips page c aim.Fi
+ender_comes page t c e limited.Closes = ConditionClosed ∷ []
+
+abbrev pub ender_met : Page → Token → Call → Ender → List Move
+ender_met page t c e = ender_comes page t c e (limits.met (limit_of page.conditionals) e)
+
+abbrev pub conditional_met : Page → Token → Call → ℕ → List Move
+conditional_met page t c number =
+    if number == fi_primitive then ender_met page t c Fi
+    else if number == else_primitive then ender_met page t c Else
+    else if number == or_primitive then ender_met page t c Or
+    else conditional_begun page c number (constant_test number)
+
 -- An expansion begins its reading, which `\jobname` ends at once; by `\endinput` the innermost file is to end.
 abbrev pub expansion : Page → Token → ℕ → List Move
 expansion page t number =
@@ -237,6 +320,7 @@ expansion page t number =
     else if number == jobname_primitive then begun t (Primitive number) ++ (put_characters (job_in page.strings) ++ Closed ∷ [])
     else if number == input_primitive then input_met page t (call_of t (Primitive number))
     else if number == endinput_primitive then FileEnds ∷ []
+    else if is_between first_conditional or_primitive number then conditional_met page t (call_of t (Primitive number)) number
     else begun t (Primitive number)
 
 -- GROUPS
@@ -374,6 +458,7 @@ noting r = noting_kind r.kind r.fed
 -- what is made of a token that a reading wants so, which is fed by these moves
 abbrev pub wanted : Page → Want → List Move → Seen → List Move
 wanted page Raw feeds x = feeds
+wanted page Unentered feeds x = feeds
 wanted page Expanded feeds x = expanded page x feeds
 wanted page Copied feeds x = expanded page x feeds
 wanted page Nonblank feeds x = if is_space x then [] else expanded page x feeds
@@ -400,24 +485,35 @@ at_line number page = record page { line = number }
 abbrev pub page_behind : Page → List ℕ → Page
 page_behind page text = record page { in_line = in_line_after page.in_line text }
 
-abbrev pub away_text : Page → Scanning → List ℕ
-away_text page s = runaway_bytes s.what (style_of page) page.in_line s.list
+abbrev pub away_text : Page → Scanned → (list : List Token) → List ℕ
+away_text page what list = runaway_bytes what (style_of page) page.in_line list
 
 -- The list so far is shown, `}` or `\par` inserted, and the report comes.
-abbrev pub ran_away : Page → Report → Scanning → List Move → List Move
-ran_away page report s rest =
-    Written Transcript (away_text page s)
-    ∷ (put_one (inserted_at s.what) ++ reported (page_behind page (away_text page s)) report (check_noted s.what rest))
+abbrev pub ran_away : Page → Report → Scanned → (list : List Token) → List Move → List Move
+ran_away page report what list rest =
+    Written Transcript (away_text page what list)
+    ∷ (put_one (inserted_at what) ++ reported (page_behind page (away_text page what list)) report (check_noted what rest))
+
+-- the frozen `\fi`, which no assignment changes
+abbrev pub frozen_fi : Token
+frozen_fi = token.Named (name.Frozen frozen.Fi)
+
+-- Text is skipped: a `\fi` is inserted, and the report comes, of the innermost conditional and the line where skipping began.
+abbrev pub incomplete : Page → (line : ℕ) → List Move → List Move
+incomplete page line rest = put_one frozen_fi ++ reported page (IncompleteConditional (innermost_test page.conditionals) line) rest
 
 -- the check where a file has ended while a reading goes on
 abbrev pub checked : Page → Option Scanning → List Move
 checked page None = []
-checked page (Some s) = ran_away page (FileEnded s.what s.name) s []
+checked page (Some (Builds what name list)) = ran_away page (FileEnded what name) what list []
+checked page (Some (Ignored line)) = incomplete page line []
 
 -- The name of an \outer macro is put back where a reading goes on, and a space takes its place.
 abbrev pub met_outer : Page → Option Scanning → Token → (onward : Seen → List Move) → List Move
 met_outer page None t onward = onward (met_token page.now.meanings t)
-met_outer page (Some s) t onward = put_one t ++ ran_away page (Forbidden s.what s.name) s (onward (met_token page.now.meanings space_token))
+met_outer page (Some (Builds what name list)) t onward =
+    put_one t ++ ran_away page (Forbidden what name) what list (onward (met_token page.now.meanings space_token))
+met_outer page (Some (Ignored line)) t onward = put_one t ++ incomplete page line (onward (met_token page.now.meanings space_token))
 
 abbrev pub met : Page → Option Scanning → (onward : Seen → List Move) → Seen → List Move
 met page s onward x = if is_outer x.meaning then met_outer page s x.token onward else onward x
@@ -490,10 +586,10 @@ failed page report = reported page report (Closed ∷ [])
 
 -- it ran away: the list so far is shown, the last token put back, and the report comes
 abbrev pub failed_away : Page → Report → Option Scanning → List Move
-failed_away page report None = put_one page.last.token ++ failed page report
-failed_away page report (Some s) =
-    Written Transcript (away_text page s)
-    ∷ (put_one page.last.token ++ failed (page_behind page (away_text page s)) report)
+failed_away page report (Some (Builds what name list)) =
+    Written Transcript (away_text page what list)
+    ∷ (put_one page.last.token ++ failed (page_behind page (away_text page what list)) report)
+failed_away page report s = put_one page.last.token ++ failed page report
 
 -- WHAT A COMMAND DOES, and its reading ends
 
@@ -580,6 +676,23 @@ short_meaning (shorthand.Character c) = means.CharGiven c
 short_meaning (shorthand.Math c) = means.MathGiven c
 short_meaning (shorthand.Register kind n) = means.Register kind n
 
+-- THE END OF SKIPPED TEXT
+
+-- an ender behind which more is skipped
+abbrev pub passed : Page → Passing → List Move → List Move
+passed page passing.Nothing rest = rest
+passed page passing.ClosesAbove rest = ConditionClosed ∷ rest
+passed page passing.ExtraOr rest = reported page (ExtraFiOrElse or_primitive) rest
+
+abbrev pub ended_by : End → List Move
+ended_by (ending.Reads l) = LimitSet l ∷ []
+ended_by ending.Closes = ConditionClosed ∷ []
+
+-- what the ender comes to to which text was skipped
+abbrev pub reached : Page → Call → Step → List Move
+reached page c (step.Skips p choice) = passed page p (skips page c choice.aim)
+reached page c (step.Ends how) = ended_by how
+
 abbrev pub acts : Page → Call → Effect → List Move
 acts page c (effect.Obey x) = Closed ∷ command page x.token x.meaning
 acts page c (effect.Show x) = and_closed (shown page x)
@@ -603,6 +716,9 @@ acts page c (effect.MakeRoman n) = and_closed (put_characters (roman n))
 acts page c (effect.MakeString x) = and_closed (put_characters (string_text (style_of page) x.token))
 acts page c (effect.MakeMeaning x) = and_closed (put_characters (meaning_characters page x))
 acts page c (effect.MakeValue l) = and_closed (put_characters (value_text l (value_seen (get page.now l))))
+acts page c (effect.Choose v) = Closed ∷ chosen page c v
+acts page c (effect.Compare x y) = Closed ∷ chosen page c (Truth (same_meaning x.meaning y.meaning (are_same (tokens_meant page x) (tokens_meant page y))))
+acts page c (effect.Reach a e) = Closed ∷ reached page c (choices.step a (above_sought a page.conditionals) e)
 acts page c e = Closed ∷ []
 
 -- THE LIST OF A LOCATION behind `\the`
@@ -782,12 +898,17 @@ job_due style file job = Kept (job_name file) ∷ file_missing style file job
 
 -- THE FIRST STATE
 
+-- a test that reads nothing
+abbrev pub is_constant : Option Bool → Bool
+is_constant None = false
+is_constant (Some truth) = true
+
 -- the primitives that mean something and are read by no row
 abbrev pub is_rowless : ℕ → Bool
 is_rowless number =
     (number == relax_primitive) || (number == begingroup_primitive) || (number == endgroup_primitive) || (number == endcsname_primitive)
     || (number == par_primitive) || (number == end_primitive) || (number == csname_primitive) || (number == jobname_primitive)
-    || (number == input_primitive) || (number == endinput_primitive)
+    || (number == input_primitive) || (number == endinput_primitive) || is_between fi_primitive or_primitive number || is_constant (constant_test number)
 
 -- the primitives that mean something
 abbrev pub is_known : ℕ → Bool
@@ -806,6 +927,7 @@ first_state groups quiet file job files = record {
   macros = [];
   after = None;
   mag_set = 0;
+  conditionals = [];
   last = no_token;
   work = [];
   gathered = [];

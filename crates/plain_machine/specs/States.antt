@@ -17,6 +17,10 @@ use Rattle.equivalents.specs.Groups.{Groups, entered, set, set_name, opened as g
 use Rattle.plain_tokens.specs.Puts.{Put as PutList, token_put, grow_first, grown_by, list_of_tokens}
 use Rattle.plain_tokens.specs.Pending.{Pending, pulled, after_pull, with_end, put_front, settle, with_next, with_begun, ending}
 use Rattle.plain_state.specs.Reports.{in_line_after}
+use Rattle.conditionals.specs.declared.limits.Limit.{Limit}
+use Rattle.conditionals.specs.declared.open.Conditional.{Conditional}
+use Rattle.conditionals.specs.Open.{with_limit}
+use Rattle.conditionals.specs.Open as conditional
 use Rattle.rows.specs.declared.words.Value.{Value}
 use Rattle.rows.specs.Readings.{Fed, Tok, Val}
 use Rattle.plain_readings.specs.Readings.{Kind, Reading, lists, fed_with, opened, opened_with}
@@ -73,6 +77,10 @@ pub data Move : Type 0 where
   KeptForAssignment : Option Token → Move
   -- the magnification is set for good: TeX's `mag_set`
   MagnificationSet : ℕ → Move
+  -- a conditional opened, which is this primitive, on this line; the innermost one whose test is under way given another limit; the innermost closed
+  ConditionOpened : (test line : ℕ) → Move
+  LimitSet : Limit → Move
+  ConditionClosed : Move
   Written : Place → List ℕ → Move
   -- a reading begun, and with it the lists that it builds; one begun with the token that the one beneath looked at
   Begun : Kind → Move
@@ -115,6 +123,8 @@ pub record State : Type 0 where
   pub after : Option Token
   -- the magnification that a check has set for good, or 0 before the first: TeX's `mag_set`
   pub mag_set : ℕ
+  -- the open conditionals, the innermost first
+  pub conditionals : List Conditional
   -- the token that a reading was fed with last
   pub last : Seen
   -- the open readings, innermost first, and the lists that they hold, the innermost reading's last list first
@@ -216,6 +226,9 @@ made GroupClosed s = record s { groups = group_closed s.groups }
 made (KeptForGroup t) s = record s { groups = with_token s.groups t }
 made (KeptForAssignment after) s = record s { after = after }
 made (MagnificationSet n) s = record s { mag_set = n }
+made (ConditionOpened test line) s = record s { conditionals = conditional.opened test line s.conditionals }
+made (LimitSet l) s = record s { conditionals = with_limit l s.conditionals }
+made ConditionClosed s = record s { conditionals = drop 1 s.conditionals }
 made (Written p bs) s = record s { in_line = column_after p s.in_line bs }
 made (Begun k) s = record s { work = opened k s.work; gathered = lists k [] ++ s.gathered }
 made (BegunWith k) s = record s { work = opened_with k (Tok s.last) s.work; gathered = lists k (Tok s.last ∷ []) ++ s.gathered }

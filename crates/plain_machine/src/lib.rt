@@ -7,12 +7,13 @@ ghost use Rattle.std.specs.Prelude.{codes, true, false, ◌++◌, ◌∷◌, [],
 ghost use Rattle.std.specs.List.{concat};
 ghost use Rattle.tex_syntax.specs.declared.words.Outcome.TheVariants.{Finished, AtFatal};
 ghost use Rattle.tex_defs.specs.declared.Fatal.TheVariants.{NoEnd, NoFile, HundredErrors};
-ghost use Rattle.tex_defs.specs.declared.Table.TheVariants.{PoolSize, NumberOfStrings, HashSize, MainMemorySize, SaveSize, InputStackSize, ParameterStackSize, TextInputLevels, BufferSize, GroupingLevels, ExpansionDepth};
+ghost use Rattle.tex_defs.specs.declared.Table.TheVariants.{PoolSize, NumberOfStrings, HashSize, MainMemorySize, SaveSize, InputStackSize, ParameterStackSize, TextInputLevels, BufferSize, GroupingLevels, ExpansionDepth, ConditionStackSize};
 ghost use Rattle.tex_defs.specs.Sizes.{default_sizes};
 ghost use Rattle.plain_machine.specs.Rows.{Writes, WritesAs, Counts, Runs as RunsSo, RunsBeside, FillsBeside, FitsBeside, Enters, Begins, RunsWithin, Fills, FillsWithin, Fits, RowsAreRuns, EndedRowsAreWhole, RefusalsAreRuns, first_line_usual};
 ghost use Rattle.plain_machine.specs.Numbers.{NumbersAreFree};
 ghost use Rattle.plain_machine.specs.Extended.{ExtensionIsFree};
 ghost use Rattle.plain_machine.specs.Runs.{RunsAreOne, EachHasRun, SumsOfSteps, LinesAreCounted};
+ghost use Rattle.plain_machine.specs.Skips.{SkippedTextsAreCounted};
 ghost use Rattle.plain_machine.specs.Bounded.{BoundedRunsAreOne, EachHasBounded, BoundedIsFront};
 
 /// Two runs of one state with one bound are equal: their moves, and the state to which they lead.
@@ -34,6 +35,12 @@ pub fn sums_of_steps()
 /// line that is taken, as long as the steps are fewer than 2^64: no run that short comes to where it stands still.
 pub fn lines_are_counted()
     ensures { LinesAreCounted }
+{}
+
+/// Each token of a skipped text was a step, and only the innermost reading skips text: within fewer than 2^64 steps of a job no skipped text
+/// has 2^64 - 1 tokens, so no count of the conditionals in one comes to where it stands still.
+pub fn skipped_texts_are_counted()
+    ensures { SkippedTextsAreCounted }
 {}
 
 /// Two runs of one state with one bound, within the same sizes, are equal and come to the same end.
@@ -908,4 +915,142 @@ pub fn worked_file_sizes()
     ensures two_lines_fit { FitsBeside (record default_sizes { buffer_size = 19 }) ((codes "b.tex", codes "abcd") ∷ []) (codes "\\input b \\end") }
     ensures two_lines_are_one_too_long { FillsBeside (record default_sizes { buffer_size = 19 }) ((codes "b.tex", codes "abcde") ∷ []) (codes "\\input b \\end") (record { table = BufferSize; used = 14; size = 19 }) }
     ensures name_is_one_too_long { FillsBeside (record default_sizes { buffer_size = 18 }) ((codes "b.tex", codes "") ∷ []) (codes "\\input b \\end") (record { table = BufferSize; used = 14; size = 18 }) }
+{}
+
+/// The machine run on small files with conditionals: their branches and cases, and those that are open at the end.
+pub fn worked_conditionals()
+    ensures branches { Writes (first_line_usual ++ codes "\\message{\\ifnum1<2 a\\else b\\fi\\ifcase2 x\\or y\\or z\\else w\\fi\\if aab\\fi}\\end\n") (codes "azb\n") Finished }
+    ensures steps_of_a_test { RunsSo (first_line_usual ++ codes "\\ifnum1<2 \\fi \\end\n") (codes "") 38 Finished }
+    ensures steps_of_a_case { RunsSo (first_line_usual ++ codes "\\ifcase2 a\\or b\\or c\\else d\\fi \\end\n") (codes "{the letter c}\n") 42 Finished }
+    ensures extra_fi { Writes (first_line_usual ++ codes "\\fi\\end\n") (codes "! Extra \\fi.\nl.2\n") Finished }
+    ensures extra_else { Writes (first_line_usual ++ codes "\\else\\end\n") (codes "! Extra \\else.\nl.2\n") Finished }
+    ensures extra_or { Writes (first_line_usual ++ codes "\\or\\end\n") (codes "! Extra \\or.\nl.2\n") Finished }
+    ensures other_branch { Writes (first_line_usual ++ codes "\\iffalse a\\else b\\fi c\\end\n") (codes "{the letter b}\n{the letter c}\n") Finished }
+    ensures inner_conditional_skipped { Writes (first_line_usual ++ codes "\\iffalse\\if\\fi x\\fi\\end\n") (codes "") Finished }
+    ensures inner_else_skipped { Writes (first_line_usual ++ codes "\\iffalse\\iftrue a\\else b\\fi c\\else d\\fi\\end\n") (codes "{the letter d}\n") Finished }
+    ensures else_skipped { Writes (first_line_usual ++ codes "\\iftrue a\\else\\iftrue b\\else c\\fi d\\fi e\\end\n") (codes "{the letter a}\n{the letter e}\n") Finished }
+    ensures further_else_skipped { Writes (first_line_usual ++ codes "\\iftrue a\\else b\\else c\\or d\\fi e\\end\n") (codes "{the letter a}\n{the letter e}\n") Finished }
+    ensures further_else_read { Writes (first_line_usual ++ codes "\\iffalse a\\else b\\else c\\fi\\end\n") (codes "{the letter b}\n! Extra \\else.\nl.2\n{the letter c}\n") Finished }
+    ensures or_of_a_false_test { Writes (first_line_usual ++ codes "\\iffalse a\\or b\\fi c\\end\n") (codes "! Extra \\or.\nl.2\n{the letter c}\n") Finished }
+    ensures or_of_a_true_test { Writes (first_line_usual ++ codes "\\iftrue a\\or b\\fi\\end\n") (codes "{the letter a}\n! Extra \\or.\nl.2\n{the letter b}\n") Finished }
+    ensures first_case { Writes (first_line_usual ++ codes "\\ifcase0 a\\or b\\or c\\fi d\\end\n") (codes "{the letter a}\n{the letter d}\n") Finished }
+    ensures last_case { Writes (first_line_usual ++ codes "\\ifcase2 a\\or b\\or c\\fi d\\end\n") (codes "{the letter c}\n{the letter d}\n") Finished }
+    ensures no_case { Writes (first_line_usual ++ codes "\\ifcase3 a\\or b\\or c\\fi d\\end\n") (codes "{the letter d}\n") Finished }
+    ensures other_case { Writes (first_line_usual ++ codes "\\ifcase9 a\\or b\\else c\\fi d\\end\n") (codes "{the letter c}\n{the letter d}\n") Finished }
+    ensures or_behind_the_other_case { Writes (first_line_usual ++ codes "\\ifcase9 a\\else b\\or c\\fi\\end\n") (codes "{the letter b}\n! Extra \\or.\nl.2\n{the letter c}\n") Finished }
+    ensures negative_case { Writes (first_line_usual ++ codes "\\ifcase-1 a\\else b\\fi\\end\n") (codes "{the letter b}\n") Finished }
+    ensures ors_of_a_negative_case { Writes (first_line_usual ++ codes "\\ifcase-1 a\\or b\\else c\\fi\\end\n") (codes "{the letter c}\n") Finished }
+    ensures case_in_a_case { Writes (first_line_usual ++ codes "\\ifcase1 \\ifcase5 a\\or b\\else c\\fi\\or d\\or e\\fi\\end\n") (codes "{the letter d}\n") Finished }
+    ensures unbalanced { Writes (first_line_usual ++ codes "\\ifnum1=2 {\\else }\\fi\\end\n") (codes "! Too many }'s.\nl.2\n") Finished }
+    ensures not_expanded_where_skipped { Writes (first_line_usual ++ codes "\\def\\a{\\fi}\\iffalse\\a\\undefined\\else b\\fi\\end\n") (codes "{the letter b}\n") Finished }
+    ensures steps_of_skipped_text { RunsSo (first_line_usual ++ codes "\\iffalse abc\\fi\\end\n") (codes "") 36 Finished }
+    ensures fi_in_a_test { RunsSo (first_line_usual ++ codes "\\ifnum1<2\\fi\\end\n") (codes "") 40 Finished }
+    ensures fi_for_a_character { Writes (first_line_usual ++ codes "\\if a\\fi b\\else c\\fi\\end\n") (codes "{the letter b}\n! Extra \\else.\nl.2\n{the letter c}\n! Extra \\fi.\nl.2\n") Finished }
+    ensures else_in_a_test { Writes (first_line_usual ++ codes "\\ifnum1<\\else a\\fi\\end\n") (codes "! Missing number, treated as zero.\nl.2\n{the letter a}\n") Finished }
+    ensures left_open_by_a_false_test { Writes (first_line_usual ++ codes "\\ifnum1=2\\iftrue A\\else B\\fi C\\else D\\fi\\end\n") (codes "{the letter D}\n") Finished }
+    ensures left_open_by_a_true_test { Writes (first_line_usual ++ codes "\\ifnum1=1\\iftrue A\\else B\\fi C\\else D\\fi\\end\n") (codes "{the letter A}\n{the letter C}\n") Finished }
+    ensures left_open_by_the_number_of_a_case { Writes (first_line_usual ++ codes "\\ifcase1\\iftrue A\\or B\\fi C\\or D\\fi\\end\n") (codes "{the letter D}\n") Finished }
+    ensures fi_behind_expandafter { Writes (first_line_usual ++ codes "\\iftrue\\expandafter a\\fi\\end\n") (codes "{the letter a}\n") Finished }
+    ensures else_behind_expandafter { Writes (first_line_usual ++ codes "\\iftrue\\expandafter a\\else b\\fi c\\end\n") (codes "{the letter a}\n{the letter c}\n") Finished }
+    ensures test_behind_expandafter { Writes (first_line_usual ++ codes "\\expandafter a\\iffalse b\\else c\\fi\\end\n") (codes "{the letter a}\n{the letter c}\n") Finished }
+    ensures in_an_expanded_body { Writes (first_line_usual ++ codes "\\edef\\a{\\iftrue b\\else c\\fi}\\message{\\meaning\\a}\\end\n") (codes "macro:->b\n") Finished }
+    ensures in_a_number { Writes (first_line_usual ++ codes "\\message{\\number\\ifodd3 12\\else34\\fi}\\end\n") (codes "12\n") Finished }
+    ensures in_a_name { Writes (first_line_usual ++ codes "\\message{\\csname a\\iffalse b\\else c\\fi\\endcsname}\\end\n") (codes "\\ac \n") Finished }
+    ensures of_an_argument { Writes (first_line_usual ++ codes "\\def\\a#1{\\iftrue#1\\fi}\\message{\\a{xy}}\\end\n") (codes "xy\n") Finished }
+    ensures counted_loop { Writes (first_line_usual ++ codes "\\def\\a{\\ifnum\\count1<2 x\\advance\\count1 by1 \\expandafter\\a\\fi}\\a\\end\n") (codes "{the letter x}\n{the letter x}\n") Finished }
+    ensures by_other_names { Writes (first_line_usual ++ codes "\\let\\a=\\iffalse\\let\\b=\\else\\let\\c=\\fi\\a x\\b y\\c\\c\\end\n") (codes "{the letter y}\n! Extra \\fi.\nl.2\n") Finished }
+    ensures constants { Writes (first_line_usual ++ codes "\\message{\\ifvmode v\\fi\\ifhmode h\\fi\\ifmmode m\\fi\\ifinner i\\fi\\iftrue t\\fi\\iffalse f\\fi}\\end\n") (codes "vt\n") Finished }
+    ensures boxes { Writes (first_line_usual ++ codes "\\message{\\ifvoid1 v\\fi\\ifhbox1 h\\fi\\ifvbox1 b\\fi}\\end\n") (codes "v\n") Finished }
+    ensures no_box { Writes (first_line_usual ++ codes "\\message{\\ifvoid256 v\\fi}\\end\n") (codes "! Bad register code (256).\nl.2\nv\n") Finished }
+    ensures open_at_the_end { Writes (first_line_usual ++ codes "\\iftrue\\iftrue\\end\n") (codes "(\\end occurred when \\iftrue on line 2 was incomplete)\n(\\end occurred when \\iftrue on line 2 was incomplete)\n") Finished }
+    ensures lines_of_the_open { Writes (first_line_usual ++ codes "\\message{m}\\ifnum1=1\n\\ifcase1 {\n\\else{\\end\n") (codes "m\n(\\end occurred inside a group at level 1)\n(\\end occurred when \\ifcase on line 3 was incomplete)\n(\\end occurred when \\ifnum on line 2 was incomplete)\n") Finished }
+    ensures begun_behind_the_end_of_the_file { Writes (first_line_usual ++ codes "\\def\\x{\\iftrue\\end}\\afterassignment\\x\\def\\a{\n") (codes "Runaway definition?\n-> \n! File ended while scanning definition of \\a.\nl.0\n(\\end occurred when \\iftrue on line 0 was incomplete)\n") Finished }
+    ensures escape_character_at_the_end { Writes (first_line_usual ++ codes "\\escapechar=`\\/ \\iftrue\\fi\\fi\\iffalse\\else\\end\n") (codes "! Extra /fi.\nl.2\n(/end occurred when /iffalse on line 2 was incomplete)\n") Finished }
+{}
+
+/// The machine run on small files with text that is skipped where a file ends, or the name of an `\outer` macro comes.
+pub fn worked_incomplete_conditionals()
+    ensures no_more { Writes (first_line_usual ++ codes "\\ifnum\\count1=2 \n") (codes "! Incomplete \\ifnum; all text was ignored after line 2.\nl.0\n! Emergency stop.\n*** (job aborted, no legal \\end found)\n") (AtFatal NoEnd) }
+    ensures no_more_behind_an_else { Writes (first_line_usual ++ codes "\\iftrue a\\else b\n") (codes "{the letter a}\n! Incomplete \\iftrue; all text was ignored after line 2.\nl.0\n! Emergency stop.\n*** (job aborted, no legal \\end found)\n") (AtFatal NoEnd) }
+    ensures no_more_in_a_message { Writes (first_line_usual ++ codes "\\message{a\\iffalse b\n") (codes "! Incomplete \\iffalse; all text was ignored after line 2.\nl.0\n! Emergency stop.\n*** (job aborted, no legal \\end found)\n") (AtFatal NoEnd) }
+    ensures no_more_of_a_conditional_within { Writes (first_line_usual ++ codes "\\iffalse\n\\iftrue\\else\n") (codes "! Incomplete \\iffalse; all text was ignored after line 2.\nl.0\n! Emergency stop.\n*** (job aborted, no legal \\end found)\n") (AtFatal NoEnd) }
+    ensures line_of_the_present_text { Writes (first_line_usual ++ codes "\\ifcase2 a\n\\or b\nc\n") (codes "! Incomplete \\ifcase; all text was ignored after line 3.\nl.0\n! Emergency stop.\n*** (job aborted, no legal \\end found)\n") (AtFatal NoEnd) }
+    ensures line_behind_an_extra_or { Writes (first_line_usual ++ codes "\\iffalse a\nb\\or c\nd\n") (codes "! Extra \\or.\nl.3\n! Incomplete \\iffalse; all text was ignored after line 3.\nl.0\n! Emergency stop.\n*** (job aborted, no legal \\end found)\n") (AtFatal NoEnd) }
+    ensures name_of_the_innermost { Writes (first_line_usual ++ codes "\\ifnum1=2\\iftrue a\n") (codes "! Incomplete \\iftrue; all text was ignored after line 2.\nl.0\n! Emergency stop.\n*** (job aborted, no legal \\end found)\n") (AtFatal NoEnd) }
+    ensures outer_name { Writes (first_line_usual ++ codes "\\outer\\def\\o{}\\ifnum1=2 \\o\\fi\\end\n") (codes "! Incomplete \\ifnum; all text was ignored after line 2.\nl.2\n! Extra \\fi.\nl.2\n") Finished }
+    ensures outer_name_is_put_back { Writes (first_line_usual ++ codes "\\outer\\def\\o{x}\\iffalse\n\\o\\end\n") (codes "! Incomplete \\iffalse; all text was ignored after line 2.\nl.3\n{the letter x}\n") Finished }
+    ensures outer_name_in_a_conditional_within { Writes (first_line_usual ++ codes "\\outer\\def\\o{x}\\iffalse\\if\\o\\fi\\end\n") (codes "! Incomplete \\iffalse; all text was ignored after line 2.\nl.2\n! Incomplete \\iffalse; all text was ignored after line 2.\nl.2\n{the letter x}\n! Extra \\fi.\nl.2\n") Finished }
+    ensures outer_name_behind_an_else { Writes (first_line_usual ++ codes "\\outer\\def\\o{x}\\iftrue a\\else\\o\\fi\\end\n") (codes "{the letter a}\n! Incomplete \\iftrue; all text was ignored after line 2.\nl.2\n{the letter x}\n! Extra \\fi.\nl.2\n") Finished }
+    ensures outer_name_in_a_text { Writes (first_line_usual ++ codes "\\outer\\def\\o{x}\\message{a\\iffalse\\o\\fi b}\\end\n") (codes "! Incomplete \\iffalse; all text was ignored after line 2.\nl.2\nRunaway text?\na\n! Forbidden control sequence found while scanning text of \\message.\nl.2\na \n{the letter x}\n! Extra \\fi.\nl.2\n{the letter b}\n! Too many }'s.\nl.2\n") Finished }
+    ensures outer_name_in_a_true_branch { Writes (first_line_usual ++ codes "\\outer\\def\\o{x}\\iftrue\\o\\fi\\end\n") (codes "{the letter x}\n") Finished }
+    ensures no_more_in_a_test { Writes (first_line_usual ++ codes "\\ifnum1=\n") (codes "! Emergency stop.\n*** (job aborted, no legal \\end found)\n") (AtFatal NoEnd) }
+    ensures skipping_enters_no_names { Enters (first_line_usual ++ codes "\\iffalse\\foo\\else\\let\\baz=\\relax\\fi\\end\n") (codes "baz" ∷ []) }
+    ensures in_a_file_beneath_another { RunsBeside ((codes "b.tex", codes "\\iffalse x\n") ∷ []) (first_line_usual ++ codes "\\input b \\message{m}\\end\n") (codes "! Incomplete \\iffalse; all text was ignored after line 1.\nl.2\nm\n") 43 Finished }
+{}
+
+/// The machine run on small files with tests: numbers, characters, and what two tokens mean.
+pub fn worked_comparisons()
+    ensures relations { Writes (first_line_usual ++ codes "\\message{\\ifnum1<2 a\\fi\\ifnum2<1 b\\fi\\ifnum2=2 c\\fi\\ifnum2=3 d\\fi\\ifnum3>-4 e\\fi\\ifnum-4>3 f\\fi}\\end\n") (codes "ace\n") Finished }
+    ensures spaces_before_a_relation { Writes (first_line_usual ++ codes "\\count1=2 \\message{\\ifnum\\count1 = 2 y\\else n\\fi}\\end\n") (codes "y\n") Finished }
+    ensures relation_of_a_macro { Writes (first_line_usual ++ codes "\\def\\r{<}\\message{\\ifnum1\\r2 y\\else n\\fi}\\end\n") (codes "y\n") Finished }
+    ensures no_relation { Writes (first_line_usual ++ codes "\\message{\\ifnum1a2 y\\else n\\fi}\\end\n") (codes "! Missing = inserted for \\ifnum.\nl.2\n! Missing number, treated as zero.\nl.2\nn\n") Finished }
+    ensures relation_taken { Writes (first_line_usual ++ codes "\\count1=1 \\message{\\ifnum1\\count1 y\\else n\\fi\\ifdim1pt\\count1pt y\\else n\\fi}\\end\n") (codes "! Missing = inserted for \\ifnum.\nl.2\n! Missing = inserted for \\ifdim.\nl.2\nyy\n") Finished }
+    ensures relation_of_another_category { Writes (first_line_usual ++ codes "\\catcode`\\<=11 \\message{\\ifnum1<2 y\\else n\\fi}\\end\n") (codes "! Missing = inserted for \\ifnum.\nl.2\n! Missing number, treated as zero.\nl.2\nn\n") Finished }
+    ensures implicit_relation { Writes (first_line_usual ++ codes "\\let\\r=<\\message{\\ifnum1\\r2 y\\else n\\fi}\\end\n") (codes "! Missing = inserted for \\ifnum.\nl.2\n! Missing number, treated as zero.\nl.2\nn\n") Finished }
+    ensures equal_dimensions { Writes (first_line_usual ++ codes "\\ifdim1pt=65536sp y\\fi\\end\n") (codes "{the letter y}\n") Finished }
+    ensures greater_dimension { Writes (first_line_usual ++ codes "\\ifdim2pt<1pt y\\else n\\fi\\end\n") (codes "{the letter n}\n") Finished }
+    ensures odd_numbers { Writes (first_line_usual ++ codes "\\message{\\ifodd3 a\\fi\\ifodd2 b\\fi\\ifodd-3 c\\fi\\ifodd0 d\\fi\\ifodd-2147483647 e\\fi}\\end\n") (codes "ace\n") Finished }
+    ensures same_codes { Writes (first_line_usual ++ codes "\\message{\\if aay\\fi\\if aby\\else n\\fi\\if 1\\number1y\\fi}\\end\n") (codes "yny\n") Finished }
+    ensures codes_of_a_macro { Writes (first_line_usual ++ codes "\\def\\a{xx}\\message{\\if\\a y\\else n\\fi}\\end\n") (codes "y\n") Finished }
+    ensures codes_of_names { Writes (first_line_usual ++ codes "\\message{\\if\\relax\\par y\\else n\\fi\\if\\relax ay\\else n\\fi}\\end\n") (codes "yn\n") Finished }
+    ensures codes_of_implicit_characters { Writes (first_line_usual ++ codes "\\let\\b=a\\message{\\if\\b ay\\else n\\fi\\if\\b by\\else n\\fi}\\end\n") (codes "yn\n") Finished }
+    ensures codes_of_given_characters { Writes (first_line_usual ++ codes "\\chardef\\b=97 \\message{\\if\\b ay\\else n\\fi\\if\\b\\relax y\\else n\\fi}\\end\n") (codes "ny\n") Finished }
+    ensures no_code { Writes (first_line_usual ++ codes "\\message{\\if\\undefined aay\\else n\\fi}\\end\n") (codes "! Undefined control sequence.\nl.2\ny\n") Finished }
+    ensures same_categories { Writes (first_line_usual ++ codes "\\message{\\ifcat aby\\else n\\fi\\ifcat a1y\\else n\\fi\\ifcat\\relax\\par y\\else n\\fi\\ifcat a\\relax y\\else n\\fi}\\end\n") (codes "ynyn\n") Finished }
+    ensures categories_of_implicit_characters { Writes (first_line_usual ++ codes "\\let\\b=a\\message{\\ifcat\\b cy\\else n\\fi\\ifcat\\b1y\\else n\\fi}\\end\n") (codes "yn\n") Finished }
+    ensures category_by_the_character { Writes (first_line_usual ++ codes "\\message{\\ifcat{}n\\else y\\fi\\ifcat##y\\else n\\fi}\\end\n") (codes "yy\n") Finished }
+    ensures marked_name { Writes (first_line_usual ++ codes "\\message{\\if\\noexpand\\a\\relax y\\else n\\fi\\ifcat\\noexpand\\a\\relax y\\else n\\fi}\\end\n") (codes "yy\n") Finished }
+    ensures marked_active_character { Writes (first_line_usual ++ codes "\\catcode`\\~=13 \\def~{x}\\message{\\if\\noexpand~\\relax y\\else n\\fi\\if\\noexpand~\\noexpand~y\\else n\\fi\\ifcat\\noexpand~\\relax y\\else n\\fi\\ifcat\\noexpand~\\noexpand~y\\else n\\fi}\\end\n") (codes "nyny\n") Finished }
+    ensures two_marked_active_characters { Writes (first_line_usual ++ codes "\\catcode`\\~=13 \\catcode`\\!=13 \\message{\\if\\noexpand~\\noexpand!y\\else n\\fi\\ifcat\\noexpand~\\noexpand!y\\else n\\fi}\\end\n") (codes "ny\n") Finished }
+    ensures active_character_that_means_relax { Writes (first_line_usual ++ codes "\\catcode`\\~=13 \\let~=\\relax\\message{\\if~\\relax y\\else n\\fi\\ifcat\\noexpand~\\relax y\\else n\\fi}\\end\n") (codes "yy\n") Finished }
+    ensures macros { Writes (first_line_usual ++ codes "\\def\\a{x}\\def\\b{x}\\def\\c{y}\\message{\\ifx\\a\\b y\\else n\\fi\\ifx\\a\\c y\\else n\\fi\\ifx\\a\\a y\\else n\\fi}\\end\n") (codes "yny\n") Finished }
+    ensures flags { Writes (first_line_usual ++ codes "\\def\\a{x}\\long\\def\\b{x}\\outer\\def\\c{x}\\message{\\ifx\\a\\b y\\else n\\fi}\\ifx\\a\\c Y\\else N\\fi\\end\n") (codes "n\n{the letter N}\n") Finished }
+    ensures same_flags { Writes (first_line_usual ++ codes "\\long\\def\\a{x}\\long\\def\\b{x}\\outer\\def\\c{x}\\outer\\def\\d{x}\\message{\\ifx\\a\\b y\\else n\\fi}\\ifx\\c\\d Y\\else N\\fi\\end\n") (codes "y\n{the letter Y}\n") Finished }
+    ensures parameter_texts { Writes (first_line_usual ++ codes "\\def\\a#1{#1}\\def\\b#1{#1}\\def\\c#1.{#1}\\message{\\ifx\\a\\b y\\else n\\fi\\ifx\\a\\c y\\else n\\fi}\\end\n") (codes "yn\n") Finished }
+    ensures characters_of_places { Writes (first_line_usual ++ codes "\\catcode`\\!=6 \\def\\a#1{#1}\\def\\b!1{!1}\\message{\\ifx\\a\\b y\\else n\\fi}\\end\n") (codes "n\n") Finished }
+    ensures categories_in_bodies { Writes (first_line_usual ++ codes "\\def\\a{z}\\catcode`\\z=12 \\def\\b{z}\\message{\\ifx\\a\\b y\\else n\\fi}\\end\n") (codes "n\n") Finished }
+    ensures copy_of_a_macro { Writes (first_line_usual ++ codes "\\def\\a{x}\\let\\b=\\a\\message{\\ifx\\a\\b y\\else n\\fi}\\end\n") (codes "y\n") Finished }
+    ensures empty_macros { Writes (first_line_usual ++ codes "\\def\\a{}\\def\\b{}\\def\\c#1{}\\message{\\ifx\\a\\b y\\else n\\fi\\ifx\\a\\c y\\else n\\fi\\ifx\\a\\relax y\\else n\\fi}\\end\n") (codes "ynn\n") Finished }
+    ensures not_expanded_by_ifx { Writes (first_line_usual ++ codes "\\def\\a{x}\\message{\\ifx\\a xy\\else n\\fi}\\end\n") (codes "n\n") Finished }
+    ensures undefined_names { Writes (first_line_usual ++ codes "\\message{\\ifx\\foo\\baz y\\else n\\fi\\ifx\\foo\\relax y\\else n\\fi}\\end\n") (codes "yn\n") Finished }
+    ensures marked_name_is_not_relax { Writes (first_line_usual ++ codes "\\message{\\expandafter\\ifx\\noexpand\\a\\relax y\\else n\\fi}\\end\n") (codes "n\n") Finished }
+    ensures marked_names { Writes (first_line_usual ++ codes "\\message{\\expandafter\\expandafter\\expandafter\\ifx\\expandafter\\noexpand\\expandafter\\a\\noexpand\\b y\\else n\\fi}\\end\n") (codes "y\n") Finished }
+    ensures primitives { Writes (first_line_usual ++ codes "\\let\\a=\\def\\message{\\ifx\\a\\def y\\else n\\fi\\ifx\\fi\\fi y\\else n\\fi\\ifx\\fi\\or y\\else n\\fi}\\end\n") (codes "yyn\n") Finished }
+    ensures characters { Writes (first_line_usual ++ codes "\\let\\b=a\\message{\\ifx aay\\else n\\fi\\ifx aby\\else n\\fi\\ifx\\b ay\\else n\\fi\\ifx a1y\\else n\\fi}\\end\n") (codes "ynyn\n") Finished }
+    ensures given_characters { Writes (first_line_usual ++ codes "\\chardef\\a=97 \\chardef\\b=97 \\mathchardef\\c=97 \\message{\\ifx\\a\\b y\\else n\\fi\\ifx\\a\\c y\\else n\\fi\\ifx\\a ay\\else n\\fi}\\end\n") (codes "ynn\n") Finished }
+    ensures registers { Writes (first_line_usual ++ codes "\\countdef\\a=5 \\countdef\\b=5 \\dimendef\\c=5 \\message{\\ifx\\a\\b y\\else n\\fi\\ifx\\a\\c y\\else n\\fi\\ifx\\a\\count y\\else n\\fi}\\end\n") (codes "ynn\n") Finished }
+    ensures enters_no_names { Enters (first_line_usual ++ codes "\\ifx\\foo\\baz\\fi\\end\n") [] }
+    ensures enters_no_name_with_one_that_is_known { Enters (first_line_usual ++ codes "\\def\\foo{}\\ifx\\foo\\baz\\fi\\ifx\\baz\\foo\\fi\\end\n") (codes "foo" ∷ []) }
+{}
+
+/// Small files with conditionals within small sizes.
+pub fn worked_condition_sizes()
+    ensures two_open { Fills (record default_sizes { condition_stack_size = 1 }) (codes "\\iftrue\\iftrue\\end") (record { table = ConditionStackSize; used = 1; size = 1 }) }
+    ensures two_open_fit { Fits (record default_sizes { condition_stack_size = 2 }) (codes "\\iftrue\\iftrue\\end") }
+    ensures none_open { Fills (record default_sizes { condition_stack_size = 0 }) (codes "\\iffalse\\fi\\end") (record { table = ConditionStackSize; used = 0; size = 0 }) }
+    ensures closed { Fits (record default_sizes { condition_stack_size = 1 }) (codes "\\iftrue\\fi\\iffalse\\fi\\iffalse\\else\\fi\\end") }
+    ensures deep { Fills (record default_sizes { condition_stack_size = 9 }) (first_line_usual ++ codes "\\def\\a{\\iftrue\\a}\\a") (record { table = ConditionStackSize; used = 9; size = 9 }) }
+    ensures skipped { Fits (record default_sizes { condition_stack_size = 1 }) (codes "\\iffalse\\iftrue\\iftrue\\fi\\fi\\fi\\end") }
+    ensures within_a_test { Fills (record default_sizes { condition_stack_size = 1 }) (codes "\\ifnum\\iftrue1\\fi=1 \\fi\\end") (record { table = ConditionStackSize; used = 1; size = 1 }) }
+    ensures within_a_test_fit { Fits (record default_sizes { condition_stack_size = 2; expansion_depth = 3 }) (codes "\\ifnum\\iftrue1\\fi=1 \\fi\\end") }
+    ensures depth_first { Fills (record default_sizes { expansion_depth = 0; condition_stack_size = 0 }) (codes "\\iftrue\\end") (record { table = ExpansionDepth; used = 0; size = 0 }) }
+    ensures then_the_conditional { Fills (record default_sizes { expansion_depth = 1; condition_stack_size = 0 }) (codes "\\iftrue\\end") (record { table = ConditionStackSize; used = 0; size = 0 }) }
+    ensures test_ended_before_skipping { Fits (record default_sizes { expansion_depth = 1 }) (codes "\\iffalse\\fi\\end") }
+    ensures skipping_below_a_token { Fills (record default_sizes { expansion_depth = 1 }) (codes "\\iftrue\\expandafter\\relax\\else\\fi\\end") (record { table = ExpansionDepth; used = 1; size = 1 }) }
+    ensures skipping_below_a_token_fits { Fits (record default_sizes { expansion_depth = 2 }) (codes "\\iftrue\\expandafter\\relax\\else\\fi\\end") }
+    ensures levels_of_a_fi_in_a_test { Fills (record default_sizes { input_stack_size = 2 }) (codes "\\ifnum1<2\\fi\\end") (record { table = InputStackSize; used = 2; size = 2 }) }
+    ensures levels_of_a_fi_in_a_test_fit { Fits (record default_sizes { input_stack_size = 3 }) (codes "\\ifnum1<2\\fi\\end") }
+    ensures words_of_a_fi_in_a_test { Fills (record default_sizes { main_memory_size = 3 }) (codes "\\ifnum1<2\\fi\\end") (record { table = MainMemorySize; used = 3; size = 3 }) }
+    ensures words_of_a_fi_in_a_test_fit { Fits (record default_sizes { main_memory_size = 4 }) (codes "\\ifnum1<2\\fi\\end") }
+    ensures no_words_of_skipped_text { Fits (record default_sizes { main_memory_size = 1 }) (codes "\\iffalse abc\\iftrue\\fi\\else\\fi\\end") }
 {}
