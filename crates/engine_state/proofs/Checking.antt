@@ -11,12 +11,14 @@ use Rattle.tex_defs.specs.declared.Token.{Token}
 use Rattle.rows.specs.Readings.{Fed}
 use Rattle.rows.specs.Table.{reads_under_normal}
 use Rattle.plain_readings.specs.Readings.{Kind, Reading, lists}
-use Rattle.plain_readings.specs.Scanning.{Status, Scans as ScansAs, Unguarded, Inherits, command_status, status, first_of, scanned_at, unless_unguarded, innermost_scanned, Scanning, scanning}
+use Rattle.plain_readings.specs.Scanning.{Status, Scans as ScansAs, Ignores, Unguarded, Inherits, command_status, status, first_of, scanned_at, unless_unguarded, innermost_scanned, Scanning, Builds, scanning}
+use Rattle.reading_frames.specs.declared.ask.Found.{Found}
+use Rattle.reading_frames.specs.declared.ask.Found.TheVariants as found
 use Rattle.reading_frames.specs.declared.frame.Frame.{Frame}
 use Rattle.reading_frames.specs.declared.frame.Frame.TheVariants as frame
 use Rattle.reading_frames.specs.Resumes.{list_count, frame_status, built_as}
 use Rattle.reading_frames.specs.Sees.{Lists, top_list}
-use Rattle.reading_frames.specs.Stack.{Found, found_at, innermost_found, found_in, asks_in, scanning_of as scanning_found, unless_unguarded as unless_found}
+use Rattle.reading_frames.specs.Stack.{found_at, innermost_found, found_in, asks_in, scanning_of as scanning_found, unless_unguarded as unless_found}
 use Rattle.reading_frames.specs.Stands as frames
 use Rattle.reading_frames.proofs.Scanning.{scans}
 use Rattle.plain_machine.specs.Plan.{first_list}
@@ -31,25 +33,26 @@ use Rattle.engine_state.specs.declared.engine.Engine.{Engine}
 use Rattle.engine_state.specs.Book.{Book}
 use Rattle.engine_state.specs.Calls.{ReadingsStand, CallStands, IsTaking, HasWork, open_call, work_or_none}
 use Rattle.engine_state.specs.Stands.{Stands}
-use Rattle.engine_state.specs.Rules.{IsScanned, Scans, Takes, WantsHere, scanned_list, scanning_of}
+use Rattle.engine_state.specs.Rules.{IsScanned, IsFound, IsListed, Finds, Takes, WantsHere, scanned_as, scanning_of}
 use Rattle.engine_state.proofs.Uncalled.{framed}
 use Rattle.engine_state.proofs.FramesHeld.{gathered_is}
 
 -- FRAMES
 
--- what is found among them is a text or a definition
-abbrev pub IsBuilt : (Scanned × Name × ℕ) → Type 0
-IsBuilt found = found.0 ≡ scanned.Use → ⊥
+-- what is found among them is a text or a definition, or text that is skipped
+abbrev pub IsBuilt : Found → Type 0
+IsBuilt (found.Builds what name k) = what ≡ scanned.Use → ⊥
+IsBuilt (found.Skipped line) = Unit {0}
 
 built_other : (b : Bool) → built_as b ≡ scanned.Use → ⊥
 built_other true = λ e. cc
 built_other false = λ e. cc
 
-command_passes : (b : Bool) (n : ℕ) (o : Found) (P : (Scanned × Name × ℕ) → Type 0) → IfSome o P → IfSome (found_at (command_status b) n o) P
+command_passes : (b : Bool) (n : ℕ) (o : Option Found) (P : Found → Type 0) → IfSome o P → IfSome (found_at (command_status b) n o) P
 command_passes true n o P h = h
 command_passes false n o P h = h
 
-frame_built : (f : Frame) (n : ℕ) (o : Found) → IfSome o IsBuilt → IfSome (found_at (frame_status f) n o) IsBuilt
+frame_built : (f : Frame) (n : ℕ) (o : Option Found) → IfSome o IsBuilt → IfSome (found_at (frame_status f) n o) IsBuilt
 frame_built (frame.Command scan head) n o h = command_passes (reads_under_normal head) n o IsBuilt h
 frame_built (frame.Integer scan) n o h = h
 frame_built (frame.Factor scan) n o h = h
@@ -60,13 +63,15 @@ frame_built (frame.Build scan) n o h = built_other scan.defines
 frame_built (frame.Spelling scan) n o h = h
 frame_built (frame.FileName scan) n o h = h
 frame_built (frame.Behind c x) n o h = h
+frame_built (frame.Skips scan) n o h = tt
 
 all_built : (fs : List Frame) (n : ℕ) → IfSome (innermost_found fs n) IsBuilt
 all_built [] n = tt
 all_built (f ∷ fs) n = frame_built f n (innermost_found fs (n + list_count f)) (all_built fs (n + list_count f))
 
-guarded : (s : Status) (o : Found) (P : (Scanned × Name × ℕ) → Type 0) → IfSome o P → IfSome (unless_found s o) P
+guarded : (s : Status) (o : Option Found) (P : Found → Type 0) → IfSome o P → IfSome (unless_found s o) P
 guarded (ScansAs what name) o P h = h
+guarded (Ignores line) o P h = h
 guarded Unguarded o P h = tt
 guarded Inherits o P h = h
 
@@ -75,10 +80,11 @@ found_built [] = tt
 found_built (f ∷ fs) = guarded (frame_status f) (innermost_found (f ∷ fs) 0) IsBuilt (all_built (f ∷ fs) 0)
 
 -- and its list is held
-abbrev IsBelow : ℕ → (Scanned × Name × ℕ) → Type 0
-IsBelow m found = found.2 < m
+abbrev IsBelow : ℕ → Found → Type 0
+IsBelow m (found.Builds what name n) = n < m
+IsBelow m (found.Skipped line) = Unit {0}
 
-frame_held : (f : Frame) (n m : ℕ) (o : Found) → n + list_count f ≤ m → IfSome o (IsBelow m) → IfSome (found_at (frame_status f) n o) (IsBelow m)
+frame_held : (f : Frame) (n m : ℕ) (o : Option Found) → n + list_count f ≤ m → IfSome o (IsBelow m) → IfSome (found_at (frame_status f) n o) (IsBelow m)
 frame_held (frame.Command scan head) n m o le h = command_passes (reads_under_normal head) n o (IsBelow m) h
 frame_held (frame.Integer scan) n m o le h = h
 frame_held (frame.Factor scan) n m o le h = h
@@ -89,6 +95,7 @@ frame_held (frame.Build scan) n m o le h = omega (arith, le)
 frame_held (frame.Spelling scan) n m o le h = h
 frame_held (frame.FileName scan) n m o le h = h
 frame_held (frame.Behind c x) n m o le h = h
+frame_held (frame.Skips scan) n m o le h = tt
 
 all_held : (fs : List Frame) (n : ℕ) (held : Lists) (work : List Reading) → n ≤ length held → frames.FramesStand fs (drop n held) work → IfSome (innermost_found fs n) (IsBelow (length held))
 all_held [] n held work le h = tt
@@ -118,17 +125,26 @@ module _ (e : Engine) where
   asked_as scanned.Text k other some = some
   asked_as scanned.Definition k other some = some
 
+  built_here : (x : Found) → Some x ≡ found_in e.readings.frames → IsBuilt x
+  built_here x is = subst (λ (o : Option Found). IfSome o IsBuilt) (sym is) (found_built e.readings.frames)
+
+  found_as : (x : Found) → IsBuilt x → IsListed x e → IsFound x e
+  found_as (found.Builds what name k) other some = asked_as what k other some
+  found_as (found.Skipped line) other some = tt
+
   -- what was found is built, and its list there
-  pub frame_asked : (s : Scanned × Name × ℕ) → Some s ≡ found_in e.readings.frames → s.2 < length e.input.builds → IsScanned s.0 s.2 e
-  frame_asked s is some = asked_as s.0 s.2 (subst (λ (o : Found). IfSome o IsBuilt) (sym is) (found_built e.readings.frames)) some
+  pub frame_asked : (x : Found) → Some x ≡ found_in e.readings.frames → IsListed x e → IsFound x e
+  frame_asked x is some = found_as x (built_here x is) some
 
-  abbrev as_scanned : Scanned → Name → List Token → Option Scanning
-  as_scanned s name list = Some (record { what = s; name = name; list = list })
+  scan_as : (x : Found) → IsBuilt x → scanning_found e.input.builds (Some x) ≡ Some (scanned_as x e)
+  scan_as (found.Builds scanned.Use name k) other = absurd (other refl)
+  scan_as (found.Builds scanned.Text name k) other = ap (λ (ts : List Token). Some (Builds scanned.Text name ts)) (top_is (drop k e.input.builds))
+  scan_as (found.Builds scanned.Definition name k) other = ap (λ (ts : List Token). Some (Builds scanned.Definition name ts)) (top_is (drop k e.input.builds))
+  scan_as (found.Skipped line) other = refl
 
-  scan_as : (s : Scanned) (name : Name) (k : ℕ) → (s ≡ scanned.Use → ⊥) → as_scanned s name (top_list (drop k e.input.builds)) ≡ as_scanned s name (scanned_list s k e)
-  scan_as scanned.Use name k other = absurd (other refl)
-  scan_as scanned.Text name k other = ap (as_scanned scanned.Text name) (top_is (drop k e.input.builds))
-  scan_as scanned.Definition name k other = ap (as_scanned scanned.Definition name) (top_is (drop k e.input.builds))
+  below_listed : (x : Found) → IsBelow (length e.input.builds) x → IsListed x e
+  below_listed (found.Builds what name k) h = h
+  below_listed (found.Skipped line) h = tt
 
   -- without a call
   module _ (sizes : Sizes) (book : Book) (uncalled : e.call ≡ None) where
@@ -143,24 +159,21 @@ module _ (e : Engine) where
         let st : Stands sizes e book = stood want t in
         ap (scanning book.work) (gathered_is e.input st.uncalled.input) ∙ scans e.readings.frames e.input.builds book.work st.readings.frames
 
-    wanted_some : (s : Scanned × Name × ℕ) → Some s ≡ found_in e.readings.frames → (want : Option Want) → Takes sizes want e book → IsSome want
-    wanted_some s is None t = absurd (subst (λ (o : Found). IfSome o (λ x. ⊥)) (sym (is ∙ none_found e.readings.frames e.input.builds (here None t))) tt)
-    wanted_some s is (Some want) t = refl
+    wanted_some : (x : Found) → Some x ≡ found_in e.readings.frames → (want : Option Want) → Takes sizes want e book → IsSome want
+    wanted_some x is None t = absurd (subst (λ (o : Option Found). IfSome o (λ y. ⊥)) (sym (is ∙ none_found e.readings.frames e.input.builds (here None t))) tt)
+    wanted_some x is (Some want) t = refl
 
-    pub frame_scan : (s : Scanned × Name × ℕ) → Some s ≡ found_in e.readings.frames → (want : Option Want) → Takes sizes want e book → Scans (s.0, s.1, s.2) e book × IsSome want
-    frame_scan s is want t = (
-      scanned_here want t ∙ ap (scanning_found e.input.builds) (sym is) ∙ scan_as s.0 s.1 s.2 (subst (λ (o : Found). IfSome o IsBuilt) (sym is) (found_built e.readings.frames)),
-      wanted_some s is want t,
-    )
+    pub frame_scan : (x : Found) → Some x ≡ found_in e.readings.frames → (want : Option Want) → Takes sizes want e book → Finds x e book × IsSome want
+    frame_scan x is want t = (scanned_here want t ∙ ap (scanning_found e.input.builds) (sym is) ∙ scan_as x (built_here x is), wanted_some x is want t)
 
     -- nothing is found
     pub frames_skip : None ≡ found_in e.readings.frames → (want : Option Want) → Takes sizes want e book → scanning_of e book.work ≡ None
     frames_skip is want t = scanned_here want t ∙ ap (scanning_found e.input.builds) (sym is)
 
     -- its list is always there
-    pub list_there : (s : Scanned × Name × ℕ) → Some s ≡ found_in e.readings.frames → (want : Option Want) → Takes sizes want e book → s.2 < length e.input.builds
-    list_there s is want t =
-        subst (λ (o : Found). IfSome o (IsBelow (length e.input.builds))) (sym is) (found_held e.readings.frames e.input.builds book.work (stood want t).readings.frames)
+    pub list_there : (x : Found) → Some x ≡ found_in e.readings.frames → (want : Option Want) → Takes sizes want e book → IsListed x e
+    list_there x is want t =
+        below_listed x (subst (λ (o : Option Found). IfSome o (IsBelow (length e.input.builds))) (sym is) (found_held e.readings.frames e.input.builds book.work (stood want t).readings.frames))
 
 -- A CALL
 
@@ -219,11 +232,11 @@ module _ (sizes : Sizes) (e : Engine) (c : Call) (want : Option Want) (book : Bo
   abbrev scans_at : Kind → ℕ → Option Scanning
   scans_at k n = unless_unguarded (status k) (scanned_at (status k) (first_of n (gathered e.input)) (innermost_scanned u.rs (drop n (gathered e.input))))
 
-  pub use_scans : Scans (scanned.Use, c.name, 0) e book × IsSome want
+  pub use_scans : Finds (found.Builds scanned.Use c.name 0) e book × IsSome want
   use_scans = (
     ap (λ (work : List Reading). scanning work (gathered e.input)) u.work
         ∙ ap (λ (k : Kind). scans_at k (length (lists u.r.kind u.r.fed))) h.kind
-        ∙ ap (λ (ts : List Token). Some (record { what = scanned.Use; name = c.name; list = ts }))
+        ∙ ap (λ (ts : List Token). Some (Builds scanned.Use c.name ts))
         (taking_list c.name h.long _ e.input.call u.r.fed e.input.builds (length (lists u.r.kind u.r.fed)) h.at (ap (length {A = List Token}) h.holds)),
     u.wants,
   )

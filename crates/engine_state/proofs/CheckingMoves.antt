@@ -11,7 +11,6 @@ use Rattle.tex_syntax.specs.declared.words.Want.TheVariants as asks
 use Rattle.tex_defs.specs.declared.Meaning.{Meaning}
 use Rattle.tex_defs.specs.declared.Meaning.TheVariants as means
 use Rattle.tex_defs.specs.declared.Token.TheVariants as token
-use Rattle.tex_defs.specs.declared.Name.{Name}
 use Rattle.tex_defs.specs.declared.Seen.{Seen}
 use Rattle.tex_defs.specs.declared.Sizes.{Sizes}
 use Rattle.tex_defs.specs.declared.Token.{Token}
@@ -21,10 +20,10 @@ use Rattle.plain_tokens.specs.Meanings.{met as met_token, token_meaning, is_expa
 use Rattle.plain_state.specs.Reports.{report_bytes, runaway_bytes}
 use Rattle.rows.specs.Readings.{Cut}
 use Rattle.plain_readings.specs.Readings.{Reading, fed_with}
-use Rattle.plain_readings.specs.Scanning.{Scanning}
+use Rattle.plain_readings.specs.Scanning.{Scanning, Builds, Skipped}
 use Rattle.plain_machine.specs.States.{State, Move, Written, Reported, Feeds}
 use Rattle.plain_tokens.specs.Tokens.{space_token, is_outer}
-use Rattle.plain_machine.specs.Plan.{Page, style_of, wanted, reported, check_noted, put_one, page_behind, checked, met, met_outer}
+use Rattle.plain_machine.specs.Plan.{Page, style_of, wanted, reported, check_noted, put_one, page_behind, incomplete, checked, met, met_outer}
 use Rattle.plain_machine.specs.Does.{Did}
 use Rattle.plain_machine.proofs.Doing.{did_join, did_none}
 use Rattle.plain_machine.proofs.Renumbering.{met_of}
@@ -33,18 +32,23 @@ use Rattle.macro_call.specs.PlainScans.{cut_scan}
 use Rattle.input_state.specs.CallFeeds.{IsTaking, call_work, with_scan}
 use Rattle.input_state.specs.Callings.{Calling}
 use Rattle.input_state.specs.Stored.{Stored}
+use Rattle.conditionals.specs.Open.{innermost_test}
 use Rattle.reading_frames.specs.Stack.{Stack, asks_in}
+use Rattle.reading_frames.specs.declared.ask.Found.{Found}
+use Rattle.reading_frames.specs.declared.ask.Found.TheVariants as found
 use Rattle.engine_state.specs.declared.broken.Broken.{Broken}
 use Rattle.engine_state.specs.declared.call.Call.{Call}
 use Rattle.engine_state.specs.declared.engine.Engine.{Engine}
 use Rattle.engine_state.specs.declared.outcome.Ruled.{Ruled}
-use Rattle.engine_state.specs.Begins.{away_moves}
+use Rattle.engine_state.specs.declared.check.Check.{Check}
+use Rattle.engine_state.specs.declared.check.Check.TheVariants.{FileEnded, Forbidden}
+use Rattle.engine_state.specs.Begins.{away_moves, check_report}
 use Rattle.engine_state.specs.Book.{Book, with_work}
 use Rattle.engine_state.specs.Calls.{AllStand, work_or_none}
 use Rattle.engine_state.specs.CutReadings.{CutsIn}
 use Rattle.engine_state.specs.Stands.{IsSized, SameFrames, SameOthers, SameStore, OnlyColumn, state_of, page_of, own_style}
 use Rattle.engine_state.specs.Steps.{asked}
-use Rattle.engine_state.specs.Rules.{world_of, onward_of, feeds_of, space_moves, token_moves, scanning_of, list_number, scanned_list, away_text, IsScanned, Scans, Takes, WantsHere, Behind, Comes, Went, Reports, DoesOnward}
+use Rattle.engine_state.specs.Rules.{world_of, onward_of, feeds_of, space_moves, token_moves, scanning_of, list_number, scanned_list, away_text, check_moves, IsScanned, IsFound, Finds, Takes, WantsHere, Behind, Comes, Went, Reports, DoesOnward}
 use Rattle.engine_state.proofs.Uncalled.{framed}
 use Rattle.engine_state.proofs.CallKept.{all_still}
 use Rattle.engine_state.proofs.Checking.{Using, using}
@@ -97,6 +101,7 @@ put_stands sizes e e1 book same others store idle st = all_still sizes e e1 book
 -- a space is wanted alike on each page
 space_here : (page q : Page) (cells : List (Meaning (Option ℕ))) (want : Want) (work : List Reading) (x : Seen) → x ≡ met_token cells space_token → space_moves page (Some want) work ≡ onward_of q (Some want) work x
 space_here page q cells asks.Raw work x is = ap (onward_of q (Some asks.Raw) work) (sym is)
+space_here page q cells asks.Unentered work x is = ap (onward_of q (Some asks.Unentered) work) (sym is)
 space_here page q cells asks.Expanded work x is = ap (onward_of q (Some asks.Expanded) work) (sym is)
 space_here page q cells asks.Copied work x is = ap (onward_of q (Some asks.Copied) work) (sym is)
 space_here page q cells asks.Nonblank work x is = ap (onward_of q (Some asks.Nonblank) work) (sym is)
@@ -125,7 +130,7 @@ module _ (sizes : Sizes) (want space : Option Want) (e e1 e2 : Engine) (f : File
   Noted y rest = Behind sizes want space (state_of e book) y book page (world_of f s0 e) (world_of f s1 y) (reported (page_of e book) report rest)
 
   -- nothing notes it
-  unnoted : e2 ≡ e1 → Rep (space_moves page space book.work) → Noted e2 (space_moves page space book.work)
+  pub unnoted : e2 ≡ e1 → Rep (space_moves page space book.work) → Noted e2 (space_moves page space book.work)
   unnoted is rep = subst (λ (y : Engine). Noted y (space_moves page space book.work)) (sym is) (record {
     book2 = book;
     still = λ none. refl;
@@ -232,41 +237,55 @@ module _ (sizes : Sizes) (e e1 e2 : Engine) (f : FilesTold) (s0 s1 : SinkTold) (
         later_in sizes (state_of e book) (state_of e2 book) e3 (world_of f s0 e) (world_of f s1 e2) (world_of f s3 e3) (Written Transcript text ∷ put_one t) (reported (page_behind (page_of e book) text) report rest) b both
         (subst (λ (p : Page). CutsIn sizes (state_of e2 book) e3 (world_of f s1 e2) (world_of f s3 e3) (reported p report rest) b) away_page h)
 
--- THE NAME IS PUT BACK
+-- A TOKEN IS PUT IN FRONT, and then come moves that are these on the page as it was
 
-module _ (sizes : Sizes) (e e1 e2 : Engine) (f : FilesTold) (s : SinkTold) (w2 : World) (t : Token) (what : Scanned) (k : ℕ) (report : Report) (rest : List Move) (book : Book) (page : page_of e1 book ≡ page_of e book) (same : SameFrames e e1)
+module _ (sizes : Sizes) (e e1 e2 : Engine) (f : FilesTold) (s : SinkTold) (w2 : World) (t : Token) (ms ms1 : List Move) (book : Book) (page : page_of e1 book ≡ page_of e book) (alike : ms ≡ ms1)
     (put : (w : World) → Did sizes (state_of e book) (state_of e1 book) w w (put_one t)) where
-  away_same : away_moves (page_of e book) what (away_text what k e) report rest ≡ away_moves (page_of e1 book) what (away_text what k e1) report rest
-  away_same =
-      ap (λ (p : Page). away_moves p what (runaway_bytes what (style_of p) p.in_line (scanned_list what k e)) report rest) (sym page)
-      ∙ ap (λ (ts : List Token). away_moves (page_of e1 book) what (runaway_bytes what (own_style e1) e1.in_line ts) report rest) (sym (list_still what k e e1 same.calling same.lists))
-
   put_did : Did sizes (state_of e book) (state_of e1 book) (world_of f s e) (world_of f s e1) (put_one t)
   put_did = subst (λ (b : Bool). Did sizes (state_of e book) (state_of e1 book) (world_of f s e) (world f s b) (put_one t)) (sym (ap (λ (p : Page). p.in_line) page)) (put (world_of f s e))
 
-  pub forbid_rule : (ruled : Ruled) → DoesOnward sizes (state_of e1 book) e2 book (world_of f s e1) w2 (away_moves (page_of e1 book) what (away_text what k e1) report rest) ruled →
-      DoesOnward sizes (state_of e book) e2 book (world_of f s e) w2 (put_one t ++ away_moves (page_of e book) what (away_text what k e) report rest) ruled
-  forbid_rule ruled h =
-      onward_join sizes (state_of e book) (state_of e1 book) e2 book (world_of f s e) (world_of f s e1) w2 (put_one t) (away_moves (page_of e book) what (away_text what k e) report rest) ruled (ap (λ (p : Page). p.reports) page) put_did refl
-      (onward_by sizes (state_of e1 book) e2 book (world_of f s e1) w2 _ _ ruled away_same h)
+  pub put_rule : (ruled : Ruled) → DoesOnward sizes (state_of e1 book) e2 book (world_of f s e1) w2 ms1 ruled → DoesOnward sizes (state_of e book) e2 book (world_of f s e) w2 (put_one t ++ ms) ruled
+  put_rule ruled h =
+      onward_join sizes (state_of e book) (state_of e1 book) e2 book (world_of f s e) (world_of f s e1) w2 (put_one t) ms ruled (ap (λ (p : Page). p.reports) page) put_did refl
+      (onward_by sizes (state_of e1 book) e2 book (world_of f s e1) w2 _ _ ruled alike h)
 
-  pub forbid_behind : (want space : Option Want) (q : Page) → Behind sizes want space (state_of e1 book) e2 book q (world_of f s e1) w2 (away_moves (page_of e1 book) what (away_text what k e1) report rest) →
-      Behind sizes want space (state_of e book) e2 book q (world_of f s e) w2 (put_one t ++ away_moves (page_of e book) what (away_text what k e) report rest)
-  forbid_behind want space q b = record {
+  pub put_behind : (want space : Option Want) (q : Page) → Behind sizes want space (state_of e1 book) e2 book q (world_of f s e1) w2 ms1 → Behind sizes want space (state_of e book) e2 book q (world_of f s e) w2 (put_one t ++ ms)
+  put_behind want space q b = record {
     book2 = b.book2;
     still = b.still;
     takes = b.takes;
     front = put_one t ++ b.front;
     did = did_join sizes _ _ _ _ _ _ (put_one t) b.front put_did b.did;
-    whole = ap (λ (ms : List Move). put_one t ++ ms) (away_same ∙ b.whole);
+    whole = ap (λ (ms : List Move). put_one t ++ ms) (alike ∙ b.whole);
     free = omega (arith, b.free);
   }
 
-  pub forbid_cuts : (b : Broken) → CutsIn sizes (state_of e1 book) e2 (world_of f s e1) w2 (away_moves (page_of e1 book) what (away_text what k e1) report rest) b →
-      CutsIn sizes (state_of e book) e2 (world_of f s e) w2 (put_one t ++ away_moves (page_of e book) what (away_text what k e) report rest) b
-  forbid_cuts b h =
-      later_in sizes (state_of e book) (state_of e1 book) e2 (world_of f s e) (world_of f s e1) w2 (put_one t) (away_moves (page_of e book) what (away_text what k e) report rest) b put_did
-      (in_by sizes (state_of e1 book) e2 (world_of f s e1) w2 _ _ b away_same h)
+  pub put_cuts : (b : Broken) → CutsIn sizes (state_of e1 book) e2 (world_of f s e1) w2 ms1 b → CutsIn sizes (state_of e book) e2 (world_of f s e) w2 (put_one t ++ ms) b
+  put_cuts b h =
+      later_in sizes (state_of e book) (state_of e1 book) e2 (world_of f s e) (world_of f s e1) w2 (put_one t) ms b put_did
+      (in_by sizes (state_of e1 book) e2 (world_of f s e1) w2 _ _ b alike h)
+
+-- what comes of what is found is the same there
+module _ (e e1 : Engine) (book : Book) (page : page_of e1 book ≡ page_of e book) (same : SameFrames e e1) where
+  away_same : (what : Scanned) (k : ℕ) (report : Report) (rest : List Move) → away_moves (page_of e book) what (away_text what k e) report rest ≡ away_moves (page_of e1 book) what (away_text what k e1) report rest
+  away_same what k report rest =
+      ap (λ (p : Page). away_moves p what (runaway_bytes what (style_of p) p.in_line (scanned_list what k e)) report rest) (sym page)
+      ∙ ap (λ (ts : List Token). away_moves (page_of e1 book) what (runaway_bytes what (own_style e1) e1.in_line ts) report rest) (sym (list_still what k e e1 same.calling same.lists))
+
+  pub check_same : (check : Check) (x : Found) (rest : List Move) → check_moves e (page_of e book) check x rest ≡ check_moves e1 (page_of e1 book) check x rest
+  check_same check (found.Builds what name k) rest = away_same what k (check_report check what name) rest
+  check_same check (found.Skipped line) rest = ap (λ (p : Page). incomplete p line rest) (sym page)
+
+pub found_still : (e e1 : Engine) (x : Found) → SameFrames e e1 → IsFound x e → IsFound x e1
+found_still e e1 (found.Builds what name k) same h = scanned_still what k e e1 same.calling same.lists h
+found_still e e1 (found.Skipped line) same h = tt
+
+-- so is the report of the innermost conditional
+pub incomplete_same : (e e1 : Engine) (book : Book) (line test : ℕ) (rest : List Move) → page_of e1 book ≡ page_of e book → test ≡ innermost_test e1.conditionals.items →
+    reported (page_of e book) (reports.IncompleteConditional (innermost_test e.conditionals.items) line) rest ≡ reported (page_of e1 book) (reports.IncompleteConditional test line) rest
+incomplete_same e e1 book line test rest page is =
+    ap (λ (p : Page). reported p (reports.IncompleteConditional (innermost_test p.conditionals) line) rest) (sym page)
+    ∙ ap (λ (n : ℕ). reported (page_of e1 book) (reports.IncompleteConditional n line) rest) (sym is)
 
 -- WHAT IS MET
 
@@ -309,20 +328,24 @@ none_meets page o onward t is = ap (λ (x : Option Scanning). token_moves page x
 pub seen_outer : (e : Engine) (book : Book) (t : Token) (x : Seen) (result b : Bool) → x ≡ met_token e.input.groups.now.meanings t → result ≡ is_outer x.meaning → result ≡ b → is_outer (met_token (page_of e book).now.meanings t).meaning ≡ b
 seen_outer e book t x result b is outer here = ap (λ (y : Seen). is_outer y.meaning) (met_of book.number e.input.groups.now.meanings t ∙ sym is) ∙ sym outer ∙ here
 
--- it runs away where the file has ended
-pub runs_away : (e : Engine) (book : Book) (what : Scanned) (name : Name) (k : ℕ) → Scans (what, name, k) e book → checked (page_of e book) (scanning_of e book.work) ≡ away_moves (page_of e book) what (away_text what k e) (reports.FileEnded what name) []
-runs_away e book what name k is = ap (checked (page_of e book)) is
+-- what comes of what is found where the file has ended
+pub breaks_off : (e : Engine) (book : Book) (x : Found) → Finds x e book → checked (page_of e book) (scanning_of e book.work) ≡ check_moves e (page_of e book) FileEnded x []
+breaks_off e book (found.Builds what name k) is = ap (checked (page_of e book)) is
+breaks_off e book (found.Skipped line) is = ap (checked (page_of e book)) is
 
 -- and nothing does where nothing is scanned
 pub unchecked : (sizes : Sizes) (e : Engine) (book : Book) (w : World) → scanning_of e book.work ≡ None → AllStand sizes e book → Went sizes (state_of e book) e w w (checked (page_of e book) (scanning_of e book.work)) 0
 unchecked sizes e book w none st = went_by sizes (state_of e book) e w w [] (checked (page_of e book) (scanning_of e book.work)) 0 (ap (λ (o : Option Scanning). checked (page_of e book) o) none) (record { book' = book; stands = st; did = did_none sizes (state_of e book) w; count = refl })
 
--- where the name of an \outer macro comes, it runs away
-pub meets_away : (e : Engine) (book : Book) (what : Scanned) (name : Name) (k : ℕ) (want : Want) (t : Token) → is_outer (met_token (page_of e book).now.meanings t).meaning ≡ true → Scans (what, name, k) e book →
-    token_moves (page_of e book) (scanning_of e book.work) (onward_of (page_of e book) (Some want) book.work) t ≡ put_one t ++ away_moves (page_of e book) what (away_text what k e) (reports.Forbidden what name) (space_moves (page_of e book) (Some want) book.work)
-meets_away e book what name k want t outer is =
+-- and where the name of an \outer macro comes
+pub meets_found : (e : Engine) (book : Book) (x : Found) (want : Want) (t : Token) → is_outer (met_token (page_of e book).now.meanings t).meaning ≡ true → Finds x e book →
+    token_moves (page_of e book) (scanning_of e book.work) (onward_of (page_of e book) (Some want) book.work) t ≡ put_one t ++ check_moves e (page_of e book) Forbidden x (space_moves (page_of e book) (Some want) book.work)
+meets_found e book (found.Builds what name k) want t outer is =
     ap (λ (o : Option Scanning). token_moves (page_of e book) o (onward_of (page_of e book) (Some want) book.work) t) is
-    ∙ outer_meets (page_of e book) (Some (record { what = what; name = name; list = scanned_list what k e })) (onward_of (page_of e book) (Some want) book.work) t outer
+    ∙ outer_meets (page_of e book) (Some (Builds what name (scanned_list what k e))) (onward_of (page_of e book) (Some want) book.work) t outer
+meets_found e book (found.Skipped line) want t outer is =
+    ap (λ (o : Option Scanning). token_moves (page_of e book) o (onward_of (page_of e book) (Some want) book.work) t) is
+    ∙ outer_meets (page_of e book) (Some (Skipped line)) (onward_of (page_of e book) (Some want) book.work) t outer
 
 -- where something is scanned, some reading wants the token
 pub by_some : (P : Option Want → Type 0) (want : Option Want) → IsSome want → ((w : Want) → P (Some w)) → P want

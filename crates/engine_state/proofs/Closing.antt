@@ -35,7 +35,7 @@ pub record IsKept (e e1 : Engine) : Type 0 where
   pub light : pending_weight e1.input.pending ≡ pending_weight e.input.pending
 
 others_same : (e : Engine) (i : Stored) → SameOthers e (record e { input = i })
-others_same e i = record { depth = refl; call = refl; names = refl; after = refl; mag_set = refl; last = refl; naming = refl; in_line = refl; reports = refl; flawed = refl; quiet = refl; sizes = refl }
+others_same e i = record { depth = refl; call = refl; names = refl; after = refl; mag_set = refl; conditionals = refl; last = refl; naming = refl; in_line = refl; reports = refl; flawed = refl; quiet = refl; sizes = refl }
 
 pub kept_join : (e e1 e2 : Engine) → IsKept e e1 → IsKept e1 e2 → IsKept e e2
 kept_join e e1 e2 a b = record {
@@ -46,6 +46,7 @@ kept_join e e1 e2 a b = record {
     names = b.others.names ∙ a.others.names;
     after = b.others.after ∙ a.others.after;
     mag_set = b.others.mag_set ∙ a.others.mag_set;
+    conditionals = b.others.conditionals ∙ a.others.conditionals;
     last = b.others.last ∙ a.others.last;
     naming = b.others.naming ∙ a.others.naming;
     in_line = b.others.in_line ∙ a.others.in_line;
@@ -71,7 +72,7 @@ kept_put : (e e1 : Engine) → SameFrames e e1 → SameOthers e e1 → SameStore
 kept_put e e1 frames others store light = record {
   frames = frames;
   others = others;
-  sound = λ sizes book h. sound_still sizes e e1 book.number book.macros others.sizes (ap (λ (s : Stack). s.size) frames.readings) others.names others.reports store h;
+  sound = λ sizes book h. sound_still sizes e e1 book.number book.macros others.sizes (ap (λ (s : Stack). s.size) frames.readings) others.conditionals others.names others.reports store h;
   light = light;
 }
 

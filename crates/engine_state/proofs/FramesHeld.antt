@@ -65,7 +65,7 @@ stands_gathered sizes e book st = gathered_is e.input st.uncalled.input
 pub stands_new : (sizes : Sizes) (e e' : Engine) (book : Book) (work : List Reading) (fs : List Frame) (held : List (List Token)) → SameBut e e' → e'.readings.frames ≡ fs → e'.input.builds ≡ held → Stands sizes e book →
     frames.FramesStand fs held work → AreShallow fs held → Stands sizes e' (with_work work book)
 stands_new sizes e e' book work fs held same fs_are held_are st stand shallow = record {
-  sound = sound_still sizes e e' book.number book.macros same.others.sizes same.others.depth same.others.names same.others.reports same.store st.sound;
+  sound = sound_still sizes e e' book.number book.macros same.others.sizes same.others.depth same.others.conditionals same.others.names same.others.reports same.store st.sound;
   idle = same.making ∙ st.idle;
   readings = record {
     frames = subst (λ (l : List (List Token)). frames.FramesStand e'.readings.frames l work) (sym held_are) (subst (λ (x : List Frame). frames.FramesStand x held work) (sym fs_are) stand);
@@ -75,7 +75,7 @@ stands_new sizes e e' book work fs held same fs_are held_are st stand shallow = 
 }
 
 pub state_new : (e e' : Engine) (book : Book) (work : List Reading) (held : List (List Token)) → SameBut e e' → e'.last ≡ e.last → gathered e'.input ≡ held → record (state_of e book) { work = work; gathered = held } ≡ state_of e' (with_work work book)
-state_new e e' book work held same last lists = cc (same.pending, same.others.names, same.others.naming, same.store.groups, same.making, same.others.in_line, same.others.reports, same.others.flawed, same.others.quiet, last, lists)
+state_new e e' book work held same last lists = cc (same.pending, same.others.names, same.others.conditionals, same.others.naming, same.store.groups, same.making, same.others.in_line, same.others.reports, same.others.flawed, same.others.quiet, last, lists)
 
 -- the engine with these frames, over these lists
 abbrev pub framed_with : Engine → Stack → (held lists : List (List Token)) → Engine
@@ -89,6 +89,7 @@ same_with e e' stack held is size kept = record {
     names = ap (λ (x : Engine). x.names) is;
     after = ap (λ (x : Engine). x.after) is;
     mag_set = ap (λ (x : Engine). x.mag_set) is;
+    conditionals = ap (λ (x : Engine). x.conditionals) is;
     naming = ap (λ (x : Engine). x.naming) is;
     in_line = ap (λ (x : Engine). x.in_line) is;
     reports = ap (λ (x : Engine). x.reports) is;

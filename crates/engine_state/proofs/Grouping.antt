@@ -58,6 +58,7 @@ module _ (e : Engine) (g : Groups) (closing : List Token) (ending : Option Group
         small = h.sized.small;
         own = h.sized.own;
         readings = h.sized.readings;
+        conditionals = h.sized.conditionals;
         input = h.sized.input;
         names = h.sized.names;
         located = same ∙ h.sized.located;
@@ -182,6 +183,7 @@ module _ (e : Engine) (t : Token) (o : Option Token) (none : o ≡ None) (kept :
         small = h.sound.sized.small;
         own = h.sound.sized.own;
         readings = h.sound.sized.readings;
+        conditionals = h.sound.sized.conditionals;
         input = h.sound.sized.input;
         names = h.sound.sized.names;
         located = h.sound.sized.located;

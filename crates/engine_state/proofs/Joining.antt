@@ -56,6 +56,10 @@ pub when_true : (P Q : Type 0) → (b : Bool) → b ≡ true → MatchBool b P Q
 when_true P Q true is h = h
 when_true P Q false is h = cc
 
+pub when_false : (P Q : Type 0) → (b : Bool) → b ≡ false → MatchBool b P Q → Q
+when_false P Q true is h = cc
+when_false P Q false is h = h
+
 -- an error that `?` hands on
 pub same_err : {T E : Type 0} → (r : Result T E) (x : E) (P : E → Type 0) → IsErrAnd r (λ e. e ≡ x) → P x → IfErr r P
 same_err (Ok y) x P h p = tt

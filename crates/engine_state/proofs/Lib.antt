@@ -7,6 +7,7 @@ pub mod CheckingMoves
 pub mod CheckingNotes
 pub mod Closing
 pub mod Coming
+pub mod Conditionals
 pub mod Counting
 pub mod Cutting
 pub mod FramesHeld

@@ -156,6 +156,7 @@ module _ (sizes : Sizes) (e : Engine) (book : Book) where
     small = h.small;
     own = h.own;
     readings = h.readings;
+    conditionals = h.conditionals;
     input = h.input;
     names = h.names;
     located = omega (arith, h.located, entered_length new e.input.groups, length-append e.names.names new);
@@ -218,6 +219,7 @@ module _ (sizes : Sizes) (e : Engine) (book : Book) where
     raw_onward : (p q : Page) (w : Option Want) (y : Seen) → enters_of w ≡ true → onward_of p w book.work y ≡ onward_of q w book.work y
     raw_onward p q None y h = cc
     raw_onward p q (Some asks.Raw) y h = refl
+    raw_onward p q (Some asks.Unentered) y h = cc
     raw_onward p q (Some asks.Expanded) y h = cc
     raw_onward p q (Some asks.Copied) y h = cc
     raw_onward p q (Some asks.Nonblank) y h = cc
@@ -408,7 +410,7 @@ module _ (sizes : Sizes) (e : Engine) (i : Stored) (others : i ≡ record e.inpu
     fewer answer.Nothing h = λ n put. put_settle n e.input.pending (subst (λ (x : Pending). is_put n (all_puts x) ≡ true) h.1 put)
 
   pub stands_now : (book : Book) → SameStore e.input i → AllStand sizes e book → AllStand sizes now book
-  stands_now book store st = all_still sizes e now book (frames_now e i others) store (sound_still sizes e now book.number book.macros refl refl refl refl store st.sound) (ap (λ (x : Stored). x.making) others ∙ st.idle) st
+  stands_now book store st = all_still sizes e now book (frames_now e i others) store (sound_still sizes e now book.number book.macros refl refl refl refl refl store st.sound) (ap (λ (x : Stored). x.making) others ∙ st.idle) st
 
   pub takes_still : (want : Option Want) (book : Book) → SameStore e.input i → Takes sizes want e book → Takes sizes want now book
   takes_still want book store h = (wants_by e now e.call want (ap (λ (x : Stored). asks_in e.readings.frames x.builds) others) h.0, stands_now book store h.1)

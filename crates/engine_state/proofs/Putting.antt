@@ -13,7 +13,7 @@ use Rattle.plain_tokens.specs.Pending.{Pending, settle, put_front}
 use Rattle.plain_tokens.specs.Tables.{Demand, refused, memory, level, string}
 use Rattle.plain_state.specs.Reports.{report_bytes}
 use Rattle.rows.specs.Readings.{Fed, Told}
-use Rattle.plain_readings.specs.Readings.{Kind, Reads, Spelling, FileName, Arguments, Behind, Reading, fed_with, lists}
+use Rattle.plain_readings.specs.Readings.{Kind, Reads, Spelling, FileName, Arguments, Behind, Skips, Reading, fed_with, lists}
 use Rattle.plain_machine.specs.States.{State, Move, Settled, Kept, Grows, Feeds, ListBegun, ListGrown, Put, Written, Reported, made}
 use Rattle.plain_machine.specs.Demands.{refusal}
 use Rattle.plain_machine.specs.Plan.{Page, put_one, put_inserted, given_back, reported, told, noting, noting_kind, grown_and_fed, first_list}
@@ -83,7 +83,7 @@ module _ (sizes : Sizes) (e : Engine) (t : Token) (book : Book) (w : World) (cou
   store1 = store_settled e.input i1 a1 k1
 
   sound_in : (i : Stored) → SameStore e.input i → IsSound sizes (with_input i) book.number book.macros
-  sound_in i store = sound_still sizes e (with_input i) book.number book.macros refl refl refl refl store counts.sound
+  sound_in i store = sound_still sizes e (with_input i) book.number book.macros refl refl refl refl refl store counts.sound
 
   -- the list isn't begun
   pub begin_cuts : (new : Stored) (full : Full) (rest : List Move) → new ≡ i1 → refused i1.sizes (memory 1 (stored_words i1) ∷ []) ≡ Some full →
@@ -190,6 +190,7 @@ noting_kind_none (Reads k) fed = grown_none (Reads k) fed
 noting_kind_none (Spelling c) fed = grown_none (Spelling c) fed
 noting_kind_none (FileName c) fed = grown_none (FileName c) fed
 noting_kind_none (Behind c x) fed = grown_none (Behind c x) fed
+noting_kind_none (Skips c aim line) fed = grown_none (Skips c aim line) fed
 
 noting_none : (r : Reading) → steps (noting r) ≡ 0
 noting_none r = noting_kind_none r.kind r.fed

@@ -12,7 +12,7 @@ use Rattle.tex_defs.specs.declared.Seen.{Seen}
 use Rattle.tex_defs.specs.declared.Token.{Token}
 use Rattle.tex_defs.specs.Places.{World}
 use Rattle.rows.specs.Readings.{Fed, Tok, Told}
-use Rattle.plain_readings.specs.Readings.{Kind, Reads, Spelling, FileName, Behind, Arguments, Reading, lists, fed_with}
+use Rattle.plain_readings.specs.Readings.{Kind, Reads, Spelling, FileName, Behind, Skips, Arguments, Reading, lists, fed_with}
 use Rattle.plain_machine.specs.States.{State, Move, Grows, Feeds, last_with}
 use Rattle.plain_machine.specs.Plan.{feeding, feeding_kind, noting, noting_kind, grown_and_fed, grown_to, first_list}
 use Rattle.plain_machine.specs.Does.{Did}
@@ -47,6 +47,7 @@ feeding_is (Reads k) fed x h = refl
 feeding_is (Spelling c) fed x h = refl
 feeding_is (FileName c) fed x h = refl
 feeding_is (Behind c y) fed x h = refl
+feeding_is (Skips c aim line) fed x h = refl
 feeding_is (Arguments name long number text) fed x h = absurd h
 
 noting_is : (k : Kind) (fed : List Fed) → frames.IsFramed k → noting_kind k fed ≡ grown_and_fed k fed Told
@@ -54,6 +55,7 @@ noting_is (Reads k) fed h = refl
 noting_is (Spelling c) fed h = refl
 noting_is (FileName c) fed h = refl
 noting_is (Behind c y) fed h = refl
+noting_is (Skips c aim line) fed h = refl
 noting_is (Arguments name long number text) fed h = absurd h
 
 behind_all : (ts us : List Token) → drop (length ts) (ts ++ us) ≡ us
@@ -145,7 +147,7 @@ module _ (sizes : Sizes) (e : Engine) (stack : Stack) (g : Grown) (y : Fed)
       (same_with e (framed_with e stack (with_tokens g e.input.builds) e'.input.lists) stack (with_tokens g e.input.builds) refl size (subst (λ (x : Engine). KeepsMacros e.input x.input) is kept)) refl (grown_held book st) st
       (stands e.input.builds book.work st.readings.frames) (shallow e.input.builds st.readings.shallow))) where
         still : Stands sizes (framed_with e stack (with_tokens g e.input.builds) e'.input.lists) (with_work (fed_with y book.work) book) → Stands sizes (fed_engine e stack y (with_tokens g e.input.builds) e'.input.lists) (with_work (fed_with y book.work) book)
-        still h = record { sound = record { sized = record { few_reports = h.sound.sized.few_reports; small = h.sound.sized.small; own = h.sound.sized.own; readings = h.sound.sized.readings; input = h.sound.sized.input; names = h.sound.sized.names; located = h.sound.sized.located }; tied = h.sound.tied; bodies = h.sound.bodies }; idle = h.idle; readings = record { frames = h.readings.frames; shallow = h.readings.shallow }; uncalled = record { none = h.uncalled.none; input = h.uncalled.input } }
+        still h = record { sound = record { sized = record { few_reports = h.sound.sized.few_reports; small = h.sound.sized.small; own = h.sound.sized.own; readings = h.sound.sized.readings; conditionals = h.sound.sized.conditionals; input = h.sound.sized.input; names = h.sound.sized.names; located = h.sound.sized.located }; tied = h.sound.tied; bodies = h.sound.bodies }; idle = h.idle; readings = record { frames = h.readings.frames; shallow = h.readings.shallow }; uncalled = record { none = h.uncalled.none; input = h.uncalled.input } }
 
   module _ (book : Book) (r : Reading) (rs : List Reading) (st : Stands sizes e (with_work (r ∷ rs) book)) where
     pub moves : grown_and_fed r.kind r.fed y ≡ map Grows (tokens_of g) ++ Feeds y ∷ []

@@ -18,7 +18,7 @@ use Rattle.reading_frames.specs.Resumes.{token_count}
 use Rattle.reading_frames.specs.Stands.{opened_lists}
 use Rattle.reading_frames.specs.declared.ask.Grown.{Grown}
 use Rattle.reading_frames.specs.declared.ask.Opening.{Opening}
-use Rattle.reading_frames.specs.declared.ask.Opening.TheVariants.{Reads, Spelling, FileName, Behind}
+use Rattle.reading_frames.specs.declared.ask.Opening.TheVariants.{Reads, Spelling, FileName, Behind, Skips}
 use Rattle.engine_state.specs.declared.engine.Engine.{Engine}
 use Rattle.engine_state.specs.Book.{Book, with_work}
 use Rattle.engine_state.specs.Feeding.{HasTop, TokensCut, with_tokens}
@@ -43,6 +43,7 @@ opened_words (Reads (Dimension k)) = refl
 opened_words (Reads (Glue mu)) = refl
 opened_words (Reads (Keyword w)) = refl
 opened_words (Behind c x) = refl
+opened_words (Skips c aim line) = refl
 opened_words (Reads (Text name expanded)) = refl
 opened_words (Reads (Definition name expanded)) = refl
 opened_words (Spelling c) = refl
@@ -56,6 +57,7 @@ words_over (Reads (Dimension k)) held = omega arith
 words_over (Reads (Glue mu)) held = omega arith
 words_over (Reads (Keyword w)) held = omega arith
 words_over (Behind c x) held = omega arith
+words_over (Skips c aim line) held = omega arith
 words_over (Reads (Text name expanded)) held = omega (arith, sum_by-cons list_words [] held)
 words_over (Reads (Definition name expanded)) held = omega (arith, sum_by-cons list_words [] held)
 words_over (Spelling c) held = omega (arith, sum_by-cons list_words [] held)
@@ -148,6 +150,7 @@ by_stack sizes e book stack size sound = record {
     small = sound.sized.small;
     own = sound.sized.own;
     readings = size ∙ sound.sized.readings;
+    conditionals = sound.sized.conditionals;
     input = sound.sized.input;
     names = sound.sized.names;
     located = sound.sized.located;

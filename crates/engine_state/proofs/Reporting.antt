@@ -15,10 +15,12 @@ use Rattle.plain_state.specs.Reports as reports
 use Rattle.plain_state.specs.Reports.{hundred_line, token_line_bytes}
 use Rattle.plain_machine.specs.States.{State, Move, Written, Reported, Stopped, made}
 use Rattle.plain_machine.specs.Demands.{refusal}
-use Rattle.plain_machine.specs.Plan.{Page, style_of, reported, reports_room, token_line}
+use Rattle.conditionals.specs.declared.open.Conditional.{Conditional}
+use Rattle.plain_machine.specs.Plan.{Page, style_of, conditionals_left, reported, reports_room, token_line}
 use Rattle.plain_machine.specs.Runs.{Wrote, steps}
 use Rattle.plain_machine.specs.Does.{Did}
 use Rattle.plain_machine.proofs.Doing.{did_join, did_one, wrote_join}
+use Rattle.plain_machine.proofs.Joins.{steps_join}
 use Rattle.world_io.specs.Told.{FilesTold, SinkTold, world}
 use Rattle.world_io.specs.declared.traits.Fault.{Fault}
 use Rattle.transcript.specs.Taken.{Took, TookFront}
@@ -34,7 +36,7 @@ use Rattle.engine_state.specs.declared.broken.Broken.TheVariants as broken
 use Rattle.engine_state.specs.declared.outcome.Last.{Last}
 use Rattle.engine_state.specs.declared.outcome.Last.TheVariants as last
 use Rattle.engine_state.specs.Faults.{broken_by}
-use Rattle.engine_state.specs.Begins.{outcome_of_last, last_moves, last_bytes, no_file_end}
+use Rattle.engine_state.specs.Begins.{outcome_of_last, last_moves, last_bytes, last_written, no_file_end}
 use Rattle.engine_state.specs.Book.{Book}
 use Rattle.engine_state.specs.Calls.{AllStand, work_or_none}
 use Rattle.engine_state.specs.Stands.{Stands, IsSized, IsSound, IsUncalled, SameFrames, SameStore, SameOthers, OnlyColumn, state_of, page_of, own_style}
@@ -142,31 +144,46 @@ stops_at : (sizes : Sizes) (s : State) (e' : Engine) (book : Book) (w w' : World
     record (made (Stopped o) (made (Written Transcript bs) s)) { stopped = None } ≡ state_of e' book
 stops_at sizes s e' book w w' bs o d = ap (λ (x : State). record x { stopped = None }) d.state
 
-stops : (sizes : Sizes) (s : State) (e' : Engine) (book : Book) (w w' : World) (bs : List ℕ) (o : Outcome) → s.due ≡ [] → CountsReports o s e' → Did sizes s (state_of e' book) w w' (Written Transcript bs ∷ []) →
-    Halts sizes s e' book w w' (Written Transcript bs ∷ Stopped o ∷ []) o 0
-stops sizes s e' book w w' bs o due counts d = record {
-  t = made (Stopped o) (made (Written Transcript bs) s);
-  did = stops_did sizes s w w' bs o d.written;
-  stopped = refl;
-  due = due;
-  reports = by_outcome o counts;
-  same = λ few. stops_at sizes s e' book w w' bs o d;
-  count = omega arith;
-} where
-  by_outcome : (o : Outcome) → CountsReports o s e' → CountsReports o (made (Stopped o) (made (Written Transcript bs) s)) e'
-  by_outcome Finished h = h
-  by_outcome (AtFatal f) h = tt
+-- the lines of `\end` are no steps
+left_steps : (style : Style) (cs : List Conditional) → steps (conditionals_left style cs) ≡ 0
+left_steps style [] = refl
+left_steps style (c ∷ cs) = omega (arith, left_steps style cs)
+
+last_steps : (page : Page) (l : Last) → steps (last_written page l) ≡ 0
+last_steps page last.End = omega (arith, left_steps (style_of page) page.conditionals)
+last_steps page last.NoEnd = refl
+
+last_whole : (page : Page) (l : Last) → last_moves page l ≡ last_written page l ++ Stopped (outcome_of_last l) ∷ []
+last_whole page last.End = refl
+last_whole page last.NoEnd = refl
+
+stop_counts : (o : Outcome) (e' : Engine) (book : Book) → CountsReports o (made (Stopped o) (state_of e' book)) e'
+stop_counts Finished e' book = (refl, refl)
+stop_counts (AtFatal f) e' book = tt
 
 -- where the machine stops of itself
-pub last_is : (sizes : Sizes) (st : State) (e' : Engine) (book : Book) (w w' : World) (page : Page) (l : Last) → st.due ≡ [] → e'.reports ≡ st.reports → e'.flawed ≡ st.flawed → Did sizes st (state_of e' book) w w' (Written Transcript (last_bytes page l) ∷ []) →
-    Halts sizes st e' book w w' (last_moves page l) (outcome_of_last l) 0
-last_is sizes st e' book w w' page last.End due is flawed d = stops sizes st e' book w w' _ _ due (sym is, sym flawed) d
-last_is sizes st e' book w w' page last.NoEnd due is flawed d = stops sizes st e' book w w' _ _ due tt d
+pub last_is : (sizes : Sizes) (s : State) (e' : Engine) (book : Book) (w w' : World) (page : Page) (l : Last) → Did sizes s (state_of e' book) w w' (last_written page l) →
+    Halts sizes s e' book w w' (last_moves page l) (outcome_of_last l) 0
+last_is sizes s e' book w w' page l d = let o : Outcome = outcome_of_last l in
+    subst (λ (ms : List Move). Halts sizes s e' book w w' ms o 0) (sym (last_whole page l)) (record {
+      t = made (Stopped o) (state_of e' book);
+      did = did_join sizes _ _ _ w w' w' (last_written page l) (Stopped o ∷ []) d (did_one sizes (Stopped o) (state_of e' book) _ w' w' refl refl (quiet_here (Stopped o) w' tt));
+      stopped = refl;
+      due = refl;
+      reports = stop_counts o e' book;
+      same = λ few. refl;
+      count = omega (arith, steps_join (last_written page l) (Stopped o ∷ []), last_steps page l);
+    })
+
+-- cut off already in its first text
+pub last_text_cut : (sizes : Sizes) (s : State) (e' : Engine) (book : Book) (w w' : World) (page : Page) (l : Last) (k : Broken) →
+    ((more : List Move) → Cuts sizes s e' book w w' (Written Transcript (last_bytes page l) ∷ more) k) → (more : List Move) → Cuts sizes s e' book w w' (last_written page l ++ more) k
+last_text_cut sizes s e' book w w' page last.End k h more = h (conditionals_left (style_of page) page.conditionals ++ more)
+last_text_cut sizes s e' book w w' page last.NoEnd k h more = h more
 
 pub last_cut : (sizes : Sizes) (s : State) (e' : Engine) (book : Book) (w w' : World) (page : Page) (l : Last) (k : Broken) →
-    ((more : List Move) → Cuts sizes s e' book w w' (Written Transcript (last_bytes page l) ∷ more) k) → Cuts sizes s e' book w w' (last_moves page l) k
-last_cut sizes s e' book w w' page last.End k h = h _
-last_cut sizes s e' book w w' page last.NoEnd k h = h _
+    ((more : List Move) → Cuts sizes s e' book w w' (last_written page l ++ more) k) → Cuts sizes s e' book w w' (last_moves page l) k
+last_cut sizes s e' book w w' page l k h = cuts_by sizes s e' book w w' _ _ k (last_whole page l) (h (Stopped (outcome_of_last l) ∷ []))
 
 -- A REPORT IS COUNTED
 
@@ -316,11 +333,11 @@ input_sound sizes e e' book is sized h = sound_sized sizes e e' book.number book
 
 -- or that has put a token in front
 pub others_sound : (sizes : Sizes) (e e' : Engine) (book : Book) → SameOthers e e' → SameStore e.input e'.input → IsSound sizes e book.number book.macros → IsSound sizes e' book.number book.macros
-others_sound sizes e e' book others store h = sound_still sizes e e' book.number book.macros others.sizes others.depth others.names others.reports store h
+others_sound sizes e e' book others store h = sound_still sizes e e' book.number book.macros others.sizes others.depth others.conditionals others.names others.reports store h
 
 -- an engine that has written
 pub column_sound : (sizes : Sizes) (e e' : Engine) (number : ℕ → ℕ) (macros : List (List Token)) → OnlyColumn e e' → IsSound sizes e number macros → IsSound sizes e' number macros
-column_sound sizes e e' number macros only h = subst (λ (x : Engine). IsSound sizes x number macros) (sym only.same) (sound_still sizes e (record e { in_line = e'.in_line }) number macros refl refl refl refl (store_same e.input) h)
+column_sound sizes e e' number macros only h = subst (λ (x : Engine). IsSound sizes x number macros) (sym only.same) (sound_still sizes e (record e { in_line = e'.in_line }) number macros refl refl refl refl refl (store_same e.input) h)
 
 -- a token's line alone
 line_silent : (page : Page) (m : Meaning Unit) → steps (token_line page m) ≡ 0

@@ -40,7 +40,7 @@ lists_store e1 e2 now macros = store_making e1.input e2.input e1.input.making (a
 
 pub lists_sound : (sizes : Sizes) (e1 e2 : Engine) (book : Book) → e2 ≡ record e1 { input = record e1.input { lists = e2.input.lists } } → KeepsMacros e1.input e2.input → IsSound sizes e1 book.number book.macros → IsSound sizes e2 book.number book.macros
 lists_sound sizes e1 e2 book now macros sound =
-    sound_still sizes e1 e2 book.number book.macros (ap (λ (y : Engine). y.sizes) now) (ap (λ (y : Engine). y.readings.size) now) (ap (λ (y : Engine). y.names) now) (ap (λ (y : Engine). y.reports) now) (lists_store e1 e2 now macros) sound
+    sound_still sizes e1 e2 book.number book.macros (ap (λ (y : Engine). y.sizes) now) (ap (λ (y : Engine). y.readings.size) now) (ap (λ (y : Engine). y.conditionals) now) (ap (λ (y : Engine). y.names) now) (ap (λ (y : Engine). y.reports) now) (lists_store e1 e2 now macros) sound
 
 -- lists in front are others, and the readings stand as they did
 pub pending_stands : (sizes : Sizes) (e e2 : Engine) (book : Book) (p : Pending) → e2 ≡ record e { input = record e.input { pending = p; lists = e2.input.lists } } → IsSound sizes e2 book.number book.macros → Stands sizes e book → Stands sizes e2 book
@@ -95,7 +95,7 @@ module _ (sizes : Sizes) (e : Engine) (book : Book) (sound : IsSound sizes e boo
 
   putting_sound : IsSound sizes putting book.number book.macros
   putting_sound = record {
-    sized = record { few_reports = sound.sized.few_reports; small = sound.sized.small; own = sound.sized.own; readings = sound.sized.readings; input = sound.sized.input; names = sound.sized.names; located = sound.sized.located };
+    sized = record { few_reports = sound.sized.few_reports; small = sound.sized.small; own = sound.sized.own; readings = sound.sized.readings; conditionals = sound.sized.conditionals; input = sound.sized.input; names = sound.sized.names; located = sound.sized.located };
     tied = tied_put book.number book.macros (lists_held e.input.groups) (settle e.input.pending) e.input.lists (tied_settled book.number book.macros (lists_held e.input.groups) e.input.pending e.input.lists sound.tied) id p is (ap (λ (b : Bool). b || is_put id (all_puts (settle e.input.pending))) held);
     bodies = sound.bodies;
   }

@@ -40,10 +40,14 @@ only_sized sizes e e' only h = subst (IsSized sizes) (sym only.same) (record {
   small = h.small;
   own = h.own;
   readings = h.readings;
+  conditionals = h.conditionals;
   input = h.input;
   names = h.names;
   located = h.located;
 })
+
+pub column_on : (e e1 e2 : Engine) → OnlyColumn e e1 → OnlyColumn e1 e2 → OnlyColumn e e2
+column_on e e1 e2 a b = record { same = b.same ∙ ap (λ (x : Engine). record x { in_line = e2.in_line }) a.same }
 
 pub only_few : (e e' : Engine) → OnlyColumn e e' → e.reports ≤ reports_room → e'.reports ≤ reports_room
 only_few e e' only few = subst (λ (n : ℕ). n ≤ reports_room) (sym (ap (λ (x : Engine). x.reports) only.same)) few

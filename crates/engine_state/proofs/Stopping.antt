@@ -35,7 +35,7 @@ noted_same b e = record { readings = refl; lists = refl; call = refl; calling = 
 
 pub noted_stands : (b : Bool) (sizes : Sizes) (e : Engine) (book : Book) → AllStand sizes e book → AllStand sizes (noted b e) book
 noted_stands b sizes e book st =
-    all_still sizes e (noted b e) book (noted_same b e) (store_same e.input) (sound_still sizes e (noted b e) book.number book.macros refl refl refl refl (store_same e.input) st.sound) st.idle st
+    all_still sizes e (noted b e) book (noted_same b e) (store_same e.input) (sound_still sizes e (noted b e) book.number book.macros refl refl refl refl refl (store_same e.input) st.sound) st.idle st
 
 pub noted_frames : (b : Bool) (e e' : Engine) → SameFrames e e' → SameFrames e (noted b e')
 noted_frames b e e' h = record { readings = h.readings; lists = h.lists; call = h.call; calling = h.calling }

@@ -10,6 +10,7 @@ use Rattle.plain_tokens.specs.Puts.{Put, token_put}
 use Rattle.plain_tokens.specs.Pending.{Pending, settle, put_front, all_puts}
 use Rattle.plain_tokens.specs.Meanings.{is_listed}
 use Rattle.plain_tokens.specs.Tables.{is_put, held_words, memory, refused}
+use Rattle.conditionals.specs.Open.{Stack as Conditions}
 use Rattle.equivalents.specs.Groups.{Groups}
 use Rattle.equivalents.specs.Holding.{lists_held, shared_words}
 use Rattle.plain_machine.specs.Demands.{words}
@@ -119,12 +120,13 @@ module _ (number : ℕ → ℕ) (macros : List (List Token)) where
 
 -- WHAT STAYS OF THE ENGINE
 
-pub sized_still : (sizes : Sizes) (e e' : Engine) → e'.sizes ≡ e.sizes → e'.readings.size ≡ e.readings.size → e'.names ≡ e.names → e'.reports ≡ e.reports → SameStore e.input e'.input → IsSized sizes e → IsSized sizes e'
-sized_still sizes e e' own depth names reports store h = record {
+pub sized_still : (sizes : Sizes) (e e' : Engine) → e'.sizes ≡ e.sizes → e'.readings.size ≡ e.readings.size → e'.conditionals ≡ e.conditionals → e'.names ≡ e.names → e'.reports ≡ e.reports → SameStore e.input e'.input → IsSized sizes e → IsSized sizes e'
+sized_still sizes e e' own depth conditionals names reports store h = record {
   few_reports = omega (arith, reports, h.few_reports);
   small = h.small;
   own = own ∙ h.own;
   readings = depth ∙ h.readings;
+  conditionals = ap (λ (c : Conditions). c.size) conditionals ∙ h.conditionals;
   input = store.sizes ∙ h.input;
   names = ap (λ (n : Strings). n.sizes) names ∙ h.names;
   located = ap (λ (g : Groups). length g.now.meanings) store.groups ∙ h.located ∙ ap (λ (n : Strings). 514 + length n.names) (sym names);
@@ -137,6 +139,7 @@ counted_here sizes e n few h = record {
   small = h.small;
   own = h.own;
   readings = h.readings;
+  conditionals = h.conditionals;
   input = h.input;
   names = h.names;
   located = h.located;
@@ -150,8 +153,8 @@ module _ (sizes : Sizes) (e e' : Engine) (number : ℕ → ℕ) (macros : List (
     bodies = h.bodies;
   }
 
-  pub sound_still : e'.sizes ≡ e.sizes → e'.readings.size ≡ e.readings.size → e'.names ≡ e.names → e'.reports ≡ e.reports → SameStore e.input e'.input → IsSound sizes e number macros → IsSound sizes e' number macros
-  sound_still own depth names reports store h = sound_sized (sized_still sizes e e' own depth names reports store h.sized) store h
+  pub sound_still : e'.sizes ≡ e.sizes → e'.readings.size ≡ e.readings.size → e'.conditionals ≡ e.conditionals → e'.names ≡ e.names → e'.reports ≡ e.reports → SameStore e.input e'.input → IsSound sizes e number macros → IsSound sizes e' number macros
+  sound_still own depth conditionals names reports store h = sound_sized (sized_still sizes e e' own depth conditionals names reports store h.sized) store h
 
 -- but for the lists that readings hold
 pub same_lists : (e e' : Engine) (i : Stored) (gathered : List (List Token)) → SameElse e e' → i ≡ record e.input { builds = gathered; lists = i.lists } → KeepsMacros e.input i → e'.input ≡ i → SameBut e e'
@@ -171,6 +174,7 @@ same_join e e1 e2 a b = record {
     names = b.others.names ∙ a.others.names;
     after = b.others.after ∙ a.others.after;
     mag_set = b.others.mag_set ∙ a.others.mag_set;
+    conditionals = b.others.conditionals ∙ a.others.conditionals;
     naming = b.others.naming ∙ a.others.naming;
     in_line = b.others.in_line ∙ a.others.in_line;
     reports = b.others.reports ∙ a.others.reports;

@@ -49,7 +49,7 @@ module _ (sizes : Sizes) (e : Engine) (w : World) (book : Book) where
   moved i j m fits is q = did_one sizes m _ _ w w fits is (quiet_here m w q)
 
   sound_in : (i j : Stored) → SameStore i j → IsSound sizes (with_input e i) book.number book.macros → IsSound sizes (with_input e j) book.number book.macros
-  sound_in i j store sound = sound_still sizes (with_input e i) (with_input e j) book.number book.macros refl refl refl refl store sound
+  sound_in i j store sound = sound_still sizes (with_input e i) (with_input e j) book.number book.macros refl refl refl refl refl store sound
 
 -- THE LIST GROWS
 
@@ -268,7 +268,7 @@ module _ (sizes : Sizes) (s s1 : State) (e' : Engine) (book : Book) (w : World) 
 pub in_front : (e : Engine) (j : Stored) (puts : List PutList) (making : Option (List Token)) → j ≡ record e.input { pending = with_puts puts e.input.pending; making = making; lists = j.lists } → SameStore e.input j → IsInFront e (with_input e j)
 in_front e j puts making is store = record {
   frames = record { readings = refl; lists = ap (λ (x : Stored). x.builds) is; call = refl; calling = ap (λ (x : Stored). x.call) is };
-  others = record { depth = refl; call = refl; names = refl; after = refl; mag_set = refl; last = refl; naming = refl; in_line = refl; reports = refl; flawed = refl; quiet = refl; sizes = refl };
+  others = record { depth = refl; call = refl; names = refl; after = refl; mag_set = refl; conditionals = refl; last = refl; naming = refl; in_line = refl; reports = refl; flawed = refl; quiet = refl; sizes = refl };
   store = store;
   light = ap (λ (x : Stored). pending_weight x.pending) is;
   page = λ book. ap (λ (x : Stored). page_of (with_input e x) book) is;
@@ -283,6 +283,7 @@ front_join e e1 e2 a b = record {
     names = b.others.names ∙ a.others.names;
     after = b.others.after ∙ a.others.after;
     mag_set = b.others.mag_set ∙ a.others.mag_set;
+    conditionals = b.others.conditionals ∙ a.others.conditionals;
     last = b.others.last ∙ a.others.last;
     naming = b.others.naming ∙ a.others.naming;
     in_line = b.others.in_line ∙ a.others.in_line;
@@ -310,7 +311,7 @@ pub same_front : (e : Engine) (j : Stored) → j ≡ record e.input { lists = j.
 same_front e j a k = making_front e j e.input.making a k
 
 pub front_sound : (sizes : Sizes) (e e' : Engine) (book : Book) → IsInFront e e' → IsSound sizes e book.number book.macros → IsSound sizes e' book.number book.macros
-front_sound sizes e e' book h sound = sound_still sizes e e' book.number book.macros h.others.sizes h.others.depth h.others.names h.others.reports h.store sound
+front_sound sizes e e' book h sound = sound_still sizes e e' book.number book.macros h.others.sizes h.others.depth h.others.conditionals h.others.names h.others.reports h.store sound
 
 -- the list that is made
 pub some_made : (o : Option (List Token)) → IsSome o → o ≡ Some (made_list o)

@@ -91,7 +91,7 @@ listed e builds lists = record e { input = record e.input { builds = builds; lis
 
 pub listed_sound : (sizes : Sizes) (e e' : Engine) (builds : List (List Token)) (number : ℕ → ℕ) (macros : List (List Token)) → e' ≡ listed e builds e'.input.lists → KeepsMacros e.input e'.input → IsSound sizes e number macros → IsSound sizes e' number macros
 listed_sound sizes e e' builds number macros is kept h =
-    sound_still sizes e e' number macros (ap (λ (x : Engine). x.sizes) is) (ap (λ (x : Engine). x.readings.size) is) (ap (λ (x : Engine). x.names) is) (ap (λ (x : Engine). x.reports) is)
+    sound_still sizes e e' number macros (ap (λ (x : Engine). x.sizes) is) (ap (λ (x : Engine). x.readings.size) is) (ap (λ (x : Engine). x.conditionals) is) (ap (λ (x : Engine). x.names) is) (ap (λ (x : Engine). x.reports) is)
     (store_gathered e.input e'.input builds (ap (λ (x : Engine). x.input) is) kept) h
 
 -- WORDS

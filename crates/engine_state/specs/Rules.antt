@@ -12,7 +12,6 @@ use Rattle.tex_defs.specs.declared.Seen.{Seen}
 use Rattle.tex_defs.specs.declared.Token.{Token as PlainToken}
 use Rattle.tex_defs.specs.declared.Sizes.{Sizes}
 use Rattle.plain_state.specs.Reports.{report_bytes, error_message_bytes, runaway_bytes}
-use Rattle.tex_defs.specs.declared.Name.{Name}
 use Rattle.plain_tokens.specs.Lex.{Lexeme}
 use Rattle.plain_tokens.specs.Lookup.{new_name, token_of}
 use Rattle.plain_tokens.specs.Meanings.{met as met_token}
@@ -20,14 +19,18 @@ use Rattle.plain_tokens.specs.Tokens.{space_token}
 use Rattle.rows.specs.Readings.{More}
 use Rattle.plain_readings.specs.Readings.{Reading}
 use Rattle.plain_readings.specs.Scanning.{Scanning, scanning}
+use Rattle.plain_readings.specs.Scanning as machine
+use Rattle.reading_frames.specs.declared.ask.Found.{Found}
+use Rattle.reading_frames.specs.declared.ask.Found.TheVariants as found
 use Rattle.plain_machine.specs.States.{State, Move, Written, Reported}
 use Rattle.plain_tokens.specs.Pending.{pulled}
 use Rattle.plain_machine.specs.Numbers.{pending_of}
-use Rattle.plain_machine.specs.Plan.{Page, style_of, planned, stomach, wanted, feeding, first_list, handed, met, reported, reported_as, behind_report, entered, enters_names, reports_room}
+use Rattle.plain_machine.specs.Plan.{Page, style_of, planned, stomach, wanted, feeding, first_list, handed, met, reported, reported_as, behind_report, entered, enters_names, incomplete, reports_room}
 use Rattle.plain_machine.specs.Runs.{steps}
 use Rattle.plain_machine.specs.Does.{Did, Cut, Why, IsFull, IsFault, IsWant}
 use Rattle.world_io.specs.Told.{FilesTold, SinkTold, world}
 use Rattle.engine_state.specs.declared.broken.Broken.{Broken}
+use Rattle.engine_state.specs.declared.check.Check.{Check}
 use Rattle.engine_state.specs.declared.engine.Engine.{Engine}
 use Rattle.engine_state.specs.declared.outcome.Ruled.{Ruled}
 use Rattle.engine_state.specs.declared.outcome.Ruled.TheVariants.{Step, Free, Halted}
@@ -36,6 +39,7 @@ use Rattle.engine_state.specs.declared.outcome.Next.TheVariants.{Token, Line, Sk
 use Rattle.tex_defs.specs.declared.Fatal.TheVariants.{HundredErrors}
 use Rattle.engine_state.specs.Faults.{why_of}
 use Rattle.input_state.specs.Stored.{gathered}
+use Rattle.engine_state.specs.Begins.{away_moves, check_report}
 use Rattle.engine_state.specs.Book.{Book}
 use Rattle.engine_state.specs.Calls.{AllStand, work_or_none}
 use Rattle.engine_state.specs.Steps.{asked}
@@ -137,9 +141,28 @@ abbrev pub IsScanned : Scanned → ℕ → Engine → Type 0
 IsScanned scanned.Use k e = IsTaking e.input.call
 IsScanned what k e = k < length e.input.builds
 
--- such a thing is scanned, under this name
-abbrev pub Scans : (Scanned × Name × ℕ) → Engine → Book → Type 0
-Scans s e book = scanning_of e book.work ≡ Some (record { what = s.0; name = s.1; list = scanned_list s.0 s.2 e })
+-- what is found is such a thing, or text that is skipped
+abbrev pub IsFound : Found → Engine → Type 0
+IsFound (found.Builds what name k) e = IsScanned what k e
+IsFound (found.Skipped line) e = Unit {0}
+
+-- a list that it builds is held
+abbrev pub IsListed : Found → Engine → Type 0
+IsListed (found.Builds what name k) e = k < length e.input.builds
+IsListed (found.Skipped line) e = Unit {0}
+
+-- what is found is what the machine scans
+abbrev pub scanned_as : Found → Engine → Scanning
+scanned_as (found.Builds what name k) e = machine.Builds what name (scanned_list what k e)
+scanned_as (found.Skipped line) e = machine.Skipped line
+
+abbrev pub Finds : Found → Engine → Book → Type 0
+Finds x e book = scanning_of e book.work ≡ Some (scanned_as x e)
+
+-- what comes of it at a check: it runs away, or text that is skipped ends with a `\fi` that is inserted
+abbrev pub check_moves : Engine → Page → Check → Found → (rest : List Move) → List Move
+check_moves e page check (found.Builds what name k) rest = away_moves page what (away_text what k e) (check_report check what name) rest
+check_moves e page check (found.Skipped line) rest = incomplete page line rest
 
 -- such a token is wanted: by a call that takes tokens, as it stands, by the innermost frame, or where no reading is open
 abbrev pub WantsHere : Option Call → Option Want → Engine → Type 0

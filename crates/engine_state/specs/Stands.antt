@@ -35,6 +35,7 @@ state_of e book = record {
   macros = book.macros;
   after = e.after;
   mag_set = e.mag_set;
+  conditionals = e.conditionals.items;
   last = e.last;
   work = book.work;
   gathered = gathered e.input;
@@ -56,6 +57,7 @@ page_of e book = record {
   tokens = tokens_after e.input.groups;
   after = e.after;
   mag_set = e.mag_set;
+  conditionals = e.conditionals.items;
   names = e.names.names;
   strings = e.names.others;
   macros = book.macros;
@@ -80,6 +82,7 @@ pub record IsSized (sizes : Sizes) (e : Engine) : Type 0 where
   pub small : sizes.expansion_depth < 4294967294
   pub own : e.sizes ≡ sizes
   pub readings : e.readings.size ≡ sizes.expansion_depth
+  pub conditionals : e.conditionals.size ≡ sizes.condition_stack_size
   pub input : e.input.sizes ≡ sizes
   pub names : e.names.sizes ≡ sizes
   pub located : length e.input.groups.now.meanings ≡ fixed_locations + length e.names.names
@@ -148,6 +151,7 @@ pub record SameOthers (e e' : Engine) : Type 0 where
   pub names : e'.names ≡ e.names
   pub after : e'.after ≡ e.after
   pub mag_set : e'.mag_set ≡ e.mag_set
+  pub conditionals : e'.conditionals ≡ e.conditionals
   pub last : e'.last ≡ e.last
   pub naming : e'.naming ≡ e.naming
   pub in_line : e'.in_line ≡ e.in_line
@@ -163,6 +167,7 @@ pub record SameElse (e e' : Engine) : Type 0 where
   pub names : e'.names ≡ e.names
   pub after : e'.after ≡ e.after
   pub mag_set : e'.mag_set ≡ e.mag_set
+  pub conditionals : e'.conditionals ≡ e.conditionals
   pub naming : e'.naming ≡ e.naming
   pub in_line : e'.in_line ≡ e.in_line
   pub reports : e'.reports ≡ e.reports

@@ -1,7 +1,6 @@
 // The checks: where a file has ended, or the name of an `\outer` macro has come, while something is scanned.
 // *The TeXbook*, chapter 20; *TeX: The Program*, part 24 (`check_outer_validity`).
-ghost use Rattle.std.specs.Prelude.{◌≡◌, ◌≤◌, ◌+◌, List, [], ◌∷◌, ◌++◌, IfOk, IfErr, IfSome, OnOk, OnErr, Option, Some, None, true, false, IsSome};
-ghost use Rattle.tex_syntax.specs.declared.words.Report.TheVariants.{Forbidden};
+ghost use Rattle.std.specs.Prelude.{◌≡◌, ◌≤◌, ◌+◌, List, [], ◌∷◌, ◌++◌, IfOk, IfErr, IfSome, OnOk, OnErr, MatchBool, Option, Some, None, true, false, IsSome};
 ghost use Rattle.tex_syntax.specs.declared.words.Outcome.TheVariants.{AtFatal};
 ghost use Rattle.tex_syntax.specs.declared.words.Want.{Want};
 ghost use Rattle.tex_syntax.specs.declared.words.Scanned.TheVariants as scanned;
@@ -9,15 +8,16 @@ ghost use Rattle.tex_defs.specs.Places.{Transcript};
 ghost use Rattle.tex_defs.specs.declared.Sizes.{Sizes};
 ghost use Rattle.tex_defs.specs.declared.Fatal.TheVariants as fatal;
 ghost use Rattle.plain_machine.specs.States.{Move, Written};
-ghost use Rattle.plain_machine.specs.Plan.{Page, put_one, reported, reports_room, checked, check_noted, inserted_at};
+ghost use Rattle.plain_machine.specs.Plan.{Page, put_one, reported, reports_room, checked, check_noted, incomplete, inserted_at};
 ghost use Rattle.plain_machine.specs.Does.{Did};
 ghost use Rattle.world_io.specs.Told.{FilesTold};
 ghost use Rattle.engine_state.specs.Book.{Book};
 ghost use Rattle.engine_state.specs.Calls.{AllStand};
 ghost use Rattle.engine_state.specs.CutReadings.{CutsIn};
-ghost use Rattle.engine_state.specs.Begins.{away_moves};
+ghost use Rattle.engine_state.specs.Begins.{away_moves, check_report};
 ghost use Rattle.engine_state.specs.Stands.{SameFrames, SameReadings, OnlyColumn, state_of, page_of};
-ghost use Rattle.engine_state.specs.Rules.{world_of, onward_of, token_moves, space_moves, scanning_of, Takes, Cuts, Halts, DoesOnward, away_text, IsScanned, Scans, Wants, Meets, Behind};
+ghost use Rattle.engine_state.specs.Rules.{world_of, onward_of, token_moves, space_moves, scanning_of, Takes, Cuts, Halts, DoesOnward, away_text, check_moves, IsScanned, IsFound, IsListed, Finds, Wants, Meets, Behind};
+ghost use Rattle.engine_state.specs.declared.check.Check.TheVariants.{Forbidden};
 ghost use Rattle.engine_state.specs.Steps.{IsFree, IsHalted, weight};
 ghost use Rattle.input_state.specs.CallFeeds.{with_scan};
 ghost use Rattle.macro_call.specs.PlainScans.{cut_scan};
@@ -26,39 +26,70 @@ use crate::broken::Broken;
 use crate::engine::Engine;
 use crate::meaning::is_outer;
 use crate::outcome::Ruled;
-use tex_defs::{Fatal, Name, Seen, Sizes, Token};
+use reading_frames::Found;
+use tex_defs::{Fatal, Frozen, Name, Seen, Sizes, Token};
 use tex_syntax::{Outcome, Report, Scanned};
 use world_io::Sink;
 
+/// Why a check comes.
+#[derive(Clone, Copy)]
+pub(crate) enum Check {
+    /// A file has ended.
+    FileEnded,
+    /// The name of an `\outer` macro has come.
+    Forbidden,
+}
+
+impl Check {
+    /// The report where this runs away, which is read under this name.
+    fn report(self, what: Scanned, name: Name) -> Report
+        ensures { result ≡ check_report self what name }
+    {
+        match self {
+            Check::FileEnded => Report::FileEnded(what, name),
+            Check::Forbidden => Report::Forbidden(what, name),
+        }
+    }
+}
+
 impl Engine {
-    /// What is scanned, with the name of the macro or the command, and the number of its list among those of the frames: a call that takes
-    /// tokens, or a text or a definition.
-    fn scanned(&self) -> Option<(Scanned, Name, u32)>
-        ensures is { IfSome result (λ s. IsScanned s.0 s.2 self.now) }
-        ensures some { IfSome result (λ s. (sizes : Sizes) (book : Book) (want : Option Want) → Takes sizes want self.now book → Scans (s.0, s.1, s.2) self.now book × IsSome want) }
+    /// What is scanned: a call that takes tokens; or a text or a definition, or text that is skipped.
+    fn scanned(&self) -> Option<Found>
+        ensures is { IfSome result (λ found. IsFound found self.now) }
+        ensures some { IfSome result (λ found. (sizes : Sizes) (book : Book) (want : Option Want) → Takes sizes want self.now book → Finds found self.now book × IsSome want) }
         ensures none { result ≡ None → (sizes : Sizes) (book : Book) (want : Option Want) → Takes sizes want self.now book → scanning_of self.now book.work ≡ None }
     {
         match self.call {
-            Some(call) if self.input.is_taking() => Some((Scanned::Use, call.name, 0)),
+            Some(call) if self.input.is_taking() => Some(Found::Builds(Scanned::Use, call.name, 0)),
             Some(_) => None,
             None => self.scanned_frame(),
         }
     }
 
-    /// What the frames scan, where its list is held.
-    fn scanned_frame(&self) -> Option<(Scanned, Name, u32)>
+    /// What the frames scan; a list that is built is held.
+    fn scanned_frame(&self) -> Option<Found>
         requires { self.now.call ≡ None }
-        ensures is { IfSome result (λ s. IsScanned s.0 s.2 self.now) }
-        ensures some { IfSome result (λ s. (sizes : Sizes) (book : Book) (want : Option Want) → Takes sizes want self.now book → Scans (s.0, s.1, s.2) self.now book × IsSome want) }
+        ensures is { IfSome result (λ found. IsFound found self.now) }
+        ensures some { IfSome result (λ found. (sizes : Sizes) (book : Book) (want : Option Want) → Takes sizes want self.now book → Finds found self.now book × IsSome want) }
         ensures none { result ≡ None → (sizes : Sizes) (book : Book) (want : Option Want) → Takes sizes want self.now book → scanning_of self.now book.work ≡ None }
     {
-        let Some(scanned) = self.readings.scanned() else {
+        let Some(found) = self.readings.scanned() else {
             return None;
         };
-        if (scanned.2 as usize) < self.input.list_count() {
-            Some(scanned)
+        if self.has_list_of(found) {
+            Some(found)
         } else {
             None
+        }
+    }
+
+    /// Whether the list that is built by what is found is held; text that is skipped has none.
+    fn has_list_of(&self, found: Found) -> bool
+        ensures { MatchBool result (IsListed found self.now) (IsListed found self.now → ⊥) }
+    {
+        match found {
+            Found::Builds(_, _, number) => (number as usize) < self.input.list_count(),
+            Found::Skipped(_) => true,
         }
     }
 
@@ -145,27 +176,72 @@ impl Engine {
         self.report_check(out, what, number, report)
     }
 
-    /// The name of an `\outer` macro comes where something is scanned: it is put back, what is scanned runs away, and a
+    /// Text is skipped, from this line on: a `\fi` is inserted, and the conditional reported as incomplete. Answers whether the run goes on behind it.
+    fn insert_fi<S: Sink>(&mut self, out: &mut S, line: u64) -> Result<bool, Broken>
+        requires idle { self.old.input.making ≡ None }
+        ensures on { IfOk result (λ on. on ≡ true → (sizes : Sizes) (f : FilesTold) (book : Book) (want space : Option Want) (page : Page) → Takes sizes want self.old book →
+            Behind sizes want space (state_of self.old book) self.new book page (world_of f (S.told out.old) self.old) (world_of f (S.told out.new) self.new) (incomplete (page_of self.old book) line (space_moves page space book.work))) }
+        ensures last { IfOk result (λ on. on ≡ false → (sizes : Sizes) (f : FilesTold) (book : Book) (rest : List Move) → AllStand sizes self.old book →
+            Halts sizes (state_of self.old book) self.new book (world_of f (S.told out.old) self.old) (world_of f (S.told out.new) self.new) (incomplete (page_of self.old book) line rest) (AtFatal fatal.HundredErrors) 0) }
+        ensures err { IfErr result (λ b. (sizes : Sizes) (f : FilesTold) (book : Book) (rest : List Move) → AllStand sizes self.old book →
+            CutsIn sizes (state_of self.old book) self.new (world_of f (S.told out.old) self.old) (world_of f (S.told out.new) self.new) (incomplete (page_of self.old book) line rest) b) }
+        ensures frames { SameFrames self.old self.new }
+        ensures still { OnOk result (weight self.new ≡ weight self.old) }
+        ensures idle { OnOk result (self.new.input.making ≡ None) }
+    {
+        self.put_one(FI)?;
+        let test = self.conditionals.innermost_test();
+        self.report(out, Report::IncompleteConditional(test, line))
+    }
+
+    /// What is scanned runs away, or text that is skipped ends. Answers whether the run goes on behind it.
+    fn break_off<S: Sink>(
+        &mut self,
+        out: &mut S,
+        check: Check,
+        found: Found,
+    ) -> Result<bool, Broken>
+        requires idle { self.old.input.making ≡ None }
+        requires asked { IsFound found self.old }
+        ensures on { IfOk result (λ on. on ≡ true → (sizes : Sizes) (f : FilesTold) (book : Book) (want space : Option Want) (page : Page) → Takes sizes want self.old book →
+            Behind sizes want space (state_of self.old book) self.new book page (world_of f (S.told out.old) self.old) (world_of f (S.told out.new) self.new) (check_moves self.old (page_of self.old book) check found (space_moves page space book.work))) }
+        ensures last { IfOk result (λ on. on ≡ false → (sizes : Sizes) (f : FilesTold) (book : Book) (rest : List Move) → AllStand sizes self.old book →
+            Halts sizes (state_of self.old book) self.new book (world_of f (S.told out.old) self.old) (world_of f (S.told out.new) self.new) (check_moves self.old (page_of self.old book) check found rest) (AtFatal fatal.HundredErrors) 0) }
+        ensures err { IfErr result (λ b. (sizes : Sizes) (f : FilesTold) (book : Book) (rest : List Move) → AllStand sizes self.old book →
+            CutsIn sizes (state_of self.old book) self.new (world_of f (S.told out.old) self.old) (world_of f (S.told out.new) self.new) (check_moves self.old (page_of self.old book) check found rest) b) }
+        ensures halts { IfOk result (λ on. on ≡ false → SameFrames self.old self.new) }
+        ensures still { OnOk result (weight self.new ≡ weight self.old) }
+        ensures readings { SameReadings self.old self.new }
+        ensures idle { OnOk result (self.new.input.making ≡ None) }
+    {
+        match found {
+            Found::Builds(what, name, number) => {
+                self.run_away(out, what, number, check.report(what, name))
+            }
+            Found::Skipped(line) => self.insert_fi(out, line),
+        }
+    }
+
+    /// The name of an `\outer` macro comes where something is scanned: it is put back, what is scanned breaks off, and a
     /// space takes its place.
     fn forbid<S: Sink>(
         &mut self,
         out: &mut S,
         token: Token,
-        scanned: (Scanned, Name, u32),
+        found: Found,
     ) -> Result<Option<Seen>, Broken>
         requires idle { self.old.input.making ≡ None }
-        requires asked { IsScanned scanned.0 scanned.2 self.old }
+        requires asked { IsFound found self.old }
         ensures rule { IfOk result (λ met. (sizes : Sizes) (f : FilesTold) (book : Book) (want : Want) → Takes sizes (Some want) self.old book →
-            Meets sizes (Some want) (state_of self.old book) self.new book (world_of f (S.told out.old) self.old) (world_of f (S.told out.new) self.new) (put_one token ++ away_moves (page_of self.old book) scanned.0 (away_text scanned.0 scanned.2 self.old) (Forbidden scanned.0 scanned.1) (space_moves (page_of self.old book) (Some want) book.work)) met) }
+            Meets sizes (Some want) (state_of self.old book) self.new book (world_of f (S.told out.old) self.old) (world_of f (S.told out.new) self.new) (put_one token ++ check_moves self.old (page_of self.old book) Forbidden found (space_moves (page_of self.old book) (Some want) book.work)) met) }
         ensures err { IfErr result (λ b. (sizes : Sizes) (f : FilesTold) (book : Book) (rest : List Move) → AllStand sizes self.old book →
-            CutsIn sizes (state_of self.old book) self.new (world_of f (S.told out.old) self.old) (world_of f (S.told out.new) self.new) (put_one token ++ away_moves (page_of self.old book) scanned.0 (away_text scanned.0 scanned.2 self.old) (Forbidden scanned.0 scanned.1) rest) b) }
+            CutsIn sizes (state_of self.old book) self.new (world_of f (S.told out.old) self.old) (world_of f (S.told out.new) self.new) (put_one token ++ check_moves self.old (page_of self.old book) Forbidden found rest) b) }
         ensures halts { IfOk result (λ met. met ≡ None → SameFrames self.old self.new) }
         ensures readings { SameReadings self.old self.new }
         ensures idle { OnOk result (self.new.input.making ≡ None) }
     {
         self.put_one(token)?;
-        let (what, name, number) = scanned;
-        if self.run_away(out, what, number, Report::Forbidden(what, name))? {
+        if self.break_off(out, Check::Forbidden, found)? {
             return Ok(Some(self.input.met(SPACE)));
         }
         Ok(None)
@@ -192,7 +268,7 @@ impl Engine {
             return Ok(Some(seen));
         }
         match self.scanned() {
-            Some(scanned) => self.forbid(out, token, scanned),
+            Some(found) => self.forbid(out, token, found),
             None => Ok(Some(seen)),
         }
     }
@@ -211,8 +287,8 @@ impl Engine {
         ensures idle { OnOk result (self.new.input.making ≡ None) }
     {
         match self.scanned() {
-            Some((what, name, number)) => {
-                if self.run_away(out, what, number, Report::FileEnded(what, name))? {
+            Some(found) => {
+                if self.break_off(out, Check::FileEnded, found)? {
                     return Ok(Ruled::Step);
                 }
                 Ok(Ruled::Halted(Outcome::AtFatal(Fatal::HundredErrors)))
@@ -227,6 +303,9 @@ pub const PAR: Token = Token::Named(Name::Word(5));
 
 /// A `}`, as it is inserted.
 const RIGHT_BRACE: Token = Token::Char { cat: 2, code: 125 };
+
+/// The frozen `\fi`, which no assignment changes.
+const FI: Token = Token::Named(Name::Frozen(Frozen::Fi));
 
 /// A space token.
 const SPACE: Token = Token::Char { cat: 10, code: 32 };

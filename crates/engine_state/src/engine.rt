@@ -13,6 +13,7 @@ ghost use Rattle.engine_state.specs.First.{Begins};
 
 use crate::broken::Broken;
 use crate::call::Call;
+use conditionals::Conditionals;
 use input_state::Input;
 use name_table::NameTable;
 use reading_frames::Readings;
@@ -33,6 +34,8 @@ pub struct Engine {
     pub after: Option<Token>,
     /// The magnification that a check has set for good, or 0 before the first: TeX's `mag_set`.
     pub mag_set: u16,
+    /// The open conditionals.
+    pub conditionals: Conditionals,
     /// The token that a reading was fed with last.
     pub last: Seen,
     /// Whether a file's name is being read: TeX's `name_in_progress`.
@@ -50,16 +53,17 @@ pub struct Engine {
 }
 
 /// The primitives that mean something: those that a row reads, and `\\relax`, `\\begingroup`, `\\endgroup`, `\\endcsname`, `\\par`, `\\end`,
-/// `\\csname`, `\\jobname`, `\\input` and `\\endinput`.
+/// `\\csname`, `\\jobname`, `\\input`, `\\endinput`, `\\fi`, `\\else`, `\\or`, and the conditionals that read nothing.
 const KNOWN: &[u16] = &[
     1, 2, 3, 4, 5, 6, 8, 9, 10, 11, 12, 13, 14, 15, 16, 23, 24, 25, 26, 27, 28, 29, 30, 31, 32, 33,
     34, 35, 36, 37, 38, 39, 40, 41, 42, 43, 44, 45, 46, 47, 48, 49, 50, 51, 52, 54, 55, 56, 57, 58,
-    59, 60, 61, 62, 63, 64, 85, 86, 87, 88, 89, 90, 91, 92, 93, 94, 95, 96, 97, 98, 99, 100, 101,
-    102, 103, 104, 105, 106, 107, 108, 109, 110, 111, 112, 113, 114, 115, 116, 117, 118, 119, 120,
-    121, 122, 123, 124, 125, 126, 127, 128, 129, 130, 131, 132, 133, 134, 135, 136, 137, 138, 139,
-    140, 141, 142, 143, 144, 145, 146, 147, 148, 149, 150, 151, 152, 153, 154, 155, 156, 157, 158,
-    159, 160, 161, 162, 163, 164, 165, 166, 167, 168, 169, 170, 171, 172, 173, 174, 175, 176, 177,
-    178, 179, 180, 181, 182, 183, 184, 185, 186,
+    59, 60, 61, 62, 63, 64, 65, 66, 67, 68, 69, 70, 71, 72, 73, 74, 75, 76, 77, 79, 80, 81, 82, 83,
+    84, 85, 86, 87, 88, 89, 90, 91, 92, 93, 94, 95, 96, 97, 98, 99, 100, 101, 102, 103, 104, 105,
+    106, 107, 108, 109, 110, 111, 112, 113, 114, 115, 116, 117, 118, 119, 120, 121, 122, 123, 124,
+    125, 126, 127, 128, 129, 130, 131, 132, 133, 134, 135, 136, 137, 138, 139, 140, 141, 142, 143,
+    144, 145, 146, 147, 148, 149, 150, 151, 152, 153, 154, 155, 156, 157, 158, 159, 160, 161, 162,
+    163, 164, 165, 166, 167, 168, 169, 170, 171, 172, 173, 174, 175, 176, 177, 178, 179, 180, 181,
+    182, 183, 184, 185, 186,
 ];
 
 /// Before a reading is fed with a token.
@@ -92,6 +96,13 @@ impl Engine {
                 return Err(e);
             }
         };
+        let conditionals = match Conditionals::new(alloc, sizes.condition_stack_size) {
+            Ok(conditionals) => conditionals,
+            Err(e) => {
+                input.close();
+                return Err(e);
+            }
+        };
         Ok(Engine {
             sizes: *sizes,
             input,
@@ -100,6 +111,7 @@ impl Engine {
             call: None,
             after: None,
             mag_set: 0,
+            conditionals,
             last: NO_TOKEN,
             naming: false,
             in_line: false,
@@ -120,6 +132,7 @@ impl Engine {
             call: _,
             after: _,
             mag_set: _,
+            conditionals: _,
             last: _,
             naming: _,
             in_line: _,

@@ -1,12 +1,14 @@
-//! The engine of a run: what it keeps of the plain machine's state, its next token, its reports and its open readings.
+//! The engine of a run: what it keeps of the plain machine's state, its next token, its reports, its open readings and its
+//! open conditionals.
 //!
 //! An [`Engine`] stands for a state of the plain machine (`AllStand` in `specs`, beside a `Book`). Each of its calls says which moves of the
-//! machine it makes, what it writes, and where it was cut off. *TeX: The Program*, parts 6 and 22 to 25.
+//! machine it makes, what it writes, and where it was cut off. *TeX: The Program*, parts 6, 22 to 25 and 28.
 #![tactic(auto)]
 
 mod broken;
 mod call;
 mod check;
+mod conditional;
 mod engine;
 mod files;
 mod front;

@@ -21,7 +21,7 @@ ghost use Rattle.reading_frames.specs.Sees.{kept_list_of};
 ghost use Rattle.engine_state.specs.Book.{Book};
 ghost use Rattle.engine_state.specs.Calls.{AllStand, argument_bytes};
 ghost use Rattle.engine_state.specs.Lists.{list_at};
-ghost use Rattle.engine_state.specs.Begins.{outcome_of_last, last_moves, last_bytes};
+ghost use Rattle.engine_state.specs.Begins.{outcome_of_last, last_moves, last_bytes, last_written};
 ghost use Rattle.engine_state.specs.Stands.{IsSized, IsSound, SameFrames, OnlyColumn, state_of, page_of, own_style};
 ghost use Rattle.engine_state.specs.Rules.{world_of, list_number, counted, CountsOn, Cuts, Reports, ReportsAs, Halts, DoesOnward};
 ghost use Rattle.engine_state.specs.Steps.{IsFree};
@@ -357,10 +357,24 @@ impl Engine {
         }
     }
 
-    /// Writes what the machine writes where it stops, and ends the run.
+    /// Writes what the machine writes where it stops.
+    fn write_last<S: Sink>(&mut self, out: &mut S, last: Last) -> Result<(), Broken>
+        ensures did { OnOk result ((sizes : Sizes) (f : FilesTold) (book : Book) → Did sizes (state_of self.old book) (state_of self.new book) (world_of f (S.told out.old) self.old) (world_of f (S.told out.new) self.new) (last_written (page_of self.old book) last)) }
+        ensures err { IfErr result (λ b. (sizes : Sizes) (f : FilesTold) (book : Book) (more : List Move) → Cuts sizes (state_of self.old book) self.new book (world_of f (S.told out.old) self.old) (world_of f (S.told out.new) self.new) (last_written (page_of self.old book) last ++ more) b) }
+        ensures only { OnlyColumn self.old self.new }
+    {
+        let text = self.last_text(last);
+        self.write_text(out, text.bytes())?;
+        match last {
+            Last::End => self.write_conditionals_left(out),
+            Last::NoEnd => Ok(()),
+        }
+    }
+
+    /// Writes what the machine writes where it stops, with a line for each open conditional at `\end`, and ends the run.
     ///
     /// # Errors
-    /// A write failed or wanted memory: a front of the text was written.
+    /// A write failed or wanted memory: a front of what it writes was written.
     pub fn halt<S: Sink>(&mut self, out: &mut S, last: Last) -> Result<Ruled, Broken>
         requires idle { self.old.input.making ≡ None }
         ensures rule { IfOk result (λ ruled. (sizes : Sizes) (f : FilesTold) (book : Book) →
@@ -371,8 +385,7 @@ impl Engine {
         ensures input { self.new.input ≡ self.old.input }
         ensures idle { OnOk result (self.new.input.making ≡ None) }
     {
-        let text = self.last_text(last);
-        self.write_text(out, text.bytes())?;
+        self.write_last(out, last)?;
         Ok(Ruled::Halted(last.outcome()))
     }
 }

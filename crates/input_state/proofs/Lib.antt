@@ -50,3 +50,4 @@ pub mod Innermost
 pub mod AtOnce
 pub mod Copying
 pub mod Lengthening
+pub mod Alike

@@ -5,7 +5,8 @@ use Rattle.tex_defs.specs.declared.Token.TheVariants.{EndPlaces}
 use Rattle.tex_defs.specs.declared.Name.{Name}
 use Rattle.tex_defs.specs.declared.Meaning.{Meaning}
 use Rattle.tex_defs.specs.declared.Meaning.TheVariants as means
-use Rattle.plain_tokens.specs.Meanings.{is_listed, name_meaning}
+use Rattle.tex_defs.specs.declared.Seen.{Seen}
+use Rattle.plain_tokens.specs.Meanings.{is_listed, name_meaning, meaning_to_let}
 use Rattle.equivalents.specs.Groups.{Groups, set_name}
 use Rattle.equivalents.specs.Holding.{lists_held, lists_outside}
 use Rattle.plain_tokens.specs.Arguments.{has_parameters, begins_with_place}
@@ -39,6 +40,10 @@ text_of lists meanings name = macro_text lists (name_meaning meanings name)
 -- the list of the first argument, which is begun with the call where the parameter text begins with its place
 abbrev pub begun_lists : (text : List Token) → List (List Token)
 begun_lists text = if begins_with_place text then [] ∷ [] else []
+
+-- the list of the macro that a token means, as `\let` would give it
+abbrev pub list_to_let : List (List Token) → List (Meaning (Option ℕ)) → Seen → List Token
+list_to_let lists meanings x = macro_text lists (meaning_to_let meanings x)
 
 -- what is put where nothing is gathered
 abbrev pub called_put : List (List Token) → Meaning (Option ℕ) → Put

@@ -1,6 +1,7 @@
 // Lists with more than one holder.
 ghost use Rattle.std.specs.Prelude.{◌≡◌, ℕ, ◌+◌, ◌<◌, ◌^◌, None, Some, IfSome, MatchOption};
 ghost use Rattle.plain_tokens.specs.Arguments.{has_parameters};
+ghost use Rattle.plain_tokens.specs.Meanings.{meaning_to_let};
 ghost use Rattle.token_lists.specs.Table.{IsHeld, holders_at, tokens_at};
 ghost use Rattle.token_lists.specs.Ids.{id_of};
 ghost use Rattle.token_lists.specs.Accounts.{Moves, Keeps, holds, none};
@@ -10,13 +11,14 @@ ghost use Rattle.input_stack.specs.Lasting.{Lasts};
 ghost use Rattle.input_state.specs.Calls.{is_end_mark};
 ghost use Rattle.input_state.specs.Standing.{list_number};
 ghost use Rattle.equivalents.specs.Groups.{IsLocation};
+ghost use Rattle.equivalents.specs.Holding.{list_of};
 ghost use Rattle.equivalents.specs.Locations.{tokens_of};
 ghost use Rattle.eqtb_save.specs.Values.{numbered};
 ghost use Rattle.eqtb_save.specs.Holding.{held};
 
 use eqtb_save::{Eqtb, Loc, Val, Value};
 use macro_args::Args;
-use tex_defs::Token;
+use tex_defs::{Meaning, Seen, Token};
 use token_lists::{ListRef, Lists};
 
 // The mark between a macro's parameter text and its body.
@@ -86,4 +88,16 @@ pub fn standing(table: &Eqtb, loc: Loc) -> Option<&ListRef>
     ensures held { IfSome result (λ r. 0 < held table.now (id_of r.now)) }
 {
     list_of(table.get(loc))
+}
+
+/// The list of the macro that a token means, as `\let` would give it, if it means one with a list.
+pub fn list_to_let(table: &Eqtb, x: Seen) -> Option<&ListRef>
+    ensures list { MatchOption result (list_of (meaning_to_let table.now.groups.now.meanings x) ≡ None) (λ r. list_of (meaning_to_let table.now.groups.now.meanings x) ≡ Some (id_of r.now)) }
+    ensures held { IfSome result (λ r. 0 < held table.now (id_of r.now)) }
+{
+    match (x.meaning, x.token) {
+        (Meaning::RelaxMarked, _) => None,
+        (_, Token::Named(name) | Token::Marked(name)) => table.list(name),
+        _ => None,
+    }
 }

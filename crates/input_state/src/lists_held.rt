@@ -13,6 +13,7 @@ ghost use Rattle.equivalents.specs.Cases.{case_codes, case_changed};
 ghost use Rattle.eqtb_save.specs.Values.{numbered};
 ghost use Rattle.eqtb_save.specs.Holding.{val_holds, held};
 ghost use Rattle.meanings.specs.Holding.{Lasts};
+ghost use Rattle.plain_tokens.specs.Arguments.{are_same};
 ghost use Rattle.plain_tokens.specs.Puts.{settled, passed, with_put, token_put, grow_first, grown_by};
 ghost use Rattle.plain_tokens.specs.Pending.{pulled};
 ghost use Rattle.plain_tokens.specs.Tables.{lists_words, memory, refused};
@@ -28,7 +29,7 @@ ghost use Rattle.input_state.specs.HeldAppends.{HeldShort, held_appended, held_a
 ghost use Rattle.meanings.specs.Kept.{IsPlaced, without_list};
 ghost use Rattle.input_state.specs.HeldViews.{IsDefined};
 ghost use Rattle.input_state.specs.Macros.{HasNameRoom, IsPlaceOf, list_at};
-ghost use Rattle.input_state.specs.Calls.{call_kind, called_put, called, put_of, text_of, begun_lists, Defines};
+ghost use Rattle.input_state.specs.Calls.{call_kind, called_put, called, put_of, text_of, list_to_let, begun_lists, Defines};
 ghost use Rattle.input_state.specs.declared.answer.CallKind.TheVariants.{AtOnce, Gathers};
 ghost use Rattle.input_state.specs.Standing.{SetsList, standing_put, standing_tokens, appended, appended_made};
 ghost use Rattle.input_state.specs.Callings.{NotCalling, IsComplete};
@@ -44,7 +45,7 @@ ghost use Rattle.input_state.specs.Given.{GivesMore, GivesOrRefuses, answer_of, 
 
 use crate::appending::{Change, append, append_from};
 use crate::gathering::{Gathering, begin as begin_call, feed};
-use crate::holders::{give_back, has_parameters, let_go, share, standing};
+use crate::holders::{give_back, has_parameters, let_go, list_to_let, share, standing};
 use crate::places::behind;
 use crate::{CallKind, CallTold, Pulled};
 use eqtb_save::{Closed, Eqtb, Glue, GroupKind, Loc, Val, Value, name_loc};
@@ -942,6 +943,17 @@ impl Held {
         ensures tokens { MatchOption result.1 (text_of self.now.lists self.now.groups.now.meanings name ≡ []) (λ r. tokens_at result.0.now (id_of r.now) ≡ text_of self.now.lists self.now.groups.now.meanings name) }
     {
         (&self.lists, self.table.list(name))
+    }
+
+    /// Whether the macros that two tokens mean, as `\let` would give them, have the same tokens: a token that means no macro has none.
+    pub fn same_list(&self, x: Seen, y: Seen) -> bool
+        ensures { result ≡ are_same (list_to_let self.now.lists self.now.groups.now.meanings x) (list_to_let self.now.lists self.now.groups.now.meanings y) }
+    {
+        match (list_to_let(&self.table, x), list_to_let(&self.table, y)) {
+            (Some(a), Some(b)) => self.lists.same(a, b),
+            (None, None) => true,
+            _ => false,
+        }
     }
 
     /// The list of tokens that stands at a location, if one does, and the memory in which all lists stand.

@@ -11,6 +11,7 @@ ghost use Rattle.equivalents.specs.Tables.{get};
 ghost use Rattle.equivalents.specs.Groups.{first_groups, entered, set, set_name, set_demands, name_demands, group_demands, token_demands, opened, with_token, closed as group_closed, tokens_after, kind_of, depth, IsLocation};
 ghost use Rattle.equivalents.specs.Holding.{lists_held, lists_outside};
 ghost use Rattle.equivalents.specs.Laws.{AreAlike};
+ghost use Rattle.plain_tokens.specs.Arguments.{are_same};
 ghost use Rattle.plain_tokens.specs.Puts.{settled, passed, token_put, grow_first, grown_by};
 ghost use Rattle.plain_tokens.specs.Pending.{Begun, Closed, bottom, beneath, ending, pulled, settle, all_puts, put_front, line_taken, from_file, with_begun, with_end, with_next};
 ghost use Rattle.plain_tokens.specs.Tables.{is_put, lists_words, memory, level, buffer, open_files, open_lines, lines_beneath, next_line, next_file, text_level, spelt_name, refused};
@@ -25,7 +26,7 @@ ghost use Rattle.meanings.specs.Kept.{IsPlaced, without_list};
 ghost use Rattle.input_state.specs.declared.answer.CallKind.TheVariants.{AtOnce, Gathers};
 ghost use Rattle.input_state.specs.HeldViews.{IsDefined};
 ghost use Rattle.input_state.specs.Macros.{HasNameRoom, list_at};
-ghost use Rattle.input_state.specs.Calls.{call_kind, called_put, after_call, put_of, text_of, begun_lists, Defines};
+ghost use Rattle.input_state.specs.Calls.{call_kind, called_put, after_call, put_of, text_of, list_to_let, begun_lists, Defines};
 ghost use Rattle.input_state.specs.Callings.{NotCalling, IsComplete};
 ghost use Rattle.input_state.specs.Callings as calls;
 ghost use Rattle.input_state.specs.CallFeeds.{IsTaking, Feeds, CutShort, growth, with_scan, call_work};
@@ -945,6 +946,13 @@ impl Input {
         ensures tokens { MatchOption result.1 (text_of self.now.lists self.now.groups.now.meanings name ≡ []) (λ r. tokens_at result.0.now (id_of r.now) ≡ text_of self.now.lists self.now.groups.now.meanings name) }
     {
         self.held.macro_list(name)
+    }
+
+    /// Whether the macros that two tokens mean, as `\let` would give them, have the same tokens: a token that means no macro has none.
+    pub fn same_list(&self, x: Seen, y: Seen) -> bool
+        ensures { result ≡ are_same (list_to_let self.now.lists self.now.groups.now.meanings x) (list_to_let self.now.lists self.now.groups.now.meanings y) }
+    {
+        self.held.same_list(x, y)
     }
 
     /// The list of tokens that stands at a location, if one does, and the memory in which all lists stand.

@@ -5,7 +5,7 @@ use Rattle.std.specs.Fmt.{decimal}
 use Rattle.std.proofs.lemmas.List.{append-nil}
 use Rattle.std.proofs.lemmas.Grind.{flat_map-append}
 use Rattle.tex_syntax.specs.declared.words.Report.{Report}
-use Rattle.tex_syntax.specs.declared.words.Report.TheVariants.{UndefinedName, InvalidCharacter, ImproperConstant, MissingNumber, NumberTooBig, BadCharacterCode, BadRegisterCode, BadMathchar, CantUseAfter, DimensionTooLarge, IllegalUnit, IncompatibleMagnification, IllegalMagnification, ArithmeticOverflow, IncompatibleUnits, InvalidCode, CodeTooGreat, MissingBrace, FileEnded, Forbidden, MissingName, NotConsecutive, AlreadyNine, IllegalNumber, UseMismatch, ExtraBrace, ParagraphEnded, PrefixWith, LongOrOuterWith, MissingEndcsname, ExtraEndcsname, TooManyBraces, ForgottenEndgroup, ExtraEndgroup, MissingRightBrace}
+use Rattle.tex_syntax.specs.declared.words.Report.TheVariants.{UndefinedName, InvalidCharacter, ImproperConstant, MissingNumber, NumberTooBig, BadCharacterCode, BadRegisterCode, BadMathchar, CantUseAfter, DimensionTooLarge, IllegalUnit, IncompatibleMagnification, IllegalMagnification, ArithmeticOverflow, IncompatibleUnits, InvalidCode, CodeTooGreat, MissingBrace, FileEnded, Forbidden, MissingName, NotConsecutive, AlreadyNine, IllegalNumber, UseMismatch, ExtraBrace, ParagraphEnded, PrefixWith, LongOrOuterWith, MissingEndcsname, ExtraEndcsname, TooManyBraces, ForgottenEndgroup, ExtraEndgroup, MissingRightBrace, MissingRelation, ExtraFiOrElse, IncompleteConditional}
 use Rattle.tex_syntax.specs.declared.words.Scanned.{Scanned}
 use Rattle.tex_syntax.specs.declared.words.Scanned.TheVariants as scanned
 use Rattle.tex_syntax.specs.declared.words.UnitTaken.TheVariants as unit
@@ -32,6 +32,19 @@ module _ (f : ℕ → List ℕ) where
   -- a word behind the escape character
   pub word : (a p s l m x y z : List ℕ) → x ≡ a ++ flat_map f p → y ≡ x ++ flat_map f s → z ≡ y ++ flat_map f (l ++ m) → z ≡ a ++ flat_map f (p ++ ((s ++ l) ++ m))
   word a p s l m x y z h i j = rw (j, i, h) (simp (flat_map-append, append_assoc))
+
+  -- the same from the beginning, and three pieces as the end of a line
+  pub word_begun : (p s l m o x y z : List ℕ) → o ≡ [] → x ≡ o ++ flat_map f p → y ≡ x ++ flat_map f s → z ≡ y ++ flat_map f (l ++ m) → z ≡ flat_map f (p ++ ((s ++ l) ++ m))
+  word_begun p s l m o x y z k h i j = rw (j, i, h, k) (simp (flat_map-append, append_assoc))
+
+  pub three_line : (b c d o x y z line : List ℕ) → o ≡ [] → x ≡ o ++ flat_map f b → y ≡ x ++ flat_map f c → z ≡ y ++ flat_map f d → line ≡ z ++ 10 ∷ [] →
+      line ≡ flat_map f (b ++ (c ++ d)) ++ 10 ∷ []
+  three_line b c d o x y z line k h i j l = rw (l, j, i, h, k) (simp (flat_map-append, append_assoc))
+
+  -- a name between these
+  pub left_parts : (a b c name d before shown behind : List ℕ) → before ≡ flat_map f (a ++ (b ++ c)) → shown ≡ flat_map f name → behind ≡ flat_map f d ++ 10 ∷ [] →
+      before ++ (shown ++ behind) ≡ flat_map f (a ++ (b ++ (c ++ (name ++ d)))) ++ 10 ∷ []
+  left_parts a b c name d before shown behind h i j = rw (h, i, j) (simp (flat_map-append, append_assoc))
 
   -- two words behind the escape character
   pub prefix : (a p s l m o n x y z v w : List ℕ) → x ≡ a ++ flat_map f p → y ≡ x ++ flat_map f s → z ≡ y ++ flat_map f (l ++ m) → v ≡ z ++ flat_map f s → w ≡ v ++ flat_map f (o ++ n) →
@@ -156,6 +169,10 @@ report_is style TooManyBraces = refl
 report_is style ForgottenEndgroup = append-nil (opening style ForgottenEndgroup)
 report_is style ExtraEndgroup = append-nil (opening style ExtraEndgroup)
 report_is style MissingRightBrace = refl
+report_is style (MissingRelation number) = ap (λ (t : List ℕ). codes "Missing = inserted for " ++ t) (append-nil (subject style (MissingRelation number)))
+report_is style (ExtraFiOrElse number) = ap (λ (t : List ℕ). codes "Extra " ++ t) (append-nil (subject style (ExtraFiOrElse number)))
+report_is style (IncompleteConditional number line) =
+    ap (λ (t : List ℕ). codes "Incomplete " ++ (subject style (IncompleteConditional number line) ++ t)) (append-nil (closing (IncompleteConditional number line)))
 
 pub report_parts : (style : Style) (b : Bool) (line : ℕ) (r : Report) (start before shown close last behind first second said : List ℕ) →
     start ≡ fresh_line b ++ printed_all style (codes "! ") → before ≡ start ++ printed_all style (opening style r) → shown ≡ printed_all style (subject style r) →
@@ -182,6 +199,13 @@ pub second_line_by : (newline newline' : ℤ) (b : Bool) (r : Report) (n : ℤ) 
     text ≡ fresh_line b ++ all_printed newline' (second_line (IncompatibleMagnification n earlier)) → text ≡ closing_printed newline b r
 second_line_by newline newline' b r n earlier text is e h =
     h ∙ ap (λ (m : ℤ). closing_printed m b (IncompatibleMagnification n earlier)) e ∙ ap (λ (x : Report). closing_printed newline b x) (sym is)
+
+-- the words behind the name of an open conditional, with a newline character that has another name
+abbrev begun_text : (line : ℕ) → List ℕ
+begun_text line = codes " on line " ++ (decimal line ++ codes " was incomplete)")
+
+pub begun_by : (newline newline' : ℤ) (line : ℕ) (text behind : List ℕ) → behind ≡ text → newline' ≡ newline → text ≡ all_printed newline' (begun_text line) ++ 10 ∷ [] → behind ≡ all_printed newline (begun_text line) ++ 10 ∷ []
+begun_by newline newline' line text behind is e h = is ∙ h ∙ ap (λ (n : ℤ). all_printed n (begun_text line) ++ 10 ∷ []) e
 
 -- the report of a message
 pub message_parts : (style : Style) (b : Bool) (line : ℕ) (ts : List Token) (before shown behind : List ℕ) →

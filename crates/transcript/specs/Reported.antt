@@ -1,7 +1,7 @@
 -- What the engine's reports stand for, and the parts in which their texts and those of `\show` are written.
-use Rattle.std.specs.Prelude.{ℕ, ℤ, Bool, List, [], ◌++◌, codes}
+use Rattle.std.specs.Prelude.{ℕ, ℤ, Bool, List, [], ◌++◌, codes, decimal}
 use Rattle.tex_syntax.specs.declared.words.Report.{Report}
-use Rattle.tex_syntax.specs.declared.words.Report.TheVariants.{BadCharacterCode, BadRegisterCode, BadMathchar, IncompatibleMagnification, IllegalMagnification, CantUseAfter, InvalidCode, CodeTooGreat, FileEnded, Forbidden, IllegalNumber, UseMismatch, ExtraBrace, ParagraphEnded, PrefixWith, LongOrOuterWith, MissingEndcsname, ExtraEndcsname, ForgottenEndgroup, ExtraEndgroup}
+use Rattle.tex_syntax.specs.declared.words.Report.TheVariants.{BadCharacterCode, BadRegisterCode, BadMathchar, IncompatibleMagnification, IllegalMagnification, CantUseAfter, InvalidCode, CodeTooGreat, FileEnded, Forbidden, IllegalNumber, UseMismatch, ExtraBrace, ParagraphEnded, PrefixWith, LongOrOuterWith, MissingEndcsname, ExtraEndcsname, ForgottenEndgroup, ExtraEndgroup, MissingRelation, ExtraFiOrElse, IncompleteConditional}
 use Rattle.tex_syntax.specs.declared.words.Scanned.{Scanned}
 use Rattle.tex_defs.specs.declared.Token.{Token}
 use Rattle.tex_defs.specs.declared.Token.TheVariants.{Named, Marked}
@@ -31,6 +31,9 @@ opening style (ParagraphEnded name) = codes "Paragraph ended before "
 opening style (PrefixWith m) = codes "You can't use a prefix with `"
 opening style (CantUseAfter m number) = codes "You can't use `"
 opening style (LongOrOuterWith m) = prefix_opening style
+opening style (MissingRelation number) = codes "Missing = inserted for "
+opening style (ExtraFiOrElse number) = codes "Extra "
+opening style (IncompleteConditional number line) = codes "Incomplete "
 opening style r = report_text style r
 
 -- no number and no escape character stands in it
@@ -60,17 +63,25 @@ subject style (ParagraphEnded name) = name_text style name
 subject style (PrefixWith m) = meaning_head style m
 subject style (CantUseAfter m number) = meaning_head style m
 subject style (LongOrOuterWith m) = meaning_head style m
+subject style (MissingRelation number) = escaped style (primitive_word number)
+subject style (ExtraFiOrElse number) = escaped style (primitive_word number)
+subject style (IncompleteConditional number line) = escaped style (primitive_word number)
 subject style r = []
 
--- and what stands behind it
+-- and what stands behind it: words, and in one report a number behind them
+abbrev pub closing_words : Report → List ℕ
+closing_words (PrefixWith m) = codes "'"
+closing_words (CantUseAfter m number) = codes "' after "
+closing_words (LongOrOuterWith m) = codes "'"
+closing_words (UseMismatch name) = codes " doesn't match its definition"
+closing_words (ExtraBrace name) = codes " has an extra }"
+closing_words (ParagraphEnded name) = codes " was complete"
+closing_words (IncompleteConditional number line) = codes "; all text was ignored after line "
+closing_words r = []
+
 abbrev pub closing : Report → List ℕ
-closing (PrefixWith m) = codes "'"
-closing (CantUseAfter m number) = codes "' after "
-closing (LongOrOuterWith m) = codes "'"
-closing (UseMismatch name) = codes " doesn't match its definition"
-closing (ExtraBrace name) = codes " has an extra }"
-closing (ParagraphEnded name) = codes " was complete"
-closing r = []
+closing (IncompleteConditional number line) = closing_words (IncompleteConditional number line) ++ decimal line
+closing r = closing_words r
 
 -- The same, printed. Of a report with a second line it is all of that line but the dot, behind a line feed where the column isn't 0.
 abbrev pub closing_printed : (newline : ℤ) → (in_line : Bool) → Report → List ℕ

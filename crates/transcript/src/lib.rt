@@ -14,7 +14,7 @@ mod said;
 mod show;
 mod writing;
 
-pub use ends::{end_lines, hundred_line, no_end_lines, no_file_lines};
+pub use ends::{end_lines, hundred_line, no_end_lines, no_file_lines, write_end_in_conditional};
 pub use message::{empty_runaway, write_message, write_runaway, write_token_line};
 pub use report::{write_error_message, write_missing_file, write_report};
 pub use show::{write_shown_meaning, write_shown_value};

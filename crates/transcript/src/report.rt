@@ -4,12 +4,12 @@ ghost use Rattle.std.specs.Fmt.{decimal};
 ghost use Rattle.plain_state.specs.Reports.{fresh_line, unit_taken, second_line, report_bytes, error_message_bytes, missing_file_bytes};
 ghost use Rattle.token_lists.specs.Table.{IsHeld};
 ghost use Rattle.token_lists.specs.Ids.{build_id};
-ghost use Rattle.plain_tokens.specs.Printed.{Style, escaped, printed_all};
+ghost use Rattle.plain_tokens.specs.Printed.{Style, escaped, primitive_word, printed_all};
 ghost use Rattle.token_show.specs.Bytes.{all_printed};
 ghost use Rattle.token_show.specs.Views.{style_of, build_tokens, IsView};
 ghost use Rattle.transcript.specs.Given.{tokens_given};
 ghost use Rattle.transcript.specs.Plain.{is_plain};
-ghost use Rattle.transcript.specs.Reported.{opening, prefix_opening, ended_opening, forbidden_opening, subject, closing, closing_printed, closing_name, IsFixed};
+ghost use Rattle.transcript.specs.Reported.{opening, prefix_opening, ended_opening, forbidden_opening, subject, closing_words, closing_printed, closing_name, IsFixed};
 ghost use Rattle.transcript.specs.Taken.{Took, TookFront};
 
 use crate::fixed::{fresh_line, put_escape, put_fixed, put_number, put_signed};
@@ -205,6 +205,9 @@ fn fixed_opening(report: Report) -> &'static [u8]
         Report::PrefixWith(_) => b"You can't use a prefix with `",
         Report::TooManyBraces => b"Too many }'s",
         Report::MissingRightBrace => b"Missing } inserted",
+        Report::MissingRelation(_) => b"Missing = inserted for ",
+        Report::ExtraFiOrElse(_) => b"Extra ",
+        Report::IncompleteConditional(_, _) => b"Incomplete ",
         Report::BadCharacterCode(_)
         | Report::BadRegisterCode(_)
         | Report::BadMathchar(_)
@@ -247,6 +250,14 @@ fn put_opening(text: &mut Text, view: View<'_>, report: Report)
     }
 }
 
+// The name of a primitive.
+pub(crate) fn show_primitive<'a>(view: View<'a>, number: u16) -> Shown<'a>
+    requires { IsView view }
+    ensures { result ≡ printed_all (style_of view.entry) (escaped (style_of view.entry) (primitive_word number)) }
+{
+    meaning_head(view, &Meaning::<()>::Prim(number))
+}
+
 // The name or meaning in a report's text, if there is one.
 fn show_subject<'a>(view: View<'a>, report: Report) -> Shown<'a>
     requires { IsView view }
@@ -262,15 +273,18 @@ fn show_subject<'a>(view: View<'a>, report: Report) -> Shown<'a>
         Report::PrefixWith(meaning)
         | Report::LongOrOuterWith(meaning)
         | Report::CantUseAfter(meaning, _) => meaning_head(view, &meaning),
+        Report::MissingRelation(number)
+        | Report::ExtraFiOrElse(number)
+        | Report::IncompleteConditional(number, _) => show_primitive(view, number),
         _ => show_bytes(view, b""),
     }
 }
 
-// What stands in a report's text behind the name or meaning in it.
-fn closing(report: Report) -> &'static [u8]
-    ensures text { result.now ≡ closing report }
+// What stands in a report's text behind the name or meaning in it, up to a number.
+fn closing_words(report: Report) -> &'static [u8]
+    ensures text { result.now ≡ closing_words report }
     ensures plain { IsTrue (is_plain result.now) }
-    ensures short { length result.now ≤ 30 }
+    ensures short { length result.now ≤ 40 }
 {
     match report {
         Report::PrefixWith(_) | Report::LongOrOuterWith(_) => b"'",
@@ -278,6 +292,7 @@ fn closing(report: Report) -> &'static [u8]
         Report::UseMismatch(_) => b" doesn't match its definition",
         Report::ExtraBrace(_) => b" has an extra }",
         Report::ParagraphEnded(_) => b" was complete",
+        Report::IncompleteConditional(_, _) => b"; all text was ignored after line ",
         _ => b"",
     }
 }
@@ -306,7 +321,10 @@ fn closing_text(newline: i32, in_line: bool, report: Report) -> Text
         Report::IncompatibleMagnification(_, earlier) => retained_text(newline, in_line, earlier),
         other => {
             let mut text = Text::new();
-            put_fixed(&mut text, newline, closing(other));
+            put_fixed(&mut text, newline, closing_words(other));
+            if let Report::IncompleteConditional(_, line) = other {
+                put_number(&mut text, newline, line);
+            }
             text
         }
     }
@@ -318,7 +336,7 @@ fn show_closing_name<'a>(view: View<'a>, report: Report) -> Shown<'a>
     ensures { result ≡ printed_all (style_of view.entry) (closing_name (style_of view.entry) report) }
 {
     match report {
-        Report::CantUseAfter(_, number) => meaning_head(view, &Meaning::<()>::Prim(number)),
+        Report::CantUseAfter(_, number) => show_primitive(view, number),
         _ => show_bytes(view, b""),
     }
 }

@@ -3,6 +3,8 @@ use Rattle.std.specs.Prelude.{Option, None}
 use Rattle.plain_tokens.specs.Printed.{Style}
 use Rattle.plain_tokens.specs.Puts.{Put}
 use Rattle.plain_tokens.specs.Pending.{Pending, bottom, all_puts}
+use Rattle.conditionals.specs.declared.open.Conditional.{Conditional}
+use Rattle.conditionals.specs.Open.{Stack as Conditions}
 use Rattle.equivalents.specs.Groups.{Groups, first_groups}
 use Rattle.equivalents.specs.Holding.{lists_held}
 use Rattle.equivalents.specs.Parameters.{style_in}
@@ -31,14 +33,14 @@ first_tied i g p =
     (subst (λ (ps : List Put). Tied first_book.number [] (lists_held (first_groups is_known)) ps i.lists) (sym p) (tied_at_first first_book.number [] is_known i.lists))
 
 -- the first state, by its parts
-first_at : (pending : Pending) (groups : Groups) (names strings : List (List ℕ)) (gathered : List (List Token)) (making : Option (List Token)) (style : Style) (quiet : Bool) (file : List ℕ) (job : Option (List ℕ)) →
-    pending ≡ record bottom { next = job } → groups ≡ first_groups is_known → names ≡ primitive_names → strings ≡ [] → gathered ≡ [] → making ≡ None → style ≡ style_in (first_groups is_known).now primitive_names →
-    record { pending = pending; files = no_files; naming = false; groups = groups; names = names; strings = strings; macros = []; after = None; mag_set = 0; last = no_token; work = []; gathered = gathered; making = making; in_line = false; reports = 0; flawed = false; quiet = quiet; stopped = None; due = job_due style file job }
+first_at : (pending : Pending) (groups : Groups) (names strings : List (List ℕ)) (gathered : List (List Token)) (making : Option (List Token)) (conditionals : List Conditional) (style : Style) (quiet : Bool) (file : List ℕ) (job : Option (List ℕ)) →
+    pending ≡ record bottom { next = job } → groups ≡ first_groups is_known → names ≡ primitive_names → strings ≡ [] → gathered ≡ [] → making ≡ None → conditionals ≡ [] → style ≡ style_in (first_groups is_known).now primitive_names →
+    record { pending = pending; files = no_files; naming = false; groups = groups; names = names; strings = strings; macros = []; after = None; mag_set = 0; conditionals = conditionals; last = no_token; work = []; gathered = gathered; making = making; in_line = false; reports = 0; flawed = false; quiet = quiet; stopped = None; due = job_due style file job }
     ≡ first_state (first_groups is_known) quiet file job no_files
-first_at pending groups names strings gathered making style quiet file job a b c d e f g = rw (a, b, c, d, e, f, g) refl
+first_at pending groups names strings gathered making conditionals style quiet file job a b c d e f g h = rw (a, b, c, d, e, f, g, h) refl
 
 pub returns : goal.returns
-returns c = let i = c.in_ok-input.ensures in let n = c.in-Ok.ensures in let o = c.in-Ok-new.ensures in
+returns c = let i = c.in_ok-input.ensures in let n = c.in-Ok.ensures in let o = c.in-Ok-new.ensures in let k = c.in-Ok-new-2.ensures in
     let pending = ap (λ (x : Stored). x.pending) i in
     let here = ap (pending_of first_book.number) pending in
     let making = ap (λ (x : Stored). x.making) i in
@@ -55,6 +57,7 @@ returns c = let i = c.in_ok-input.ensures in let n = c.in-Ok.ensures in let o = 
             few_reports = omega arith;
             own = refl;
             readings = ap (λ (x : Stack). x.size) o;
+            conditionals = ap (λ (x : Conditions). x.size) k;
             input = ap (λ (x : Stored). x.sizes) i;
             names = ap (λ (x : Strings). x.sizes) n;
             located = first_located is_known _ _ groups names;
@@ -69,7 +72,7 @@ returns c = let i = c.in_ok-input.ensures in let n = c.in-Ok.ensures in let o = 
         };
         uncalled = record { none = refl; input = ap (λ (x : Stored). x.call) i };
       };
-      state = λ file. first_at _ _ _ _ _ _ _ c.args.quiet file None here numbered names others (ap gathered i) making style;
+      state = λ file. first_at _ _ _ _ _ _ _ _ c.args.quiet file None here numbered names others (ap gathered i) making (ap (λ (x : Conditions). x.items) k) style;
       column = refl;
       reports = refl;
       flawed = refl;
