@@ -233,7 +233,7 @@ module _ (sizes : Sizes) (e : Engine) (book : Book) (t : Token) (name : Name) (i
 
   calling_stands : has_parameters ts ≡ true → AllStand sizes calling (with_work (fresh K ∷ book.work) book)
   calling_stands places = record {
-    sound = sound_still sizes e calling book.number book.macros refl refl refl refl (store_scan e.input calling.input (Gathering name scan) refl) st.sound;
+    sound = sound_still sizes e calling book.number book.macros refl refl refl refl refl (store_scan e.input calling.input (Gathering name scan) refl) st.sound;
     idle = st.idle;
     all = (call_stands places, record { frames = st.readings.frames; shallow = st.readings.shallow });
   }
@@ -266,7 +266,7 @@ module _ (sizes : Sizes) (e : Engine) (book : Book) (t : Token) (name : Name) (i
     begun_stands : has_parameters ts ≡ true → AllStand sizes e2 (with_work (fresh K ∷ book.work) book)
     begun_stands places = let was = calling_stands places in
         all_still sizes calling e2 (with_work (fresh K ∷ book.work) book) frames_same store
-        (sound_still sizes calling e2 book.number book.macros (ap (λ (y : Engine). y.sizes) now) (ap (λ (y : Engine). y.readings.size) now) (ap (λ (y : Engine). y.names) now) (ap (λ (y : Engine). y.reports) now) store was.sound)
+        (sound_still sizes calling e2 book.number book.macros (ap (λ (y : Engine). y.sizes) now) (ap (λ (y : Engine). y.readings.size) now) (ap (λ (y : Engine). y.conditionals) now) (ap (λ (y : Engine). y.names) now) (ap (λ (y : Engine). y.reports) now) store was.sound)
         (ap (λ (y : Engine). y.input.making) now ∙ st.idle) was
 
     begun_state : made (Begun K) (state_of e book) ≡ state_of e2 (with_work (fresh K ∷ book.work) book)

@@ -201,7 +201,7 @@ module _ (sizes : Sizes) (e e1 e2 : Engine) (f : FilesTold) (s0 : SinkTold) (nam
             went_by sizes _ e4 _ _ _ moves 0 whole (record {
               book' = with_work work book;
               stands = record {
-                sound = sound_still sizes e3 e4 book.number book.macros (ap (λ (y : Engine). y.sizes) after) (ap (λ (y : Engine). y.readings.size) after) (ap (λ (y : Engine). y.names) after) (ap (λ (y : Engine). y.reports) after)
+                sound = sound_still sizes e3 e4 book.number book.macros (ap (λ (y : Engine). y.sizes) after) (ap (λ (y : Engine). y.readings.size) after) (ap (λ (y : Engine). y.conditionals) after) (ap (λ (y : Engine). y.names) after) (ap (λ (y : Engine). y.reports) after)
                     (store_scan e3.input e4.input (with_scan settled_scan e3.input.call) (ap (λ (y : Engine). y.input) after)) st.sound;
                 idle = ap (λ (y : Engine). y.input.making) after ∙ st.idle;
                 all = subst (λ (y : Engine). ReadingsStand y.call y book.number work) (sym after) (b.stands _ refl, record { frames = k.1.frames; shallow = k.1.shallow });

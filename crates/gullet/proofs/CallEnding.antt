@@ -65,7 +65,7 @@ module _ (sizes : Sizes) (e e2 : Engine) (book : Book) (r : Reading) (rs : List 
 
   pub closed_stands : AllStand sizes e2 (with_work rs book)
   closed_stands = record {
-    sound = sound_still sizes e e2 book.number book.macros (ap (λ (x : Engine). x.sizes) after) (ap (λ (x : Engine). x.readings.size) after) (ap (λ (x : Engine). x.names) after) (ap (λ (x : Engine). x.reports) after) store st.sound;
+    sound = sound_still sizes e e2 book.number book.macros (ap (λ (x : Engine). x.sizes) after) (ap (λ (x : Engine). x.readings.size) after) (ap (λ (x : Engine). x.conditionals) after) (ap (λ (x : Engine). x.names) after) (ap (λ (x : Engine). x.reports) after) store st.sound;
     idle = ap (λ (x : Engine). x.input.making) after ∙ st.idle;
     all = subst (λ (x : Engine). ReadingsStand x.call x book.number rs) (sym after) (record { frames = k.1.frames; shallow = k.1.shallow }, refl);
   }

@@ -132,7 +132,7 @@ module _ (sizes : Sizes) (e e2 : Engine) (book : Book) (r : Reading) (rs : List 
   store = store_call e.input e2.input e2.input.call (ap (λ (y : Engine). y.input) behind) macros
 
   sound : IsSound sizes e2 book.number book.macros
-  sound = sound_still sizes e e2 book.number book.macros (ap (λ (y : Engine). y.sizes) behind) (ap (λ (y : Engine). y.readings.size) behind) (ap (λ (y : Engine). y.names) behind) (ap (λ (y : Engine). y.reports) behind) store st.sound
+  sound = sound_still sizes e e2 book.number book.macros (ap (λ (y : Engine). y.sizes) behind) (ap (λ (y : Engine). y.readings.size) behind) (ap (λ (y : Engine). y.conditionals) behind) (ap (λ (y : Engine). y.names) behind) (ap (λ (y : Engine). y.reports) behind) store st.sound
 
   -- the reading behind the token
   abbrev fed : Reading

@@ -111,7 +111,7 @@ module _ (sizes : Sizes) (e : Engine) (book : Book) (r : Reading) (rs : List Rea
 
     middle_sound : IsSound sizes (record e { input = middle }) book.number book.macros
     middle_sound = record {
-      sized = record { few_reports = st.sound.sized.few_reports; small = st.sound.sized.small; own = st.sound.sized.own; readings = st.sound.sized.readings; input = st.sound.sized.input; names = st.sound.sized.names; located = st.sound.sized.located };
+      sized = record { few_reports = st.sound.sized.few_reports; small = st.sound.sized.small; own = st.sound.sized.own; readings = st.sound.sized.readings; conditionals = st.sound.sized.conditionals; input = st.sound.sized.input; names = st.sound.sized.names; located = st.sound.sized.located };
       tied = tied_put book.number book.macros (lists_held e.input.groups) (settle e.input.pending) e.input.lists (tied_settled book.number book.macros (lists_held e.input.groups) e.input.pending e.input.lists st.sound.tied) id p refl (ap (λ (b : Bool). b || is_put id (all_puts (settle e.input.pending))) meant);
       bodies = st.sound.bodies;
     }
@@ -132,7 +132,7 @@ module _ (sizes : Sizes) (e : Engine) (book : Book) (r : Reading) (rs : List Rea
 
       put_stands : AllStand sizes e2 (with_work rs book)
       put_stands = record {
-        sound = sound_still sizes (record e { input = middle }) e2 book.number book.macros (ap (λ (y : Engine). y.sizes) now) (ap (λ (y : Engine). y.readings.size) now) (ap (λ (y : Engine). y.names) now) (ap (λ (y : Engine). y.reports) now) store middle_sound;
+        sound = sound_still sizes (record e { input = middle }) e2 book.number book.macros (ap (λ (y : Engine). y.sizes) now) (ap (λ (y : Engine). y.readings.size) now) (ap (λ (y : Engine). y.conditionals) now) (ap (λ (y : Engine). y.names) now) (ap (λ (y : Engine). y.reports) now) store middle_sound;
         idle = ap (λ (y : Engine). y.input.making) now ∙ st.idle;
         all = subst (λ (y : Engine). ReadingsStand y.call y book.number rs) (sym now) (record { frames = k.1.frames; shallow = k.1.shallow }, refl);
       }

@@ -6,7 +6,7 @@ use Rattle.tex_syntax.specs.declared.words.Scanned.TheVariants as scanned
 use Rattle.tex_syntax.specs.declared.words.Report.TheVariants as reports
 use Rattle.tex_defs.specs.declared.Name.{Name}
 use Rattle.tex_defs.specs.declared.Token.{Token}
-use Rattle.plain_readings.specs.Scanning.{scanning, innermost_scanned, scanned_at, unless_unguarded, status, first_of}
+use Rattle.plain_readings.specs.Scanning.{Builds, scanning, innermost_scanned, scanned_at, unless_unguarded, status, first_of}
 use Rattle.plain_readings.specs.Readings.{Kind, Reading, lists}
 use Rattle.plain_machine.specs.Plan.{failed_away}
 use Rattle.input_state.specs.CallFeeds.{call_work}
@@ -48,11 +48,11 @@ stopped_list name (calls.Gathered m args) builds n h is = absurd h
 
 -- the call is what is read
 call_scanned : (e : Engine) (number : ℕ → ℕ) (c : Call) (r : Reading) (rs : List Reading) (list : List Token) → CallStands e number c r → first_of (length (call_lists e.input.call)) (gathered e.input) ≡ list →
-    scanning (r ∷ rs) (gathered e.input) ≡ Some (record { what = scanned.Use; name = c.name; list = list })
+    scanning (r ∷ rs) (gathered e.input) ≡ Some (Builds scanned.Use c.name list)
 call_scanned e number c r rs list h is =
     ap (λ (k : Kind). unless_unguarded (status k) (scanned_at (status k) (first_of (length (lists r.kind r.fed)) (gathered e.input)) (innermost_scanned rs (drop (length (lists r.kind r.fed)) (gathered e.input))))) h.kind
-    ∙ ap (λ (l : List (List Token)). Some (record { what = scanned.Use; name = c.name; list = first_of (length l) (gathered e.input) })) h.holds
-    ∙ ap (λ (l : List Token). Some (record { what = scanned.Use; name = c.name; list = l })) is
+    ∙ ap (λ (l : List (List Token)). Some (Builds scanned.Use c.name (first_of (length l) (gathered e.input)))) h.holds
+    ∙ ap (λ (l : List Token). Some (Builds scanned.Use c.name l)) is
 
 pub away_is : (e : Engine) (book : Book) (number : ℕ → ℕ) (name : Name) (r : Reading) (rs : List Reading) → CallStands e number (record { name = name; ask = asked.ParEnded false }) r →
     failed_away (page_of e book) (reports.ParagraphEnded name) (scanning (r ∷ rs) (gathered e.input)) ≡ call_away_moves (page_of e book) (argument_bytes e) e.last.token (reports.ParagraphEnded name)

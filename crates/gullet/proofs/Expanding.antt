@@ -29,7 +29,8 @@ use Rattle.engine_state.specs.Book.{Book, with_work}
 use Rattle.engine_state.specs.Stands.{SameFrames, SameReadings, Stands, state_of, page_of}
 use Rattle.engine_state.proofs.Uncalled.{all_of}
 use Rattle.world_io.specs.Told.{FilesTold, SinkTold}
-use Rattle.engine_state.specs.Rules.{world_of, Went, Halts, onward_of, enters_of, feeds_of, Takes, Comes, DoesOnward}
+use Rattle.engine_state.specs.Rules.{world_of, Went, Halts, onward_of, feeds_of, Takes, Comes, DoesOnward}
+use Rattle.engine_state.specs.Steps.{IsHalted}
 use Rattle.engine_state.proofs.Joining.{quiet_wrote, went_by}
 use Rattle.engine_state.proofs.Coming.{comes_went, comes_halts}
 use Rattle.engine_state.proofs.Stopping.{noted, noted_went, noted_halts, noted_comes}
@@ -37,7 +38,7 @@ use Rattle.gullet.specs.declared.expansion.Stepped.{Stepped}
 use Rattle.gullet.specs.declared.expansion.Stepped.TheVariants.{More, Skipped, Unexpandable, Over}
 use Rattle.gullet.specs.declared.expansion.Expansion.{Expansion}
 use Rattle.gullet.specs.declared.expansion.Once.TheVariants as once
-use Rattle.gullet.specs.Stepping.{Expands, ExpandsOnce, ExpandsTo, IsStayed, Steps, Stays, changes, expands, is_expansion, once_by}
+use Rattle.gullet.specs.Stepping.{EndsRun, Expands, ExpandsOnce, ExpandsTo, IsStayed, Steps, Stays, changes, expands, is_expansion, once_by, wants_raw}
 use Rattle.gullet.proofs.Stepping.{no}
 
 -- WHAT IS EXPANDED
@@ -71,9 +72,10 @@ relax_no (means.MathGiven n) is = cc
 relax_no (means.Register r n) is = cc
 
 -- so it is, where it isn't wanted as it stands
-pub onward_expands : (page : Page) (want : Option Want) (work : List Reading) (x : Seen) → enters_of want ≡ false → expands x.meaning ≡ true → onward_of page want work x ≡ expanded page x []
+pub onward_expands : (page : Page) (want : Option Want) (work : List Reading) (x : Seen) → wants_raw want ≡ false → expands x.meaning ≡ true → onward_of page want work x ≡ expanded page x []
 onward_expands page None work x raw is = expanded_any page x.token x.meaning (command page x.token x.meaning) [] is
 onward_expands page (Some want.Raw) work x raw is = cc
+onward_expands page (Some want.Unentered) work x raw is = cc
 onward_expands page (Some want.Expanded) work x raw is = expanded_any page x.token x.meaning (feeds_of work x) [] is
 onward_expands page (Some want.Copied) work x raw is = expanded_any page x.token x.meaning (feeds_of work x) [] is
 onward_expands page (Some want.Nonblank) work x raw is =
@@ -85,18 +87,11 @@ onward_expands page (Some want.Command) work x raw is =
 pub stays_by : (want : Option Want) (x : Seen) → expands x.meaning ≡ false → Stays want x
 stays_by None x is = is
 stays_by (Some want.Raw) x is = tt
+stays_by (Some want.Unentered) x is = tt
 stays_by (Some want.Expanded) x is = is
 stays_by (Some want.Copied) x is = is
 stays_by (Some want.Nonblank) x is = is
 stays_by (Some want.Command) x is = is
-
-pub raw_stays : (want : Option Want) (x : Seen) → enters_of want ≡ true → Stays want x
-raw_stays None x raw = cc
-raw_stays (Some want.Raw) x raw = tt
-raw_stays (Some want.Expanded) x raw = cc
-raw_stays (Some want.Copied) x raw = cc
-raw_stays (Some want.Nonblank) x raw = cc
-raw_stays (Some want.Command) x raw = cc
 
 -- A TOKEN IS EXPANDED
 
@@ -120,6 +115,14 @@ stays_changes (once.Over o) h = absurd h
 
 pub reports_leave : (r : Ruled) (n : Once) → n ≡ once_by r → IsStayed n → ⊥
 reports_leave r n is h = no (sym (stays_changes n h) ∙ reports_change r n is)
+
+-- one that ends the run
+pub over_halted : (r : Ruled) (n : Once) → n ≡ once_by r → EndsRun n → IsHalted r
+over_halted r n is h = by_rule r (subst EndsRun is h) where
+  by_rule : (r : Ruled) → EndsRun (once_by r) → IsHalted r
+  by_rule ruled.Step h = absurd h
+  by_rule ruled.Free h = absurd h
+  by_rule (ruled.Halted o) h = tt
 
 -- a report
 pub once_reports : (sizes : Sizes) (s : State) (e' : Engine) (book : Book) (w w' : World) (ms ns others : List Move) (r : Ruled) (n : Once) → ns ≡ ms → n ≡ once_by r → DoesOnward sizes s e' book w w' ms r → ExpandsOnce sizes s e' book w w' ns others n
@@ -146,7 +149,7 @@ expansion_went sizes e e' book f s k fits is column st = record {
 
 -- WHERE IT IS WANTED
 
-module _ (sizes : Sizes) (want : Option Want) (e e' : Engine) (book : Book) (w w' : World) (x : Seen) (raw : enters_of want ≡ false) (n : Once) (which : changes n ≡ expands x.meaning) where
+module _ (sizes : Sizes) (want : Option Want) (e e' : Engine) (book : Book) (w w' : World) (x : Seen) (raw : wants_raw want ≡ false) (n : Once) (which : changes n ≡ expands x.meaning) where
   abbrev wanted_moves : List Move
   wanted_moves = onward_of (page_of e book) want book.work x
 

@@ -2,7 +2,7 @@
 use Rattle.std.proofs.Common.{◌≡◌, ℕ, ◌+◌, ◌≤◌, List, ap, ◌∙◌, arith}
 use Rattle.std.specs.Prelude.{Option, Some, None}
 use Rattle.tex_defs.specs.declared.Name.{Name}
-use Rattle.plain_readings.specs.Weights.{act_weight}
+use Rattle.plain_readings.specs.Weights.{act_frame, act_weight}
 use Rattle.reading_frames.specs.Weights.{frames_weight, opening_frame, innermost_weight, stack_weight}
 use Rattle.reading_frames.specs.declared.ask.Opening.{Opening}
 use Rattle.reading_frames.proofs.Rules.{openings}
@@ -52,3 +52,29 @@ module _ (e : Engine) (none : e.call ≡ None) (light : innermost_weight e.readi
   -- a call begins
   pub called_light : (e' : Engine) (name : Name) (i : Stored) → e' ≡ record e { call = Some (open_call name); input = i } → pending_weight i.pending ≡ pending_weight e.input.pending → weight e' ≤ most
   called_light e' name i is left = let now : weight e' ≡ weight (record e { call = Some (open_call name); input = i }) = ap weight is in omega (arith, now, left)
+
+-- BEHIND A CONDITIONAL'S CHOICE: no more than this above the readings that were open
+
+module _ (e : Engine) (none : e.call ≡ None) (most : ℕ) where
+  abbrev within : ℕ
+  within = frames_weight e.readings.frames + most + pending_weight e.input.pending
+
+  -- where the innermost goes on
+  pub reads_within : (e' : Engine) → innermost_weight e.readings.frames ≤ most → SameFrames e e' → pending_weight e'.input.pending ≡ pending_weight e.input.pending → weight e' ≤ within
+  reads_within e' light same left =
+      let is : readings_weight e.call e ≡ stack_weight e.readings = ap (λ (c : Option Call). readings_weight c e) none in
+      omega (arith, same_weight e e' same left, is, light)
+
+  -- where a reading begins that takes a token
+  pub skips_within : (e' : Engine) (n : ℕ) → act_frame ≤ most → e'.call ≡ e.call → frames_weight e'.readings.frames ≡ frames_weight e.readings.frames + act_frame → innermost_weight e'.readings.frames ≤ n → n ≡ 0 → e'.input.pending ≡ e.input.pending → weight e' ≤ within
+  skips_within e' n room call frames begun none_yet same =
+      let is : readings_weight e'.call e' ≡ stack_weight e'.readings = ap (λ (c : Option Call). readings_weight c e') (call ∙ none) in
+      let left : pending_weight e'.input.pending ≡ pending_weight e.input.pending = ap pending_weight same in
+      omega (arith, is, left, frames, begun, none_yet, room)
+
+  -- the same readings and lines
+  pub from_same : (e1 e' : Engine) → e1.readings.frames ≡ e.readings.frames → e1.input.pending ≡ e.input.pending → weight e' ≤ frames_weight e1.readings.frames + most + pending_weight e1.input.pending → weight e' ≤ within
+  from_same e1 e' frames pending h =
+      let same : frames_weight e1.readings.frames ≡ frames_weight e.readings.frames = ap frames_weight frames in
+      let left : pending_weight e1.input.pending ≡ pending_weight e.input.pending = ap pending_weight pending in
+      omega (arith, h, same, left)

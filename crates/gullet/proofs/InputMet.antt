@@ -11,15 +11,12 @@ use Rattle.plain_machine.specs.Does.{Did}
 use Rattle.plain_machine.specs.Plan.{Page, put_one, frozen_relax, input_met}
 use Rattle.plain_machine.specs.States.{Move, Begun, NameInProgress, made}
 use Rattle.plain_machine.proofs.Doing.{did_join, did_silent}
-use Rattle.engine_state.specs.declared.broken.Broken.{Broken}
 use Rattle.engine_state.specs.declared.engine.Engine.{Engine}
 use Rattle.engine_state.specs.Book.{Book, with_work}
-use Rattle.engine_state.specs.CutReadings.{CutsIn}
-use Rattle.engine_state.specs.Rules.{Cuts, Went}
-use Rattle.engine_state.specs.Stands.{Stands, SameFrames, state_of, page_of}
+use Rattle.engine_state.specs.Rules.{Went}
+use Rattle.engine_state.specs.Stands.{Stands, state_of, page_of}
 use Rattle.engine_state.proofs.Uncalled.{all_of, framed}
 use Rattle.engine_state.proofs.CallKept.{all_still}
-use Rattle.engine_state.proofs.CuttingReadings.{in_by, stands_in, later_in}
 use Rattle.engine_state.proofs.Joining.{quiet_here, went_by}
 use Rattle.engine_state.proofs.Storing.{sound_still, store_same}
 
@@ -33,28 +30,6 @@ met_again page t c is = ap (met_by t c) is
 pub met_first : (page : Page) (t : Token) (c : Call) → page.naming ≡ false → input_met page t c ≡ Begun (FileName c) ∷ NameInProgress true ∷ []
 met_first page t c is = ap (met_by t c) is
 
--- IN A FILE'S NAME
-
-module _ (sizes : Sizes) (e e1 e2 : Engine) (book : Book) (w : World) (t : Token) (c : Call) (naming : e.naming ≡ true) (st : Stands sizes e book) where
-  moves : input_met (page_of e book) t c ≡ put_one t ++ put_one frozen_relax
-  moves = met_again (page_of e book) t c naming
-
-  -- the token has no room
-  pub token_cuts : (b : Broken) → Cuts sizes (state_of e book) e1 book w w (put_one t ++ put_one frozen_relax) b → SameFrames e e1 → CutsIn sizes (state_of e book) e1 w w (input_met (page_of e book) t c) b
-  token_cuts b cuts same = in_by sizes (state_of e book) e1 w w (put_one t ++ put_one frozen_relax) (input_met (page_of e book) t c) b moves (stands_in sizes e e1 book w w (put_one t ++ put_one frozen_relax) b cuts same st)
-
-  module _ (did : Did sizes (state_of e book) (state_of e1 book) w w (put_one t)) (now : Stands sizes e1 book) where
-    -- nor has the `\relax`
-    pub relax_cuts : (b : Broken) → Cuts sizes (state_of e1 book) e2 book w w (put_one frozen_relax) b → SameFrames e1 e2 → CutsIn sizes (state_of e book) e2 w w (input_met (page_of e book) t c) b
-    relax_cuts b cuts same =
-        in_by sizes (state_of e book) e2 w w (put_one t ++ put_one frozen_relax) (input_met (page_of e book) t c) b moves
-        (later_in sizes (state_of e book) (state_of e1 book) e2 w w w (put_one t) (put_one frozen_relax) b did (stands_in sizes e1 e2 book w w (put_one frozen_relax) b cuts same now))
-
-    pub both_put : Did sizes (state_of e1 book) (state_of e2 book) w w (put_one frozen_relax) → Stands sizes e2 book → Went sizes (state_of e book) e2 w w (input_met (page_of e book) t c) 0
-    both_put relax st2 =
-        went_by sizes (state_of e book) e2 w w (put_one t ++ put_one frozen_relax) (input_met (page_of e book) t c) 0 moves
-        (record { book' = book; stands = all_of sizes e2 book st2; did = did_join sizes (state_of e book) (state_of e1 book) (state_of e2 book) w w w (put_one t) (put_one frozen_relax) did relax; count = refl })
-
 -- THE NAME BEGINS
 
 -- the engine notes that it is being read
@@ -63,7 +38,7 @@ naming_stands sizes e book st =
     let next : Engine = record e { naming = true } in
     framed sizes next book st.uncalled.none
     (all_still sizes e next book (record { readings = refl; lists = refl; call = refl; calling = refl }) (store_same e.input)
-    (sound_still sizes e next book.number book.macros refl refl refl refl (store_same e.input) st.sound) st.idle (all_of sizes e book st))
+    (sound_still sizes e next book.number book.macros refl refl refl refl refl (store_same e.input) st.sound) st.idle (all_of sizes e book st))
 
 pub name_begins : (sizes : Sizes) (e e1 : Engine) (book : Book) (w : World) (t : Token) (c : Call) → e.naming ≡ false → refusal sizes (Begun (FileName c)) (state_of e book) ≡ None →
     made (Begun (FileName c)) (state_of e book) ≡ state_of e1 (with_work (opened (FileName c) book.work) book) → Stands sizes e1 (with_work (opened (FileName c) book.work) book) →

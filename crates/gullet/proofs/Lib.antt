@@ -11,10 +11,12 @@ pub mod CallLists
 pub mod CallPutting
 pub mod CallRules
 pub mod CallWeighing
+pub mod Choosing
 pub mod Ending
 pub mod Expanding
 pub mod ExpandingWeighs
 pub mod InputMet
 pub mod JobName
+pub mod RelaxPut
 pub mod StepHanding
 pub mod Stepping

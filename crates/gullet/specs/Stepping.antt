@@ -1,18 +1,23 @@
 -- What one step of expansion comes to.
-use Rattle.std.specs.Prelude.{◌≡◌, ◌≤◌, Bool, true, false, List, [], ◌∷◌, ◌++◌, Option, Some}
+use Rattle.std.specs.Prelude.{◌≡◌, ◌≤◌, ℕ, Bool, true, false, if◌then◌else◌, List, [], ◌∷◌, ◌++◌, Option, Some}
 use Rattle.tex_syntax.specs.declared.words.Report.TheVariants.{UndefinedName}
 use Rattle.tex_syntax.specs.declared.words.Want.{Want}
-use Rattle.tex_syntax.specs.declared.words.Want.TheVariants.{Raw}
+use Rattle.tex_syntax.specs.declared.words.Want.TheVariants.{Raw, Unentered}
 use Rattle.tex_defs.specs.Places.{World}
 use Rattle.tex_defs.specs.declared.Meaning.{Meaning}
 use Rattle.tex_defs.specs.declared.Meaning.TheVariants as means
 use Rattle.tex_defs.specs.declared.Seen.{Seen}
 use Rattle.tex_defs.specs.declared.Sizes.{Sizes}
-use Rattle.plain_readings.specs.Readings.{Kind}
+use Rattle.tex_defs.specs.declared.Token.{Token}
+use Rattle.plain_tokens.specs.Categories.{is_between}
+use Rattle.conditionals.specs.Open.{constant_test}
+use Rattle.rows.specs.declared.words.Kind.TheVariants.{Command}
+use Rattle.rows.specs.declared.command.Call.{Call}
+use Rattle.plain_readings.specs.Readings.{Kind, Reads}
 use Rattle.reading_frames.specs.Sees.{kind_of}
 use Rattle.reading_frames.specs.Weights.{begun_weight}
 use Rattle.plain_machine.specs.States.{State, Move, Begun, Closed, FileEnds}
-use Rattle.plain_machine.specs.Plan.{Page, reported, called, input_met, is_expandable_primitive, job_in, put_characters}
+use Rattle.plain_machine.specs.Plan.{Page, reported, called, input_met, is_expandable_primitive, job_in, put_characters, first_conditional, or_primitive, conditional_met, conditional_begun, ender_met}
 use Rattle.engine_state.specs.declared.engine.Engine.{Engine}
 use Rattle.engine_state.specs.declared.outcome.Ruled.{Ruled}
 use Rattle.engine_state.specs.declared.outcome.Ruled.TheVariants as ruled
@@ -33,9 +38,16 @@ expands (means.Macro long outer list) = true
 expands (means.Prim number) = is_expandable_primitive number
 expands m = false
 
+-- a token is wanted as it stands
+abbrev pub wants_raw : Option Want → Bool
+wants_raw (Some Raw) = true
+wants_raw (Some Unentered) = true
+wants_raw want = false
+
 -- a token stays where it is wanted as it stands, and where it can't be expanded
 abbrev pub Stays : Option Want → Seen → Type 0
 Stays (Some Raw) x = Unit {0}
+Stays (Some Unentered) x = Unit {0}
 Stays want x = expands x.meaning ≡ false
 
 -- ONE EXPANSION
@@ -43,6 +55,10 @@ Stays want x = expands x.meaning ≡ false
 -- `\jobname`: its reading begins, and ends at once behind the name that is put
 abbrev pub job_moves : Page → Kind → List Move
 job_moves page k = Begun k ∷ (put_characters (job_in page.strings) ++ Closed ∷ [])
+
+-- a primitive that is a conditional, or ends one or a part of it, and another, which a row reads
+abbrev pub row_moves : Page → Token → Call → (number : ℕ) → List Move
+row_moves page t c number = if is_between first_conditional or_primitive number then conditional_met page t c number else Begun (Reads (Command c)) ∷ []
 
 -- by which a token comes to these moves, one that isn't expanded to others
 abbrev pub ExpandsTo : Expansion → Page → (others moves : List Move) → Type 0
@@ -53,6 +69,8 @@ ExpandsTo (by.Begin o) page others moves = moves ≡ Begun (kind_of o) ∷ []
 ExpandsTo (by.JobName o) page others moves = moves ≡ job_moves page (kind_of o)
 ExpandsTo (by.Input t c) page others moves = moves ≡ input_met page t c
 ExpandsTo by.EndInput page others moves = moves ≡ FileEnds ∷ []
+ExpandsTo (by.Conditional c n) page others moves = moves ≡ conditional_begun page c n (constant_test n)
+ExpandsTo (by.Ender t c e) page others moves = moves ≡ ender_met page t c e
 
 -- what begins weighs little
 abbrev pub IsLight : Expansion → Type 0
@@ -85,7 +103,7 @@ abbrev pub EndsRun : Once → Type 0
 EndsRun (once.Over o) = Unit {0}
 EndsRun n = ⊥
 
--- a report behind which the token has gone
+-- moves by which the token has gone
 abbrev pub once_by : Ruled → Once
 once_by ruled.Step = Expanded
 once_by ruled.Free = Expanded

@@ -16,13 +16,16 @@ ghost use Rattle.engine_state.specs.CutReadings.{CutsIn};
 ghost use Rattle.engine_state.specs.Stands.{Stands, SameFrames, SameReadings, state_of, page_of};
 ghost use Rattle.engine_state.specs.Rules.{world_of, onward_of, enters_of, Takes, Went, next_moves};
 ghost use Rattle.engine_state.specs.Steps.{weight, pending_weight};
-ghost use Rattle.gullet.specs.Stepping.{IsLight, ExpandsTo, is_expansion, expands, job_moves, ExpandsOnce, IsExpanded, IsStayed, EndsRun, changes, once_by, Expands, Steps, StepStepsIf, IsSkipped, IsKept, IsOver, ends_run};
+ghost use Rattle.gullet.specs.Stepping.{IsLight, ExpandsTo, is_expansion, expands, job_moves, row_moves, wants_raw, ExpandsOnce, IsExpanded, IsStayed, EndsRun, changes, once_by, Expands, Steps, StepStepsIf, IsSkipped, IsKept, IsOver, ends_run};
 
 use crate::call_name::call_name;
+use crate::conditional::{begin_conditional, meet_ender};
+use crate::relax::put_behind_relax;
+use conditionals::{Ender, Part, part_of};
 use engine_state::{Broken, Engine, Made, Next, Ruled, name_of};
 use reading_frames::Opening;
 use rows::{Call, Head, Kind};
-use tex_defs::{Frozen, Meaning, Name, Seen, Token};
+use tex_defs::{Meaning, Seen, Token};
 use tex_syntax::{Outcome, Report, Want};
 use world_io::Sink;
 
@@ -65,6 +68,10 @@ enum Expansion {
     Input(Token, Call),
     /// The innermost file is to end.
     EndInput,
+    /// The conditional of this number begins.
+    Conditional(Call, u16),
+    /// A `\fi`, an `\else` or an `\or` comes, by this token.
+    Ender(Token, Call, Ender),
     /// It stays.
     Unexpandable,
 }
@@ -81,14 +88,18 @@ const INPUT: u16 = 63;
 /// The number of `\endinput`.
 const ENDINPUT: u16 = 64;
 
-/// A `\relax` that no assignment changes.
-const FROZEN_RELAX: Token = Token::Named(Name::Frozen(Frozen::Relax));
-
 /// Whether the reading that wants a token enters names: a raw one.
 fn enters_names(want: Option<Want>) -> bool
     ensures { result ≡ enters_of want }
 {
     matches!(want, Some(Want::Raw))
+}
+
+/// Whether a token is wanted as it stands, so that none is expanded.
+fn is_raw(want: Option<Want>) -> bool
+    ensures { result ≡ wants_raw want }
+{
+    matches!(want, Some(Want::Raw | Want::Unentered))
 }
 
 /// Whether it is a primitive that is expanded, or a conditional.
@@ -111,6 +122,19 @@ pub fn call_of(token: Token, head: Head) -> Call
     }
 }
 
+/// How another primitive is expanded: a conditional, what ends it or a part of it, or a command that its row reads.
+fn row_expansion(token: Token, call: Call, number: u16) -> Expansion
+    ensures to { (page : Page) (moves : List Move) → ExpandsTo result page moves (row_moves page token call number) }
+    ensures light { IsLight result }
+    ensures which { is_expansion result ≡ true }
+{
+    match part_of(Meaning::Prim(number)) {
+        Part::Conditional => Expansion::Conditional(call, number),
+        Part::Ends(ender) => Expansion::Ender(token, call, ender),
+        Part::Plain => Expansion::Begin(Opening::Reads(Kind::Command(call))),
+    }
+}
+
 /// How a primitive is expanded.
 fn primitive_expansion(token: Token, number: u16) -> Expansion
     ensures to { (page : Page) (moves : List Move) → ExpandsTo result page moves (plain_expansion page token number) }
@@ -123,7 +147,7 @@ fn primitive_expansion(token: Token, number: u16) -> Expansion
         JOBNAME => Expansion::JobName(Opening::Reads(Kind::Command(call))),
         INPUT => Expansion::Input(token, call),
         ENDINPUT => Expansion::EndInput,
-        _ => Expansion::Begin(Opening::Reads(Kind::Command(call))),
+        _ => row_expansion(token, call, number),
     }
 }
 
@@ -164,7 +188,7 @@ fn put_job(engine: &mut Engine, opening: Opening) -> Result<(), Broken>
 }
 
 /// The reading of a file's name begins; where one is being read, the token of `\input` is put back, behind a `\relax`.
-/// *TeX: The Program*, parts 25 (`insert_relax`) and 29 (`start_input`).
+/// *TeX: The Program*, part 29 (`start_input`).
 ///
 /// # Errors
 /// There is no room for the reading, or for what is put back: the engine stands for the moment before.
@@ -180,9 +204,7 @@ fn begin_input(engine: &mut Engine, token: Token, call: Call) -> Result<(), Brok
     ensures idle { OnOk result (engine.new.input.making ≡ None) }
 {
     if engine.naming {
-        engine.put_one(token)?;
-        engine.put_one(FROZEN_RELAX)?;
-        return Ok(());
+        return put_behind_relax(engine, token);
     }
     engine.begin(Opening::FileName(call))?;
     engine.naming = true;
@@ -232,11 +254,19 @@ pub fn expand_once<S: Sink>(engine: &mut Engine, out: &mut S, seen: Seen) -> Res
             engine.end_input();
             Ok(Once::Expanded)
         }
+        Expansion::Conditional(call, number) => {
+            begin_conditional(engine, call, number)?;
+            Ok(Once::Expanded)
+        }
+        Expansion::Ender(token, call, ender) => {
+            let ruled = meet_ender(engine, out, token, call, ender)?;
+            Ok(once_behind(ruled))
+        }
         Expansion::Unexpandable => Ok(Once::Stays),
     }
 }
 
-/// A report behind which the token has gone.
+/// What comes behind moves by which the token has gone.
 fn once_behind(ruled: Ruled) -> Once
     ensures { result ≡ once_by ruled }
 {
@@ -264,7 +294,7 @@ fn expand<S: Sink>(
     ensures stays { IfOk result (λ stepped. IsKept stepped → engine.new ≡ engine.old) }
     ensures idle { OnOk result (engine.new.input.making ≡ None) }
 {
-    if enters_names(want) {
+    if is_raw(want) {
         return Ok(Stepped::Unexpandable(seen));
     }
     match expand_once(engine, out, seen)? {

@@ -1,12 +1,15 @@
-//! The gullet: what becomes of a token that is expanded, and the calls of macros that gather their arguments.
+//! The gullet: what becomes of a token that is expanded, the calls of macros that gather their arguments, and conditionals.
 //!
-//! *The TeXbook*, chapter 20; *TeX: The Program*, part 25 (`expand`, `get_x_token`, `macro_call`).
+//! *The TeXbook*, chapter 20; *TeX: The Program*, parts 25 (`expand`, `get_x_token`, `macro_call`) and 28 (`conditional`).
 #![tactic(auto)]
 
 mod call_name;
+mod conditional;
 mod expansion;
 mod feeding;
 mod gathering;
+mod relax;
 
+pub use conditional::{choose, skip_on};
 pub use expansion::{Once, Stepped, call_of, expand_once, step};
 pub use gathering::gather;

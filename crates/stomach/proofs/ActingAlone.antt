@@ -130,6 +130,7 @@ keeping_stands sizes e book o st = let sized = st.sound.sized in record {
       small = sized.small;
       own = sized.own;
       readings = sized.readings;
+      conditionals = sized.conditionals;
       input = sized.input;
       names = sized.names;
       located = sized.located;

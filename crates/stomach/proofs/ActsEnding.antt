@@ -19,6 +19,9 @@ use Rattle.equivalents.specs.declared.values.Loc.{Loc}
 use Rattle.equivalents.specs.declared.values.Val.TheVariants as val
 use Rattle.equivalents.specs.Locations.{SeenValue, value_seen}
 use Rattle.equivalents.specs.Tables.{get}
+use Rattle.conditionals.specs.declared.choice.Aim.{Aim}
+use Rattle.conditionals.specs.declared.choice.Value.{Value}
+use Rattle.conditionals.specs.declared.skip.Ender.{Ender}
 use Rattle.rows.specs.declared.arithmetic.Operation.{Operation}
 use Rattle.rows.specs.declared.command.Call.{Call}
 use Rattle.rows.specs.declared.command.Effect.{Effect}
@@ -32,7 +35,7 @@ use Rattle.reading_frames.specs.declared.frame.Frame.{Frame}
 use Rattle.plain_machine.specs.States.{State, Move, Closed, Begun, Reported, Written, made}
 use Rattle.plain_machine.specs.Demands.{refusal}
 use Rattle.plain_machine.specs.Plan as plan
-use Rattle.plain_machine.specs.Plan.{Page, acts, acts_above, behind_assignment, command, computed_to, expanded, put_one, style_of}
+use Rattle.plain_machine.specs.Plan.{Page, acts, acts_above, behind_assignment, computed_to, expanded, put_one, style_of}
 use Rattle.plain_machine.specs.Runs.{steps}
 use Rattle.plain_machine.specs.Does.{Did}
 use Rattle.plain_machine.proofs.Doing.{did_join, did_one}
@@ -72,14 +75,21 @@ alone_acts page c (effect.Obey x) h = absurd h
 alone_acts page c (effect.ExpandBehind x y) h = absurd h
 alone_acts page c (effect.Compute operation l d) h = absurd h
 alone_acts page c (effect.PutList l) h = absurd h
+alone_acts page c (effect.Choose v) h = absurd h
+alone_acts page c (effect.Compare x y) h = absurd h
+alone_acts page c (effect.Reach a ender) h = absurd h
 alone_acts page c e h = refl
 
-pub is_alone : (e : Effect) → ((x : Seen) → e ≡ effect.Obey x → ⊥) → ((x y : Seen) → e ≡ effect.ExpandBehind x y → ⊥) → ((operation : Operation) (l : Loc) (d : Datum) → e ≡ effect.Compute operation l d → ⊥) → ((l : Loc) → e ≡ effect.PutList l → ⊥) → IsAlone e
-is_alone (effect.Obey x) obeys expands computes puts = obeys x refl
-is_alone (effect.ExpandBehind x y) obeys expands computes puts = expands x y refl
-is_alone (effect.Compute operation l d) obeys expands computes puts = computes operation l d refl
-is_alone (effect.PutList l) obeys expands computes puts = puts l refl
-is_alone e obeys expands computes puts = tt
+pub is_alone : (e : Effect) → ((x : Seen) → e ≡ effect.Obey x → ⊥) → ((x y : Seen) → e ≡ effect.ExpandBehind x y → ⊥) → ((operation : Operation) (l : Loc) (d : Datum) → e ≡ effect.Compute operation l d → ⊥) → ((l : Loc) → e ≡ effect.PutList l → ⊥) →
+    ((v : Value) → e ≡ effect.Choose v → ⊥) → ((x y : Seen) → e ≡ effect.Compare x y → ⊥) → ((a : Aim) (ender : Ender) → e ≡ effect.Reach a ender → ⊥) → IsAlone e
+is_alone (effect.Obey x) obeys expands computes puts chooses compares reaches = obeys x refl
+is_alone (effect.ExpandBehind x y) obeys expands computes puts chooses compares reaches = expands x y refl
+is_alone (effect.Compute operation l d) obeys expands computes puts chooses compares reaches = computes operation l d refl
+is_alone (effect.PutList l) obeys expands computes puts chooses compares reaches = puts l refl
+is_alone (effect.Choose v) obeys expands computes puts chooses compares reaches = chooses v refl
+is_alone (effect.Compare x y) obeys expands computes puts chooses compares reaches = compares x y refl
+is_alone (effect.Reach a ender) obeys expands computes puts chooses compares reaches = reaches a ender refl
+is_alone e obeys expands computes puts chooses compares reaches = tt
 
 -- what is alone is the same above whatever readings
 pub above_acts : (beneath : List Reading) (page : Page) (c : Call) (e : Effect) → IsAlone e → acts_above beneath page c e ≡ acts page c e
@@ -152,7 +162,7 @@ module _ (sizes : Sizes) (s : State) (e' : Engine) (book : Book) (w w' : World) 
 pub once_over : (n : Once) (o : Outcome) → n ≡ once.Over o → EndsRun n
 once_over n o is = subst EndsRun (sym is) tt
 
--- THE READING ENDS, and its token is obeyed
+-- THE READING ENDS, and its token is obeyed, or its conditional goes on
 
 module _ (sizes : Sizes) (e e1 : Engine) (book : Book) (r : Reading) (rs : List Reading) (f : FilesTold) (s : SinkTold) (is : made Closed (state_of e (with_work (r ∷ rs) book)) ≡ state_of e1 (with_work rs book)) (column : e1.in_line ≡ e.in_line) where
   abbrev all : Book
@@ -170,21 +180,22 @@ module _ (sizes : Sizes) (e e1 : Engine) (book : Book) (r : Reading) (rs : List 
   closed_reports : (state_of e1 left).reports ≡ (state_of e all).reports
   closed_reports = turned_reports e e1 all left Closed is closed_leaves
 
-  module _ (e2 : Engine) (s' : SinkTold) (c : Call) (x : Seen) where
+  -- and what comes then depends on what texts depend on
+  module _ (e2 : Engine) (s' : SinkTold) (moves : Page → List Move) where
     pub obeyed_rule : (ruled now : Ruled) → now ≡ freed ruled → e1.call ≡ None → (IsHalted ruled → SameFrames e1 e2) → Stands sizes e1 left →
-        DoesOnward sizes (state_of e1 left) e2 left (world_of f s e1) (world_of f s' e2) (command (page_of e1 left) x.token x.meaning) ruled →
-        DoesRuleIn sizes (state_of e all) e2 (world_of f s e) (world_of f s' e2) (acts (page_of e book) c (effect.Obey x)) now
+        DoesOnward sizes (state_of e1 left) e2 left (world_of f s e1) (world_of f s' e2) (moves (page_of e1 left)) ruled →
+        DoesRuleIn sizes (state_of e all) e2 (world_of f s e) (world_of f s' e2) (Closed ∷ moves (page_of e book)) now
     obeyed_rule ruled now to none halts st h =
-        subst (λ (y : Ruled). DoesRuleIn sizes (state_of e all) e2 (world_of f s e) (world_of f s' e2) (acts (page_of e book) c (effect.Obey x)) y) (sym to)
-        (subst (λ (page : Page). DoesRuleIn sizes (state_of e all) e2 (world_of f s e) (world_of f s' e2) (Closed ∷ command page x.token x.meaning) (freed ruled)) closed_page
-        (rules_behind sizes (state_of e all) (state_of e1 left) e2 left (world_of f s e) (world_of f s e1) (world_of f s' e2) (Closed ∷ []) (command (page_of e1 left) x.token x.meaning) ruled closed_reports closed_did refl
+        subst (λ (y : Ruled). DoesRuleIn sizes (state_of e all) e2 (world_of f s e) (world_of f s' e2) (Closed ∷ moves (page_of e book)) y) (sym to)
+        (subst (λ (page : Page). DoesRuleIn sizes (state_of e all) e2 (world_of f s e) (world_of f s' e2) (Closed ∷ moves page) (freed ruled)) closed_page
+        (rules_behind sizes (state_of e all) (state_of e1 left) e2 left (world_of f s e) (world_of f s e1) (world_of f s' e2) (Closed ∷ []) (moves (page_of e1 left)) ruled closed_reports closed_did refl
         (λ halted. frames_none e1 e2 rs none (halts halted) st.readings) h))
 
-    pub obeyed_cut : (b : Broken) → CutsIn sizes (state_of e1 left) e2 (world_of f s e1) (world_of f s' e2) (command (page_of e1 left) x.token x.meaning) b →
-        CutsIn sizes (state_of e all) e2 (world_of f s e) (world_of f s' e2) (acts (page_of e book) c (effect.Obey x)) b
+    pub obeyed_cut : (b : Broken) → CutsIn sizes (state_of e1 left) e2 (world_of f s e1) (world_of f s' e2) (moves (page_of e1 left)) b →
+        CutsIn sizes (state_of e all) e2 (world_of f s e) (world_of f s' e2) (Closed ∷ moves (page_of e book)) b
     obeyed_cut b h =
-        subst (λ (page : Page). CutsIn sizes (state_of e all) e2 (world_of f s e) (world_of f s' e2) (Closed ∷ command page x.token x.meaning) b) closed_page
-        (later_in sizes (state_of e all) (state_of e1 left) e2 (world_of f s e) (world_of f s e1) (world_of f s' e2) (Closed ∷ []) (command (page_of e1 left) x.token x.meaning) b closed_did h)
+        subst (λ (page : Page). CutsIn sizes (state_of e all) e2 (world_of f s e) (world_of f s' e2) (Closed ∷ moves page) b) closed_page
+        (later_in sizes (state_of e all) (state_of e1 left) e2 (world_of f s e) (world_of f s e1) (world_of f s' e2) (Closed ∷ []) (moves (page_of e1 left)) b closed_did h)
 
   -- ANOTHER BEGINS IN ITS PLACE
 

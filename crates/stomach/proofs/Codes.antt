@@ -1,11 +1,14 @@
 -- What a command does suits the locations that it uses, in whatever reading it is done.
-use Rattle.std.proofs.Common.{Bool, true, false, List, [], ◌∷◌, ◌++◌}
+use Rattle.std.proofs.Common.{ℕ, Bool, true, false, List, [], ◌∷◌, ◌++◌}
 use Rattle.std.specs.Prelude.{Option, None, Some, if◌then◌else◌}
 use Rattle.tex_defs.specs.declared.Token.{Token}
 use Rattle.tex_defs.specs.declared.Name.{Name}
 use Rattle.tex_syntax.specs.declared.words.Want.{Want}
 use Rattle.tex_syntax.specs.declared.words.Want.TheVariants.{Expanded, Nonblank}
 use Rattle.plain_tokens.specs.Arguments as call
+use Rattle.conditionals.specs.declared.choice.Aim.{Aim}
+use Rattle.conditionals.specs.declared.skip.Ender.{Ender}
+use Rattle.conditionals.specs.Skipping.{ends_at, open_behind, part}
 use Rattle.rows.specs.declared.words.Kind.{Kind as Begun}
 use Rattle.rows.specs.declared.words.Kind.TheVariants.{Command, Integer, Factor, Dimension, Glue, Keyword, Text, Definition}
 use Rattle.rows.specs.declared.command.Call.{Call}
@@ -13,8 +16,9 @@ use Rattle.rows.specs.Readings.{Fed, Tok, Ask, Acts, ActsOn}
 use Rattle.rows.specs.Suiting.{SetsSmall}
 use Rattle.rows.proofs.Suiting.{row_sets}
 use Rattle.plain_readings.specs.FileNames.{character_meant, is_blank, opens, named_on, file_naming}
-use Rattle.plain_readings.specs.Readings.{Kind, Reads, Spelling, FileName, Behind, Arguments, ask, lists}
+use Rattle.plain_readings.specs.Readings.{Kind, Reads, Spelling, FileName, Behind, Skips, Arguments, ask, lists}
 use Rattle.plain_readings.specs.Calls.{call_ask, gathered}
+use Rattle.plain_readings.specs.Skips.{ended, skipping}
 use Rattle.plain_readings.specs.Laws.{GivesValue}
 use Rattle.plain_readings.proofs.Steps.{spelling_holds}
 use Rattle.plain_readings.proofs.Values.{values}
@@ -45,6 +49,15 @@ file_sets c want ts [] = tt
 file_sets c want ts (Tok x ∷ fed) = named_sets c ts (character_meant x.meaning) (λ us. file_naming c Expanded us fed) (λ us. file_sets c Expanded us fed)
 file_sets c want ts (y ∷ fed) = tt
 
+ended_sets : (c : Call) (aim : Aim) (o : Option Ender) (onward : Ask) → SetsSmall onward → SetsSmall (ended c aim o onward)
+ended_sets c aim None onward h = h
+ended_sets c aim (Some e) onward h = tt
+
+skipping_sets : (c : Call) (aim : Aim) (depth : ℕ) (fed : List Fed) → SetsSmall (skipping c aim depth fed)
+skipping_sets c aim depth [] = tt
+skipping_sets c aim depth (Tok x ∷ fed) = ended_sets c aim (ends_at depth (part x.meaning)) (skipping c aim (open_behind depth (part x.meaning)) fed) (skipping_sets c aim (open_behind depth (part x.meaning)) fed)
+skipping_sets c aim depth (y ∷ fed) = tt
+
 pub sets_small : (k : Kind) (fed : List Fed) → SetsSmall (ask k fed)
 sets_small (Reads (Command c)) fed = row_sets c fed
 sets_small (Reads Integer) fed = valued_sets Integer [] (ask (Reads Integer) fed) (values (Reads Integer) fed)
@@ -58,5 +71,6 @@ sets_small (Reads (Definition name expanded)) fed =
 sets_small (Spelling c) fed = spelling_holds (λ b a. SetsSmall a) (λ b want plain. tt) (λ report back. tt) (λ b. tt) (λ b c ts. tt) c [] false fed
 sets_small (FileName c) fed = file_sets c Nonblank [] fed
 sets_small (Behind c x) fed = tt
+sets_small (Skips c aim line) fed = skipping_sets c aim 0 fed
 sets_small (Arguments name long number ts) [] = tt
 sets_small (Arguments name long number ts) (y ∷ fed) = call_sets name (gathered long ts (y ∷ fed))

@@ -93,6 +93,7 @@ unnamed_stands sizes e book b st = record {
       small = st.sound.sized.small;
       own = st.sound.sized.own;
       readings = st.sound.sized.readings;
+      conditionals = st.sound.sized.conditionals;
       input = st.sound.sized.input;
       names = st.sound.sized.names;
       located = st.sound.sized.located;
@@ -111,7 +112,7 @@ module _ (sizes : Sizes) (e : Engine) (i : Stored) (book : Book) (is : i ≡ rec
   pub settled_stands : KeepsMacros e.input i → Stands sizes e book → Stands sizes (record e { input = i }) book
   settled_stands kept st =
       name_stands sizes e (record e { input = i }) book (record { readings = refl; lists = ap (λ (x : Stored). x.builds) is; call = refl; calling = ap (λ (x : Stored). x.call) is })
-      (record { depth = refl; call = refl; names = refl; after = refl; mag_set = refl; last = refl; naming = refl; in_line = refl; reports = refl; flawed = refl; quiet = refl; sizes = refl })
+      (record { depth = refl; call = refl; names = refl; after = refl; mag_set = refl; conditionals = refl; last = refl; naming = refl; in_line = refl; reports = refl; flawed = refl; quiet = refl; sizes = refl })
       (store_settled e.input i is kept) (ap (λ (x : Stored). x.making) is ∙ st.idle) st
 
   pub settled_did : (w : World) → Did sizes (state_of e book) (state_of (record e { input = i }) book) w w (Settled ∷ [])

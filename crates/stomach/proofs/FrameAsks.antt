@@ -4,6 +4,7 @@ use Rattle.std.proofs.Common.{◌≡◌, ◌+◌, ℕ, Bool, true, false, List, 
 use Rattle.std.specs.Prelude.{◌≢◌, Option, None, Some}
 use Rattle.tex_defs.specs.declared.Token.{Token}
 use Rattle.plain_state.specs.Definitions as build
+use Rattle.conditionals.specs.declared.choice.Aim.{Aim}
 use Rattle.rows.specs.declared.words.Datum.{Datum}
 use Rattle.rows.specs.declared.words.Datum.TheVariants as datum
 use Rattle.rows.specs.declared.words.Value.TheVariants as value
@@ -42,14 +43,16 @@ use Rattle.scan_dimens.specs.Sees.{kept as kept_tokens}
 use Rattle.scan_dimens.specs.declared.keyword.KeywordPlace.{KeywordPlace}
 use Rattle.scan_dimens.specs.declared.keyword.KeywordPlace.TheVariants as keyword
 use Rattle.reading_frames.specs.Sees.{Lists, top_list, kept_list_of}
-use Rattle.reading_frames.specs.Resumes.{resume, resume_build, name_at, file_at, list_count, listed_count}
+use Rattle.reading_frames.specs.Resumes.{resume, resume_build, name_at, file_at, skip_at, list_count, listed_count}
 use Rattle.reading_frames.specs.Stack.{asks_in, innermost_count}
 use Rattle.reading_frames.specs.declared.command.CommandScan.TheVariants as command
 use Rattle.reading_frames.specs.declared.file_name.FilePlace.{FilePlace}
 use Rattle.reading_frames.specs.declared.file_name.FilePlace.TheVariants as file
 use Rattle.reading_frames.specs.declared.frame.Frame.{Frame}
-use Rattle.reading_frames.specs.declared.frame.Frame.TheVariants.{Command, Integer, Factor, Dimension, Glue, Keyword as Word, Build, Spelling, FileName, Behind}
+use Rattle.reading_frames.specs.declared.frame.Frame.TheVariants.{Command, Integer, Factor, Dimension, Glue, Keyword as Word, Build, Spelling, FileName, Behind, Skips}
 use Rattle.reading_frames.specs.Weights.{own_weight, frames_weight}
+use Rattle.reading_frames.specs.declared.skip.SkipPlace.{SkipPlace}
+use Rattle.reading_frames.specs.declared.skip.SkipPlace.TheVariants as skip
 use Rattle.reading_frames.specs.declared.spelling.SpellPlace.{SpellPlace}
 use Rattle.reading_frames.specs.declared.spelling.SpellPlace.TheVariants as spell
 
@@ -105,6 +108,7 @@ module _ (turn : Call → List Fed → Ask) (c : Call) (ds : List Datum) (onward
   started_listless (stage.NumberUpTo greatest) = tt
   started_listless stage.Dimension = tt
   started_listless (stage.Glue mu) = tt
+  started_listless stage.Relation = tt
   started_listless stage.Amount = value_listless (value_stage (location 0 ds))
   started_listless stage.Equals = tt
   started_listless stage.ControlSequence = tt
@@ -117,6 +121,8 @@ module _ (turn : Call → List Fed → Ask) (c : Call) (ds : List Datum) (onward
   started_listless stage.Space = tt
   started_listless stage.AnyToken = tt
   started_listless stage.NonblankToken = tt
+  started_listless stage.UnenteredToken = tt
+  started_listless stage.ExpandedToken = tt
   started_listless (stage.Text expanded) = tt
   started_listless (stage.MacroText expanded) = tt
   started_listless (stage.Prefixes p) = tt
@@ -207,6 +213,11 @@ file_modest c file.Inside list = tt
 file_modest c (file.Whole back) list = tt
 file_modest c file.Stopped list = tt
 
+skip_meek : (c : Call) (a : Aim) (p : SkipPlace) → IsMeek (skip_at c a p [])
+skip_meek c a (skip.Inside text) = tt
+skip_meek c a (skip.Whole e) = tt
+skip_meek c a skip.Stopped = tt
+
 not_so : (a b : Ask) → a ≡ b → IsModest a → IsModest b
 not_so a b is h = subst IsModest is h
 
@@ -229,6 +240,7 @@ begins_none (Build scan) held c is = not_meek _ _ is (build_meek (resume_build s
 begins_none (Spelling scan) held c is = not_so _ _ is (name_modest scan.call scan.place (top_list held))
 begins_none (FileName scan) held c is = not_so _ _ is (file_modest scan.call scan.place (top_list held))
 begins_none (Behind d x) held c is = cc
+begins_none (Skips scan) held c is = not_meek _ _ is (skip_meek scan.call scan.aim scan.place)
 
 -- what begins one is no reading that ends with a value
 begins_heavy : (f : Frame) (held : Lists) (c : Call) (begins : Bool) → resume f held [] ≡ Inner (kind.Command c) begins → own_weight f ≡ act_frame
@@ -277,6 +289,7 @@ list_own (Build scan) held ts has some = refl
 list_own (Spelling scan) held ts has some = refl
 list_own (FileName scan) held ts has some = refl
 list_own (Behind d x) held ts has some = absurd has
+list_own (Skips scan) held ts has some = absurd (meek_not _ ts (skip_meek scan.call scan.aim scan.place) has)
 
 -- the innermost
 

@@ -61,6 +61,7 @@ module _ (page : Page) (work : List Reading) (x : Seen) where
   -- and else it is fed, if it isn't dropped
   pub fed_moves : (w : Want) → is_dropped w x ≡ false → Stays (Some w) x → onward_of page (Some w) work x ≡ feeds_of work x
   fed_moves want.Raw is stays = refl
+  fed_moves want.Unentered is stays = refl
   fed_moves want.Expanded is stays = unexpanded feeds stays
   fed_moves want.Copied is stays = unexpanded feeds stays
   fed_moves want.Nonblank is stays = ap (λ (b : Bool). if b then [] else expanded page x feeds) is ∙ unexpanded feeds stays

@@ -24,6 +24,7 @@ pub mod RuleCloses
 pub mod Fetching
 pub mod RuleHalts
 pub mod ActsEnding
+pub mod GoingOn
 pub mod Codes
 pub mod FilesClosed
 pub mod FilesKept

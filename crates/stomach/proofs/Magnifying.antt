@@ -39,6 +39,7 @@ mag_stands sizes e book n st = let sized = st.sound.sized in record {
       small = sized.small;
       own = sized.own;
       readings = sized.readings;
+      conditionals = sized.conditionals;
       input = sized.input;
       names = sized.names;
       located = sized.located;

@@ -175,6 +175,7 @@ module _ (sizes : Sizes) (e : Engine) (book : Book) (w : World) (r : Reading) (r
           small = st.sound.sized.small;
           own = st.sound.sized.own;
           readings = size ∙ st.sound.sized.readings;
+          conditionals = st.sound.sized.conditionals;
           input = st.sound.sized.input;
           names = st.sound.sized.names;
           located = same ∙ st.sound.sized.located;
@@ -271,7 +272,7 @@ module _ (sizes : Sizes) (s : State) (e e1 e2 : Engine) (w : World) (moves : Lis
     behind_went others store idle did =
         went_on sizes s (state_of e1 went.book') e2 w w w moves (behind_assignment e.after) 0 0 went.did went.count (record {
           book' = went.book';
-          stands = all_still sizes e1 e2 went.book' same store (sound_still sizes e1 e2 went.book'.number went.book'.macros others.sizes others.depth others.names others.reports store standing.sound) idle went.stands;
+          stands = all_still sizes e1 e2 went.book' same store (sound_still sizes e1 e2 went.book'.number went.book'.macros others.sizes others.depth others.conditionals others.names others.reports store standing.sound) idle went.stands;
           did = subst (λ (o : Option Token). Did sizes (state_of e1 went.book') (state_of e2 went.book') w w (behind_assignment o)) after (did sizes w went.book' (counts_of sizes e1 went.book' standing));
           count = behind_silent e.after;
         })

@@ -239,7 +239,7 @@ module _ (sizes : Sizes) (e : Engine) (left : Rests) (i : Stored) (is : i ≡ re
 
   settled_stands : (book : Book) → AllStand sizes e book → AllStand sizes settled_engine book
   settled_stands book h = all_still sizes e settled_engine book settled_frames (store_settled e.input i is kept)
-      (sound_still sizes e settled_engine book.number book.macros refl refl refl refl (store_settled e.input i is kept) h.sound) (ap (λ (x : Stored). x.making) is ∙ h.idle) h
+      (sound_still sizes e settled_engine book.number book.macros refl refl refl refl refl (store_settled e.input i is kept) h.sound) (ap (λ (x : Stored). x.making) is ∙ h.idle) h
 
   settled_same : (book : Book) → record (state_of e book) { pending = settle (state_of e book).pending } ≡ state_of settled_engine book
   settled_same book = ap (λ (p : Pending). record (state_of e book) { pending = p }) (settle_of book.number e.input.pending) ∙ ap (λ (x : Stored). state_of (record e { input = x }) book) (sym is)

@@ -74,6 +74,7 @@ module _ (sizes : Sizes) (e e1 : Engine) (book : Book) (only : OnlySpelt e e1) w
       small = h.sized.small;
       own = h.sized.own;
       readings = h.sized.readings;
+      conditionals = h.sized.conditionals;
       input = h.sized.input;
       names = h.sized.names;
       located = h.sized.located;

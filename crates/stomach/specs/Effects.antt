@@ -25,7 +25,7 @@ put_by page (effect.MakeMeaning x) = put_characters (meaning_characters page x)
 put_by page (effect.MakeValue l) = put_characters (value_text l (value_seen (get page.now l)))
 put_by page e = []
 
--- what is done alone, where no token is obeyed and none expanded, nothing is computed, and no list put in front
+-- what is done alone, where no token is obeyed and none expanded, nothing is computed, no list put in front, and no conditional goes on
 abbrev pub done_alone : Page → Call → Effect → List Move
 done_alone page c (effect.Show x) = shown page x
 done_alone page c (effect.ShowValue l) = standing_shown page l
@@ -47,6 +47,9 @@ IsAlone (effect.Obey x) = ⊥
 IsAlone (effect.ExpandBehind x y) = ⊥
 IsAlone (effect.Compute operation l d) = ⊥
 IsAlone (effect.PutList l) = ⊥
+IsAlone (effect.Choose v) = ⊥
+IsAlone (effect.Compare x y) = ⊥
+IsAlone (effect.Reach a e) = ⊥
 IsAlone e = Unit {0}
 
 -- the assignment of what arithmetic comes to; a value that is no number and no glue counts as the number 0

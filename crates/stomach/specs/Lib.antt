@@ -7,3 +7,4 @@ pub mod Obeying
 pub mod Ran
 pub mod Read
 pub mod Sets
+pub mod Skipping

@@ -28,6 +28,7 @@ ghost use Rattle.rows.specs.Suiting.{IsVariable, IsSmall, IsThere};
 ghost use Rattle.stomach.specs.Effects.{put_by, done_alone, assignment_of, IsAlone};
 ghost use Rattle.stomach.specs.Halting.{DoesRuleIn};
 
+use crate::conditional::{choose_behind, compare_behind, reach};
 use crate::lists::{give_list, share_list};
 use crate::obeying::obey;
 use engine_state::{Broken, Engine, Made, Ruled};
@@ -286,7 +287,8 @@ fn assignment(loc: Loc, value: Val<()>) -> Effect
     }
 }
 
-/// Does what a command says, where no token is obeyed and none expanded, nothing is computed, and no list put in front.
+/// Does what a command says, where no token is obeyed and none expanded, nothing is computed, no list put in front, and no conditional goes
+/// on.
 ///
 /// # Errors
 /// There is no room for what is put in front or in the save stack, or a write failed: the engine stands for the moment before.
@@ -351,7 +353,7 @@ fn act_alone<S: Sink>(
 }
 
 /// A rule without a step.
-fn free(ruled: Ruled) -> Ruled
+pub(crate) fn free(ruled: Ruled) -> Ruled
     ensures { result ≡ freed ruled }
 {
     match ruled {
@@ -420,7 +422,8 @@ fn expand_behind<S: Sink>(
     }
 }
 
-/// Does what a command says, where no token is obeyed and none expanded, nothing is computed, and no list put in front, and its reading ends.
+/// Does what a command says, where no token is obeyed and none expanded, nothing is computed, no list put in front, and no conditional goes
+/// on, and its reading ends.
 ///
 /// # Errors
 /// As [`act_alone`].
@@ -527,6 +530,15 @@ pub(crate) fn act<S: Sink>(
             give_list(engine, loc)?;
             Ok(Ruled::Free)
         }
+        Effect::Choose(value) => {
+            choose_behind(engine, call, value)?;
+            Ok(Ruled::Free)
+        }
+        Effect::Compare(x, y) => {
+            compare_behind(engine, call, x, y)?;
+            Ok(Ruled::Free)
+        }
+        Effect::Reach(aim, ender) => reach(engine, out, call, aim, ender),
         _ => {
             end_alone(engine, out, call, effect)?;
             Ok(Ruled::Free)

@@ -5,6 +5,7 @@
 #![tactic(auto)]
 
 mod ahead;
+mod conditional;
 mod define;
 mod early;
 mod effects;

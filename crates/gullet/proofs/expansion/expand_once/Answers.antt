@@ -1,17 +1,19 @@
-use Rattle.std.proofs.Common.{[], ◌∷◌, sym, ap, subst, ◌∙◌}
+use Rattle.std.proofs.Common.{◌≡◌, [], ◌∷◌, refl, sym, ap, subst, ◌∙◌}
 use Rattle.tex_syntax.specs.declared.words.Report.TheVariants.{UndefinedName}
 use Rattle.input_state.specs.Stored.{Stored}
 use Rattle.reading_frames.specs.Sees.{kind_of}
-use Rattle.plain_machine.specs.Plan.{reported, called, input_met, expanded}
-use Rattle.plain_machine.specs.States.{Begun}
+use Rattle.conditionals.specs.Open.{constant_test}
+use Rattle.plain_machine.specs.Plan.{reported, called, input_met, conditional_begun, ender_met, expanded}
+use Rattle.plain_machine.specs.States.{Begun, FileEnds}
 use Rattle.engine_state.specs.declared.broken.Broken.TheVariants as broken
+use Rattle.engine_state.specs.declared.engine.Engine.{Engine}
 use Rattle.engine_state.specs.Stands.{state_of, page_of}
 use Rattle.engine_state.specs.Steps.{pending_weight}
 use Rattle.gullet.specs.Stepping.{IsLight, job_moves}
 use Rattle.engine_state.proofs.Uncalled.{all_of}
 use Rattle.engine_state.proofs.Counting.{counts_of}
 use Rattle.gullet.proofs.Ending.{on_end}
-use Rattle.gullet.proofs.Expanding.{once_reports, expansion_went, moves_as, expands_as, reports_change, reports_leave}
+use Rattle.gullet.proofs.Expanding.{once_reports, expansion_went, moves_as, expands_as, reports_change, reports_leave, over_halted}
 use Rattle.gullet.proofs.ExpandingWeighs.{same_light, begun_light, framed_light}
 use Rattle.engine_state.proofs.Joining.{same_err, went_by, column_went}
 use Rattle.engine_state.proofs.CuttingReadings.{cuts_in, stands_in, column_in, in_by}
@@ -86,6 +88,39 @@ returns-in_ok-begin_input-in-Input-clause-rule g c = let e = c.args.engine.now i
     went_by sizes (state_of e book) c.begin_input.new.engine _ _ (input_met (page_of e book) i.token i.call) (expanded (page_of e book) c.args.seen moves) 0 (moves_as (page_of e book) c.args.seen moves i.is (c.expansion_of.ensures.to (page_of e book) moves))
     (column_went sizes (state_of e book) c.begin_input.new.engine f _ e.in_line (input_met (page_of e book) i.token i.call) 0 c.begin_input.ensures.column (n.ensures.rule sizes _ book st))
 
+pub returns-in-EndInput-clause-rule : goal.returns-in-EndInput-clause-rule
+returns-in-EndInput-clause-rule g c = let e = c.args.engine.now in let e1 = c.end_input.new.self in let n = c.end_input.ensures in
+    let column : e1.in_line ≡ e.in_line = ap (λ (x : Engine). x.in_line) n.only in
+    λ sizes f book moves st.
+    went_by sizes (state_of e book) e1 _ _ (FileEnds ∷ []) (expanded (page_of e book) c.args.seen moves) 0 (moves_as (page_of e book) c.args.seen moves c.in-EndInput.is (c.expansion_of.ensures.to (page_of e book) moves))
+    (column_went sizes (state_of e book) e1 f _ e.in_line (FileEnds ∷ []) 0 column (record { book' = book; stands = n.stands sizes book (all_of sizes e book st); did = n.did sizes _ book; count = refl }))
+
+pub returns-in_err-begin_conditional-in-Conditional-clause-err : goal.returns-in_err-begin_conditional-in-Conditional-clause-err
+returns-in_err-begin_conditional-in-Conditional-clause-err g c = let e = c.args.engine.now in let n = c.in_err-begin_conditional-in-Conditional in let i = c.in-Conditional in
+    same_err c.from_residual-in_err-begin_conditional-in-Conditional.result n.field-0.0 _ c.from_residual-in_err-begin_conditional-in-Conditional.ensures.1
+    (λ sizes f book moves st.
+    in_by sizes (state_of e book) c.begin_conditional.new.engine _ _ (conditional_begun (page_of e book) i.call i.number (constant_test i.number)) (expanded (page_of e book) c.args.seen moves) n.field-0.0 (moves_as (page_of e book) c.args.seen moves i.is (c.expansion_of.ensures.to (page_of e book) moves))
+    (column_in sizes (state_of e book) c.begin_conditional.new.engine f _ e.in_line (conditional_begun (page_of e book) i.call i.number (constant_test i.number)) n.field-0.0 c.begin_conditional.ensures.column (n.ensures.err sizes _ book st)))
+
+pub returns-in_ok-begin_conditional-in-Conditional-clause-rule : goal.returns-in_ok-begin_conditional-in-Conditional-clause-rule
+returns-in_ok-begin_conditional-in-Conditional-clause-rule g c = let e = c.args.engine.now in let n = c.in_ok-begin_conditional-in-Conditional in let i = c.in-Conditional in
+    λ sizes f book moves st.
+    went_by sizes (state_of e book) c.begin_conditional.new.engine _ _ (conditional_begun (page_of e book) i.call i.number (constant_test i.number)) (expanded (page_of e book) c.args.seen moves) 0 (moves_as (page_of e book) c.args.seen moves i.is (c.expansion_of.ensures.to (page_of e book) moves))
+    (column_went sizes (state_of e book) c.begin_conditional.new.engine f _ e.in_line (conditional_begun (page_of e book) i.call i.number (constant_test i.number)) 0 c.begin_conditional.ensures.column (n.ensures.rule sizes _ book st))
+
+pub returns-in_err-ruled-in-Ender-clause-err : goal.returns-in_err-ruled-in-Ender-clause-err
+returns-in_err-ruled-in-Ender-clause-err g c = let e = c.args.engine.now in let n = c.in_err-ruled-in-Ender in let i = c.in-Ender in
+    same_err c.from_residual-in_err-ruled-in-Ender.result n.field-0.0 _ c.from_residual-in_err-ruled-in-Ender.ensures.1
+    (λ sizes f book moves st.
+    in_by sizes (state_of e book) c.meet_ender.new.engine _ _ (ender_met (page_of e book) i.token i.call i.ender) (expanded (page_of e book) c.args.seen moves) n.field-0.0 (moves_as (page_of e book) c.args.seen moves i.is (c.expansion_of.ensures.to (page_of e book) moves))
+    (n.ensures.err sizes f book st))
+
+pub returns-in_ok-ruled-in-Ender-clause-rule : goal.returns-in_ok-ruled-in-Ender-clause-rule
+returns-in_ok-ruled-in-Ender-clause-rule g c = let e = c.args.engine.now in let n = c.in_ok-ruled-in-Ender in let i = c.in-Ender in
+    λ sizes f book moves st.
+    once_reports sizes (state_of e book) c.meet_ender.new.engine book _ _ (ender_met (page_of e book) i.token i.call i.ender) (expanded (page_of e book) c.args.seen moves) moves n.ruled c.once_behind-in-Ender.result
+    (moves_as (page_of e book) c.args.seen moves i.is (c.expansion_of.ensures.to (page_of e book) moves)) c.once_behind-in-Ender.ensures (n.ensures.rule sizes f book st)
+
 pub returns-in-Unexpandable-clause-rule : goal.returns-in-Unexpandable-clause-rule
 returns-in-Unexpandable-clause-rule g c = let e = c.args.engine.now in
     λ sizes f book moves st. moves_as (page_of e book) c.args.seen moves c.in-Unexpandable.is (c.expansion_of.ensures.to (page_of e book) moves)
@@ -119,6 +154,20 @@ returns-in_err-put_job-in-JobName-clause-which g c =
 pub returns-in_ok-put_job-in-JobName-clause-which : goal.returns-in_ok-put_job-in-JobName-clause-which
 returns-in_ok-put_job-in-JobName-clause-which g c = sym (expands_as c.args.seen c.in-JobName.is c.expansion_of.ensures.which)
 
+pub returns-in_err-begin_conditional-in-Conditional-clause-which : goal.returns-in_err-begin_conditional-in-Conditional-clause-which
+returns-in_err-begin_conditional-in-Conditional-clause-which g c =
+    on_end _ _ _ c.from_residual-in_err-begin_conditional-in-Conditional.result c.from_residual-in_err-begin_conditional-in-Conditional.ensures.1 (expands_as c.args.seen c.in-Conditional.is c.expansion_of.ensures.which)
+
+pub returns-in_ok-begin_conditional-in-Conditional-clause-which : goal.returns-in_ok-begin_conditional-in-Conditional-clause-which
+returns-in_ok-begin_conditional-in-Conditional-clause-which g c = sym (expands_as c.args.seen c.in-Conditional.is c.expansion_of.ensures.which)
+
+pub returns-in_err-ruled-in-Ender-clause-which : goal.returns-in_err-ruled-in-Ender-clause-which
+returns-in_err-ruled-in-Ender-clause-which g c =
+    on_end _ _ _ c.from_residual-in_err-ruled-in-Ender.result c.from_residual-in_err-ruled-in-Ender.ensures.1 (expands_as c.args.seen c.in-Ender.is c.expansion_of.ensures.which)
+
+pub returns-in_ok-ruled-in-Ender-clause-which : goal.returns-in_ok-ruled-in-Ender-clause-which
+returns-in_ok-ruled-in-Ender-clause-which g c = reports_change c.in_ok-ruled-in-Ender.ruled c.once_behind-in-Ender.result c.once_behind-in-Ender.ensures ∙ sym (expands_as c.args.seen c.in-Ender.is c.expansion_of.ensures.which)
+
 pub returns-in-Unexpandable-clause-which : goal.returns-in-Unexpandable-clause-which
 returns-in-Unexpandable-clause-which g c = sym (expands_as c.args.seen c.in-Unexpandable.is c.expansion_of.ensures.which)
 
@@ -139,6 +188,12 @@ pub returns-in_ok-put_job-in-JobName-clause-light : goal.returns-in_ok-put_job-i
 returns-in_ok-put_job-in-JobName-clause-light g c expanded light = let e = c.args.engine.now in let n = c.in_ok-put_job-in-JobName.ensures in
     framed_light e c.requires.uncalled light c.put_job.new.engine n.call n.frames n.pending
 
+pub returns-in_ok-begin_conditional-in-Conditional-clause-light : goal.returns-in_ok-begin_conditional-in-Conditional-clause-light
+returns-in_ok-begin_conditional-in-Conditional-clause-light g c expanded light = c.in_ok-begin_conditional-in-Conditional.ensures.light c.requires.uncalled light
+
+pub returns-in_ok-ruled-in-Ender-clause-light : goal.returns-in_ok-ruled-in-Ender-clause-light
+returns-in_ok-ruled-in-Ender-clause-light g c expanded light = c.in_ok-ruled-in-Ender.ensures.light light
+
 -- WHAT STAYS
 
 pub returns-in_ok-ruled-in-Undefined-clause-halts : goal.returns-in_ok-ruled-in-Undefined-clause-halts
@@ -149,3 +204,12 @@ returns-in_ok-ruled-in-Undefined-clause-stays g c stays = absurd (reports_leave 
 
 pub returns-in_ok-ruled-in-Undefined-clause-silent : goal.returns-in_ok-ruled-in-Undefined-clause-silent
 returns-in_ok-ruled-in-Undefined-clause-silent g c stays = absurd (reports_leave c.in_ok-ruled-in-Undefined.ruled c.once_behind.result c.once_behind.ensures stays)
+
+pub returns-in_ok-ruled-in-Ender-clause-halts : goal.returns-in_ok-ruled-in-Ender-clause-halts
+returns-in_ok-ruled-in-Ender-clause-halts g c over = c.in_ok-ruled-in-Ender.ensures.halts (over_halted c.in_ok-ruled-in-Ender.ruled c.once_behind-in-Ender.result c.once_behind-in-Ender.ensures over)
+
+pub returns-in_ok-ruled-in-Ender-clause-stays : goal.returns-in_ok-ruled-in-Ender-clause-stays
+returns-in_ok-ruled-in-Ender-clause-stays g c stays = absurd (reports_leave c.in_ok-ruled-in-Ender.ruled c.once_behind-in-Ender.result c.once_behind-in-Ender.ensures stays)
+
+pub returns-in_ok-ruled-in-Ender-clause-silent : goal.returns-in_ok-ruled-in-Ender-clause-silent
+returns-in_ok-ruled-in-Ender-clause-silent g c stays = absurd (reports_leave c.in_ok-ruled-in-Ender.ruled c.once_behind-in-Ender.result c.once_behind-in-Ender.ensures stays)

@@ -1,0 +1,143 @@
+// A conditional begins, goes on by the value of its test, and skips text; and a `\fi`, an `\else` or an `\or` comes in text that is read.
+// *The TeXbook*, chapter 20; *TeX: The Program*, part 28 (`conditional`, `fi_or_else`, `pass_text`, `change_if_limit`).
+ghost use Rattle.std.specs.Prelude.{◌≡◌, ◌≤◌, ◌+◌, ℕ, IfOk, IfErr, OnOk, None};
+ghost use Rattle.tex_defs.specs.declared.Sizes.{Sizes};
+ghost use Rattle.tex_defs.specs.Places.{World};
+ghost use Rattle.conditionals.specs.Open.{constant_test as plain_constant};
+ghost use Rattle.plain_readings.specs.Weights.{act_frame, act_weight};
+ghost use Rattle.reading_frames.specs.Weights.{frames_weight, innermost_weight};
+ghost use Rattle.plain_machine.specs.Plan.{chosen, conditional_begun, ender_met, ender_number as plain_number, skips};
+ghost use Rattle.world_io.specs.Told.{FilesTold};
+ghost use Rattle.engine_state.specs.Book.{Book};
+ghost use Rattle.engine_state.specs.CutReadings.{CutsIn};
+ghost use Rattle.engine_state.specs.Rules.{world_of, Went, DoesOnward};
+ghost use Rattle.engine_state.specs.Stands.{Stands, SameFrames, state_of, page_of};
+ghost use Rattle.engine_state.specs.Steps.{pending_weight, weight, IsFree, IsHalted};
+
+use crate::relax::put_behind_relax;
+use conditionals::{Aim, Choice, Ender, Met, Value, constant_test, on_fi_or_else};
+use engine_state::{Broken, Engine, Ruled};
+use reading_frames::Opening;
+use rows::{Call, Kind};
+use tex_defs::Token;
+use tex_syntax::Report;
+use world_io::Sink;
+
+/// Text is skipped for a conditional that seeks this, from the present line on. *TeX: The Program*, part 28 (`pass_text`).
+///
+/// # Errors
+/// There is no room for the reading: the engine stands for the moment before.
+pub fn skip_on(engine: &mut Engine, call: Call, aim: Aim) -> Result<(), Broken>
+    ensures rule { OnOk result ((sizes : Sizes) (w : World) (book : Book) → Stands sizes engine.old book →
+        Went sizes (state_of engine.old book) engine.new w w (skips (page_of engine.old book) call aim) 0) }
+    ensures err { IfErr result (λ b. (sizes : Sizes) (w : World) (book : Book) → Stands sizes engine.old book →
+        CutsIn sizes (state_of engine.old book) engine.new w w (skips (page_of engine.old book) call aim) b) }
+    ensures light { OnOk result ((most : ℕ) → engine.old.call ≡ None → act_frame ≤ most → weight engine.new ≤ frames_weight engine.old.readings.frames + most + pending_weight engine.old.input.pending) }
+    ensures call { engine.new.call ≡ engine.old.call }
+    ensures column { engine.new.in_line ≡ engine.old.in_line }
+    ensures idle { engine.new.input.making ≡ engine.old.input.making }
+{
+    let line = engine.line();
+    engine.begin(Opening::Skips(call, aim, line))?;
+    Ok(())
+}
+
+/// A conditional goes on by the value of its test: its text is read on, or skipped from the present line on.
+/// *TeX: The Program*, part 28 (`conditional`).
+///
+/// # Errors
+/// There is no room for the reading of skipped text: the engine stands for the moment before.
+pub fn choose(engine: &mut Engine, call: Call, value: Value) -> Result<(), Broken>
+    ensures rule { OnOk result ((sizes : Sizes) (w : World) (book : Book) → Stands sizes engine.old book →
+        Went sizes (state_of engine.old book) engine.new w w (chosen (page_of engine.old book) call value) 0) }
+    ensures err { IfErr result (λ b. (sizes : Sizes) (w : World) (book : Book) → Stands sizes engine.old book →
+        CutsIn sizes (state_of engine.old book) engine.new w w (chosen (page_of engine.old book) call value) b) }
+    ensures light { OnOk result ((most : ℕ) → engine.old.call ≡ None → act_frame ≤ most → innermost_weight engine.old.readings.frames ≤ most → weight engine.new ≤ frames_weight engine.old.readings.frames + most + pending_weight engine.old.input.pending) }
+    ensures call { engine.new.call ≡ engine.old.call }
+    ensures column { engine.new.in_line ≡ engine.old.in_line }
+    ensures idle { engine.new.input.making ≡ engine.old.input.making }
+{
+    // What its test left open above it is counted where an ender comes.
+    let choice = Choice::new(value, 0);
+    match choice.start() {
+        Some(limit) => {
+            engine.set_limit(limit);
+            Ok(())
+        }
+        None => skip_on(engine, call, choice.aim),
+    }
+}
+
+/// A conditional begins: the reading of what it tests, and the conditional itself. What reads nothing goes on at once.
+///
+/// # Errors
+/// There is no room for a reading or for the conditional: the engine stands for the moment before.
+pub(crate) fn begin_conditional(engine: &mut Engine, call: Call, number: u16) -> Result<(), Broken>
+    ensures rule { OnOk result ((sizes : Sizes) (w : World) (book : Book) → Stands sizes engine.old book →
+        Went sizes (state_of engine.old book) engine.new w w (conditional_begun (page_of engine.old book) call number (plain_constant number)) 0) }
+    ensures err { IfErr result (λ b. (sizes : Sizes) (w : World) (book : Book) → Stands sizes engine.old book →
+        CutsIn sizes (state_of engine.old book) engine.new w w (conditional_begun (page_of engine.old book) call number (plain_constant number)) b) }
+    ensures light { OnOk result (engine.old.call ≡ None → innermost_weight engine.old.readings.frames ≤ act_weight → weight engine.new ≤ frames_weight engine.old.readings.frames + act_weight + pending_weight engine.old.input.pending) }
+    ensures column { engine.new.in_line ≡ engine.old.in_line }
+    ensures idle { engine.new.input.making ≡ engine.old.input.making }
+{
+    engine.begin(Opening::Reads(Kind::Command(call)))?;
+    engine.begin_conditional(number)?;
+    match constant_test(number) {
+        Some(truth) => {
+            engine.close_reading();
+            choose(engine, call, Value::Truth(truth))
+        }
+        None => Ok(()),
+    }
+}
+
+/// The number of its primitive.
+fn ender_number(ender: Ender) -> u16
+    ensures { result ≡ plain_number ender }
+{
+    match ender {
+        Ender::Fi => 82,
+        Ender::Else => 83,
+        Ender::Or => 84,
+    }
+}
+
+/// A `\fi`, an `\else` or an `\or` comes in text that is read, by this token. *TeX: The Program*, part 28 ("Terminate the current conditional and
+/// skip to \fi").
+///
+/// # Errors
+/// There is no room for what comes, or a write failed: the engine stands for the moment before.
+pub(crate) fn meet_ender<S: Sink>(
+    engine: &mut Engine,
+    out: &mut S,
+    token: Token,
+    call: Call,
+    ender: Ender,
+) -> Result<Ruled, Broken>
+    requires idle { engine.old.input.making ≡ None }
+    requires uncalled { engine.old.call ≡ None }
+    ensures rule { IfOk result (λ ruled. (sizes : Sizes) (f : FilesTold) (book : Book) → Stands sizes engine.old book →
+        DoesOnward sizes (state_of engine.old book) engine.new book (world_of f (S.told out.old) engine.old) (world_of f (S.told out.new) engine.new) (ender_met (page_of engine.old book) token call ender) ruled) }
+    ensures err { IfErr result (λ b. (sizes : Sizes) (f : FilesTold) (book : Book) → Stands sizes engine.old book →
+        CutsIn sizes (state_of engine.old book) engine.new (world_of f (S.told out.old) engine.old) (world_of f (S.told out.new) engine.new) (ender_met (page_of engine.old book) token call ender) b) }
+    ensures halts { IfOk result (λ ruled. IsHalted ruled → SameFrames engine.old engine.new) }
+    ensures light { OnOk result (innermost_weight engine.old.readings.frames ≤ act_weight → weight engine.new ≤ frames_weight engine.old.readings.frames + act_weight + pending_weight engine.old.input.pending) }
+    ensures idle { OnOk result (engine.new.input.making ≡ None) }
+{
+    match on_fi_or_else(engine.limit(), ender) {
+        Met::RelaxBefore => {
+            put_behind_relax(engine, token)?;
+            Ok(Ruled::Step)
+        }
+        Met::Extra => engine.report_only(out, Report::ExtraFiOrElse(ender_number(ender))),
+        Met::SkipsToFi => {
+            skip_on(engine, call, Aim::Fi)?;
+            Ok(Ruled::Step)
+        }
+        Met::Closes => {
+            engine.close_conditional();
+            Ok(Ruled::Step)
+        }
+    }
+}
