@@ -20,16 +20,16 @@ const FIRST: Token = Token::Char { cat: 12, code: 49 };
 
 const SECOND: Token = Token::Named(Name::Empty);
 
-// `\def\a{x}`
-fn define_a(input: &mut Input) -> Result<(), Full>
+// `\def` of this name, with this token as the body.
+fn define(input: &mut Input, name: Name, body: Token) -> Result<(), Full>
     requires { input.old.call ≡ NotCalling }
     ensures { input.new.call ≡ NotCalling }
 {
     input.begin_list()?;
     input.grow_list(Token::EndPlaces)?;
-    input.grow_list(LETTER)?;
-    if input.is_placed(A) {
-        return input.define(A, false, false, false);
+    input.grow_list(body)?;
+    if input.is_placed(name) {
+        return input.define(name, false, false, false);
     }
     Ok(())
 }
@@ -122,7 +122,7 @@ const INSIDE: Told = (
 fn gives_back(input: &mut Input) -> Result<bool, Full>
     requires { input.old.call ≡ NotCalling }
 {
-    define_a(input)?;
+    define(input, A, LETTER)?;
     let before = told(input) == OUTSIDE;
     let inside = in_group(input)? == INSIDE;
     let tokens = end_group(input);
@@ -242,4 +242,32 @@ fn are_counted(alloc: Global) -> bool {
 #[test]
 fn a_list_that_is_shared_takes_no_word(rt: HostRuntime) {
     assert!(rt; are_counted(rt.alloc()));
+}
+
+// `\def\a{x}\def\b{x}`, and then `\def\b{1}`: whether the lists of the two are the same at first, and not then, nor that of `\a` and none.
+fn are_same(input: &mut Input) -> Result<bool, Full>
+    requires { input.old.call ≡ NotCalling }
+{
+    define(input, A, LETTER)?;
+    define(input, B, LETTER)?;
+    let first = input.seen(Token::Named(A));
+    let same = input.same_list(first, input.seen(Token::Named(B)));
+    define(input, B, FIRST)?;
+    let other = input.same_list(first, input.seen(Token::Named(B)));
+    let none = input.same_list(first, input.seen(LETTER));
+    Ok(same && !other && !none)
+}
+
+fn are_compared(alloc: Global) -> bool {
+    let Ok(mut input) = Input::new(alloc, &Sizes::DEFAULT, &[]) else {
+        return false;
+    };
+    let same = are_same(&mut input);
+    input.close();
+    matches!(same, Ok(true))
+}
+
+#[test]
+fn macros_are_compared(rt: HostRuntime) {
+    assert!(rt; are_compared(rt.alloc()));
 }

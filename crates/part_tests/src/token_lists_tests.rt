@@ -1,9 +1,9 @@
 //! Parts that hold lists and read them, as the crates above do, and one life of a list.
 
-ghost use Rattle.std.specs.Prelude.{◌≡◌, ℕ, ◌+◌, ◌<◌, ◌^◌, length, slice_get, slice_set, slice_index_or, IfOk, IfSome, IsSome, ◌↔◌, None, Some};
+ghost use Rattle.std.specs.Prelude.{◌≡◌, ℕ, ◌+◌, ◌<◌, ◌^◌, length, slice_get, slice_set, slice_index_or, IfOk, IfSome, IfNone, IsSome, ◌↔◌, None, Some};
 ghost use Rattle.token_lists.specs.Accounts.{IsReading, Moves, Covers, Keeps, none, holds, cell_holds, cells_hold};
 ghost use Rattle.token_lists.specs.Table.{tokens_at, holders_at, IsHeld};
-ghost use Rattle.token_lists.specs.Ids.{id_of, IsBuilding};
+ghost use Rattle.token_lists.specs.Ids.{id_of, build_id, IsBuilding};
 
 use mem_words::Place;
 use std::mem;
@@ -138,10 +138,12 @@ fn assign_while_read(
     registers.assign(lists, from, to);
 }
 
-// Appends a word in braces.
+// Appends a word in braces. Each list has as many holders as before.
 fn append_braced(lists: &mut Lists, build: &mut Build) -> Result<(), Full>
     requires { IsBuilding lists.old build.old }
-    ensures { IsBuilding lists.new build.new }
+    ensures same { build_id build.new ≡ build_id build.old }
+    ensures building { IsBuilding lists.new build.new }
+    ensures account { Moves lists.old lists.new none none }
 {
     lists.append(build, Token::Char { cat: 1, code: 123 })?;
     lists.append(build, Token::Named(Name::Word(65535)))?;
@@ -213,4 +215,46 @@ fn last_holder_frees(rt: HostRuntime) {
         Err(_) => false,
     };
     assert!(rt; freed);
+}
+
+// A list of a word in braces, if there is room for it.
+fn braced(lists: &mut Lists) -> Option<ListRef>
+    ensures held { IfSome result (λ r. IsHeld lists.new (id_of r)) }
+    ensures account { IfSome result (λ r. Moves lists.old lists.new none (holds (id_of r))) }
+    ensures none { IfNone result (Moves lists.old lists.new none none) }
+{
+    let Ok(mut build) = lists.begin() else {
+        return None;
+    };
+    match append_braced(lists, &mut build) {
+        Ok(()) => Some(lists.finish(build)),
+        Err(_) => {
+            lists.abandon(build);
+            None
+        }
+    }
+}
+
+// Whether a list of a word in braces is as another one and as itself.
+fn is_as_another(lists: &mut Lists) -> bool {
+    let Some(list) = braced(lists) else {
+        return false;
+    };
+    let Some(other) = braced(lists) else {
+        lists.release(list);
+        return false;
+    };
+    let same = lists.same(&list, &other) && lists.same(&list, &list);
+    lists.release(other);
+    lists.release(list);
+    same
+}
+
+#[test]
+fn lists_are_compared(rt: HostRuntime) {
+    let same = match Lists::new(rt.alloc(), 8) {
+        Ok(mut lists) => is_as_another(&mut lists) && lists.size() == 8,
+        Err(_) => false,
+    };
+    assert!(rt; same);
 }

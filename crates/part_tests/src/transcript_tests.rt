@@ -14,8 +14,8 @@ use tex_syntax::{Report, UnitTaken};
 use token_lists::{Build, ListRef};
 use token_show::{NamesView, View};
 use transcript::{
-    end_lines, hundred_line, no_end_lines, no_file_lines, write_error_message, write_report,
-    write_shown_meaning, write_shown_value,
+    end_lines, hundred_line, no_end_lines, no_file_lines, write_end_in_conditional,
+    write_error_message, write_report, write_shown_meaning, write_shown_value,
 };
 use world_io::MemSink;
 
@@ -219,6 +219,19 @@ static MAGNIFICATION_REPORTS: [(Report, &[u8]); 3] = [
     ),
 ];
 
+// The reports of conditionals, as TeX words them: of `\ifnum`, `\else` and `\ifx`.
+static CONDITIONAL_REPORTS: [(Report, &[u8]); 3] = [
+    (
+        Report::MissingRelation(67),
+        b"! Missing = inserted for \\ifnum.\nl.5\n",
+    ),
+    (Report::ExtraFiOrElse(83), b"! Extra \\else.\nl.5\n"),
+    (
+        Report::IncompleteConditional(77, 2),
+        b"! Incomplete \\ifx; all text was ignored after line 2.\nl.5\n",
+    ),
+];
+
 // Whether they are written like this.
 fn are_reported(alloc: Global, tables: &Tables, reports: &[(Report, &[u8])]) -> bool
     requires { Knows tables.now.hash tables.now.pool.kept }
@@ -237,6 +250,15 @@ fn are_reported(alloc: Global, tables: &Tables, reports: &[(Report, &[u8])]) -> 
 fn groups_reported(rt: HostRuntime) {
     let reported = match Tables::new(rt.alloc(), b"foo") {
         Ok(tables) => are_reported(rt.alloc(), &tables, &GROUP_REPORTS),
+        Err(_) => false,
+    };
+    assert!(rt; reported);
+}
+
+#[test]
+fn conditionals_reported(rt: HostRuntime) {
+    let reported = match Tables::new(rt.alloc(), b"foo") {
+        Ok(tables) => are_reported(rt.alloc(), &tables, &CONDITIONAL_REPORTS),
         Err(_) => false,
     };
     assert!(rt; reported);
@@ -276,6 +298,16 @@ fn are_end_lines(view: View<'_>) -> bool
         && is_text(end_lines(view, true, 1), fresh)
 }
 
+// Whether `\end` leaves this line where `\iftrue` is open, which began on line 2.
+fn is_conditional_left(view: View<'_>, mut sink: MemSink, wanted: &[u8]) -> bool
+    requires { IsView view }
+{
+    let mut in_line = false;
+    write_end_in_conditional(&mut sink, &mut in_line, view, 79, 2).is_ok()
+        && !in_line
+        && sink.bytes() == wanted
+}
+
 // Whether these lines come where a run ends without `\end`.
 fn are_stops(view: View<'_>) -> bool
     requires { IsView view }
@@ -289,18 +321,19 @@ fn are_stops(view: View<'_>) -> bool
 }
 
 // Whether runs end with these lines.
-fn are_ends(tables: &Tables) -> bool
+fn are_ends(alloc: Global, tables: &Tables) -> bool
     requires { Knows tables.now.hash tables.now.pool.kept }
 {
     let categories = categories();
     let view = view_of(tables, &categories);
-    are_end_lines(view) && are_stops(view)
+    let left = b"(\\end occurred when \\iftrue on line 2 was incomplete)\n";
+    are_end_lines(view) && is_conditional_left(view, MemSink::new(alloc), left) && are_stops(view)
 }
 
 #[test]
 fn ends_of_runs(rt: HostRuntime) {
     let ended = match Tables::new(rt.alloc(), b"foo") {
-        Ok(tables) => are_ends(&tables),
+        Ok(tables) => are_ends(rt.alloc(), &tables),
         Err(_) => false,
     };
     assert!(rt; ended);

@@ -79,8 +79,8 @@ fn does_row(alloc: Global, row: &Row, words: &[&str], failing: u64) -> bool {
     does_beside(alloc, job, &row.1, words, failing, (row.2, row.3))
 }
 
-/// Files beneath files: their lines, their ends and their names.
-const FILES: [Row; 24] = [
+/// Files beneath files: their lines, their ends and their names, and conditionals across them.
+const FILES: [Row; 30] = [
     (
         b"\\input b x\\input b \\end\n",
         [(b"b.tex", b"y\\endinput z\nq\n"), NONE],
@@ -230,6 +230,42 @@ const FILES: [Row; 24] = [
         [NONE, NONE],
         b"! I can't find file `\n\n.tex'.\nl.2\n! Emergency stop.\n*** (job aborted, file error in nonstop mode)\n",
         2,
+    ),
+    (
+        b"\\input b \\fi\\message{j}\\end\n",
+        [(b"b.tex", b"\\iftrue\\message{a}%\n"), NONE],
+        b"a j\n",
+        0,
+    ),
+    (
+        b"\\iffalse\\input b \\fi\\message{j}\\input b \\end\n",
+        [(b"b.tex", b"\\message{a}\\fi%\n"), NONE],
+        b"j a\n! Extra \\fi.\nl.1\n",
+        1,
+    ),
+    (
+        b"\\input b x\\fi\\message{j}\\end\n",
+        [(b"b.tex", b"\\iffalse\\message{a}%\n"), NONE],
+        b"! Incomplete \\iffalse; all text was ignored after line 1.\nl.2\n{the letter x}\n! Extra \\fi.\nl.2\nj\n",
+        1,
+    ),
+    (
+        b"\\message{\\ifnum1=1\\input b \\else n\\fi}\\end\n",
+        [(b"b.tex", b"y\\endinput\\else z%\nq\n"), NONE],
+        b"! Incomplete \\ifnum; all text was ignored after line 1.\nl.2\n! Extra \\else.\nl.2\n! Extra \\fi.\nl.2\nyn\n",
+        1,
+    ),
+    (
+        b"\\outer\\def\\o{}\\input b \\message{j}\\fi\\end\n",
+        [(b"b.tex", b"%\n%\n\\iffalse\n\\o\\message{a}%\n"), NONE],
+        b"! Incomplete \\iffalse; all text was ignored after line 3.\nl.4\na j\n! Extra \\fi.\nl.2\n",
+        1,
+    ),
+    (
+        b"\\input b \\iftrue\\end\n",
+        [(b"b.tex", b"%\n%\n\\iftrue%\n"), NONE],
+        b"(\\end occurred when \\iftrue on line 2 was incomplete)\n(\\end occurred when \\iftrue on line 3 was incomplete)\n",
+        0,
     ),
 ];
 

@@ -269,7 +269,7 @@ fn numbers_out_of_range_are_reported(rt: HostRuntime) {
 /// Names of commands and numbers that are not built.
 const UNDEFINED: [Row; 2] = [
     (
-        b"\\showbox\\write\\ifnum\\output\\end",
+        b"\\showbox\\write\\openin\\output\\end",
         b"! Undefined control sequence.\nl.2\n! Undefined control sequence.\nl.2\n! Undefined control sequence.\nl.2\n! Undefined control sequence.\nl.2\n",
         1,
     ),

@@ -9,6 +9,8 @@ mod arithmetic_tests;
 #[cfg(test)]
 mod command_tests;
 #[cfg(test)]
+mod conditional_tests;
+#[cfg(test)]
 mod file_tests;
 #[cfg(test)]
 mod group_tests;

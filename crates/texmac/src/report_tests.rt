@@ -1,8 +1,8 @@
-// Reports of numbers, dimensions, glue, registers and assignments.
+// Reports of numbers, dimensions, glue, registers, assignments and conditionals, and what `\end` tells of these.
 use crate::tests::{Row, rows_hold};
 
 /// Each report once, and the value that is taken then. All but the first of the overflows, a sum, are TeX's.
-const REPORTS: [Row; 30] = [
+const REPORTS: [Row; 36] = [
     (
         b"\\count1=\\relax\\message{\\the\\count1}\\end",
         b"! Missing number, treated as zero.\nl.2\n0\n",
@@ -153,9 +153,72 @@ const REPORTS: [Row; 30] = [
         b"! You can't use `\\long' or `\\outer' with `\\count'.\nl.2\n5\n",
         1,
     ),
+    (
+        b"\\ifnum1 1 \\message{a}\\else\\message{b}\\fi\\end",
+        b"! Missing = inserted for \\ifnum.\nl.2\na\n",
+        1,
+    ),
+    (
+        b"\\ifdim1pt 2pt\\message{a}\\else\\message{b}\\fi\\end",
+        b"! Missing = inserted for \\ifdim.\nl.2\nb\n",
+        1,
+    ),
+    (b"\\fi\\message{a}\\end", b"! Extra \\fi.\nl.2\na\n", 1),
+    (b"\\else\\message{a}\\end", b"! Extra \\else.\nl.2\na\n", 1),
+    (b"\\or\\message{a}\\end", b"! Extra \\or.\nl.2\na\n", 1),
+    (
+        b"\\outer\\def\\o{\\message{a}}\\ifx\\o\\foo\\o\\end",
+        b"! Incomplete \\ifx; all text was ignored after line 2.\nl.2\na\n",
+        1,
+    ),
 ];
 
 #[test]
 fn reports_have_their_values(rt: HostRuntime) {
     rows_hold(&rt, rt.alloc(), &REPORTS);
+}
+
+/// What `\end` writes where conditionals are open.
+const ENDED: [Row; 8] = [
+    (
+        b"\\iftrue\\iftrue\\end",
+        b"(\\end occurred when \\iftrue on line 2 was incomplete)\n(\\end occurred when \\iftrue on line 2 was incomplete)\n",
+        0,
+    ),
+    (
+        b"\\iftrue\n\\ifnum1=1 \n\\ifcase0 \n%\n\\ifcase-1 \\else\\iffalse\\else\\end",
+        b"(\\end occurred when \\iffalse on line 6 was incomplete)\n(\\end occurred when \\ifcase on line 6 was incomplete)\n(\\end occurred when \\ifcase on line 4 was incomplete)\n(\\end occurred when \\ifnum on line 3 was incomplete)\n(\\end occurred when \\iftrue on line 2 was incomplete)\n",
+        0,
+    ),
+    (
+        b"{\\iftrue\\begingroup\\ifx\\a\\b\\message{a}\\end",
+        b"a\n(\\end occurred inside a group at level 2)\n(\\end occurred when \\ifx on line 2 was incomplete)\n(\\end occurred when \\iftrue on line 2 was incomplete)\n",
+        0,
+    ),
+    (
+        b"\\escapechar=-1 \\iftrue\\if aa\\end",
+        b"(end occurred when if on line 2 was incomplete)\n(end occurred when iftrue on line 2 was incomplete)\n",
+        0,
+    ),
+    (
+        b"\\let\\x=\\ifodd\\x1 \\message{a}\\ifvmode\\ifhmode\\else\\ifvoid1 \\ifdim1pt=1pt\\ifcat aa\\foo\\end",
+        b"a\n! Undefined control sequence.\nl.2\n(\\end occurred when \\ifcat on line 2 was incomplete)\n(\\end occurred when \\ifdim on line 2 was incomplete)\n(\\end occurred when \\ifvoid on line 2 was incomplete)\n(\\end occurred when \\ifhmode on line 2 was incomplete)\n(\\end occurred when \\ifvmode on line 2 was incomplete)\n(\\end occurred when \\ifodd on line 2 was incomplete)\n",
+        1,
+    ),
+    (b"\\iftrue\\fi\\iffalse\\fi\\end", b"", 0),
+    (
+        b"\\iftrue\\else\\fi\\iftrue\\message{a}\\fi\\iffalse\\else\\message{b}\\end",
+        b"a b\n(\\end occurred when \\iffalse on line 2 was incomplete)\n",
+        0,
+    ),
+    (
+        b"\\uppercase{\\iftrue\\end",
+        b"Runaway text?\n\\iftrue \\end \n! File ended while scanning text of \\uppercase.\nl.0\n(\\end occurred when \\iftrue on line 0 was incomplete)\n",
+        1,
+    ),
+];
+
+#[test]
+fn open_conditionals_are_told(rt: HostRuntime) {
+    rows_hold(&rt, rt.alloc(), &ENDED);
 }

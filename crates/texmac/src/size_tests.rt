@@ -47,7 +47,7 @@ fn run(
         return Err(Early::Unread(Fault::Failed));
     }
     engine.input.open_file();
-    run_steps(engine, readers, files, out, 1000000)
+    run_steps(engine, readers, files, out, 10000000)
 }
 
 /// Whether the run came to where this table is full, or else to its end without a report.
@@ -62,15 +62,24 @@ fn came(engine: &Engine, ended: Result<Ended, Early>, full: Option<Full>) -> boo
 /// A file's name, and its text.
 type Job<'a> = (&'a [u8], &'a [u8]);
 
-/// As `words_with`, over these files and this sink.
-fn words_over(
+/// What a run that has come to its end or to a full table leaves.
+#[derive(Clone, Copy)]
+struct Left {
+    /// The words of main memory that are used.
+    words: u32,
+    /// The names that are entered.
+    names: u32,
+}
+
+/// As `left_with`, over these files and this sink.
+fn left_over(
     alloc: Global,
     sizes: &Sizes,
     held: &[Job],
     expected: (&[u8], Option<Full>),
     files: &mut MemFiles,
     out: &mut MemSink,
-) -> Result<Option<u32>, AllocError> {
+) -> Result<Option<Left>, AllocError> {
     let Some(job) = held.first() else {
         return Ok(None);
     };
@@ -84,13 +93,30 @@ fn words_over(
     let mut engine = Engine::new(alloc, sizes, true)?;
     let ended = run(&mut engine, &mut readers, job.0, files, out);
     let came = came(&engine, ended, expected.1) && out.bytes() == expected.0;
-    let words = engine.words();
+    let left = Left {
+        words: engine.words(),
+        names: engine.names.count(),
+    };
     engine.close();
-    Ok(came.then_some(words))
+    Ok(came.then_some(left))
 }
 
-/// The words of main memory that are used where the run of the first of these files within these sizes, without token lines, has ended, if it
-/// has written so and came to where this table is full, or else to its end without a report.
+/// What the run of the first of these files within these sizes, without token lines, leaves, if it has written so and came to where this table
+/// is full, or else to its end without a report.
+fn left_with(
+    alloc: Global,
+    sizes: &Sizes,
+    held: &[Job],
+    written: &[u8],
+    full: Option<Full>,
+) -> Option<Left> {
+    let mut files = MemFiles::new(alloc);
+    let mut out = MemSink::new(alloc);
+    let left = left_over(alloc, sizes, held, (written, full), &mut files, &mut out);
+    left.unwrap_or(None)
+}
+
+/// The words of main memory that are used then.
 fn words_with(
     alloc: Global,
     sizes: &Sizes,
@@ -98,10 +124,7 @@ fn words_with(
     written: &[u8],
     full: Option<Full>,
 ) -> Option<u32> {
-    let mut files = MemFiles::new(alloc);
-    let mut out = MemSink::new(alloc);
-    let words = words_over(alloc, sizes, held, (written, full), &mut files, &mut out);
-    words.unwrap_or(None)
+    Some(left_with(alloc, sizes, held, written, full)?.words)
 }
 
 /// The same of a job that is the only file.
@@ -113,6 +136,11 @@ pub fn words_at(
     full: Option<Full>,
 ) -> Option<u32> {
     words_with(alloc, sizes, &[job], written, full)
+}
+
+/// How many names are entered where the run of a job that is the only file has ended, if it has written so.
+pub fn names_at(alloc: Global, sizes: &Sizes, job: Job, written: &[u8]) -> Option<u32> {
+    Some(left_with(alloc, sizes, &[job], written, None)?.names)
 }
 
 /// A message; a line of 79 bytes; a text of 99 tokens: each with what it writes.

@@ -11,7 +11,7 @@ pub struct Counted {
 }
 
 /// Statements of each kind, whose steps are counted: the least `--steps` at which the run isn't stopped.
-const STATEMENTS: [Counted; 28] = [
+const STATEMENTS: [Counted; 30] = [
     Counted {
         text: b"\\count1=5 \\end\n",
         under: ("--steps=36", b"! Step limit reached [steps=36].\n"),
@@ -121,6 +121,19 @@ const STATEMENTS: [Counted; 28] = [
         text: b"\\let\\a= \\b\\end\n",
         under: ("--steps=35", b"! Step limit reached [steps=35].\n"),
         enough: ("--steps=36", b"", 0),
+    },
+    Counted {
+        text: b"\\ifnum1<2 \\fi\\end\n",
+        under: ("--steps=37", b"! Step limit reached [steps=37].\n"),
+        enough: ("--steps=38", b"", 0),
+    },
+    Counted {
+        text: b"\\ifcase2 a\\or b\\or c\\else d\\fi\\end\n",
+        under: (
+            "--steps=41",
+            b"{the letter c}\n! Step limit reached [steps=41].\n",
+        ),
+        enough: ("--steps=42", b"{the letter c}\n", 0),
     },
     Counted {
         text: b"\\expandafter\\let\\csname ab\\endcsname\\relax\\end\n",
