@@ -1,6 +1,6 @@
 // Conditionals: their tests, the text that they skip, and what stands where they are cut off.
 use crate::macro_tests::repeated;
-use crate::size_tests::{LEAST, names_at, words_where_full};
+use crate::size_tests::{LEAST, names_at, words_at, words_where_full};
 use crate::step_tests::{Counted, steps_hold};
 use crate::tests::{Row, job, job_with, rows_hold};
 use std::alloc::{AllocError, Global};
@@ -1067,6 +1067,30 @@ fn a_call_behind_a_fi_leaves_nothing_open(rt: HostRuntime) {
         let short = ["texmac", "init", "--quiet", row.2.0, "job"];
         assert!(rt; job_with(rt.alloc(), &enough, row.0, b"", 0), "row {k}");
         assert!(rt; job_with(rt.alloc(), &short, row.0, row.2.1, 4), "row {k}");
+    }
+}
+
+/// The same within the least sizes.
+const WITHIN: &[u8] =
+    b"\\catcode`\\{=1 \\catcode`\\}=2\n\\def\\t{\\ifnum\\count1>0 \\advance\\count1 by-1 x\\expandafter\\t\\fi}%\n\\count1=100000 \\edef\\x{}\\t\\end\n";
+
+/// Conditionals that are open one behind the other, or stand in skipped text.
+const FITTING: [&[u8]; 3] = [
+    b"\\iftrue\\fi\\iffalse\\else\\fi\\ifnum1=1\\fi\\ifx\\a\\b\\fi\\end\n",
+    b"\\iffalse\\iftrue\\ifcase\\fi\\fi\\iftrue\\fi\\else\\fi\\end\n",
+    b"\\iftrue\\else\\iftrue\\ifx\\fi\\fi\\fi\\end\n",
+];
+
+/// In the end two macros are held: 19 tokens and no token, each with its first word and its end mark.
+#[test]
+fn conditionals_within_the_least_sizes_fit(rt: HostRuntime) {
+    let alloc = rt.alloc();
+    assert!(rt; words_at(alloc, &LEAST, (b"job", WITHIN), b"", None) == Some(23));
+    for (k, text) in FITTING.iter().enumerate() {
+        assert!(rt;
+            words_at(alloc, &LEAST, (b"job", *text), b"", None) == Some(0),
+            "row {k}"
+        );
     }
 }
 
