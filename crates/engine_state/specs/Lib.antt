@@ -12,3 +12,4 @@ pub mod Rules
 pub mod Stands
 pub mod Steps
 pub mod OneRule
+pub mod Clauses

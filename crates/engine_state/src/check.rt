@@ -1,6 +1,6 @@
 // The checks: where a file has ended, or the name of an `\outer` macro has come, while something is scanned.
 // *The TeXbook*, chapter 20; *TeX: The Program*, part 24 (`check_outer_validity`).
-ghost use Rattle.std.specs.Prelude.{◌≡◌, ◌≤◌, ◌+◌, List, [], ◌∷◌, ◌++◌, IfOk, IfErr, IfSome, OnOk, OnErr, MatchBool, Option, Some, None, true, false, IsSome};
+ghost use Rattle.std.specs.Prelude.{◌≡◌, ◌+◌, List, [], ◌∷◌, ◌++◌, IfOk, IfErr, IfSome, OnOk, OnErr, MatchBool, Option, Some, None, true, false, IsSome};
 ghost use Rattle.tex_syntax.specs.declared.words.Outcome.TheVariants.{AtFatal};
 ghost use Rattle.tex_syntax.specs.declared.words.Want.{Want};
 ghost use Rattle.tex_syntax.specs.declared.words.Scanned.TheVariants as scanned;
@@ -8,15 +8,15 @@ ghost use Rattle.tex_defs.specs.Places.{Transcript};
 ghost use Rattle.tex_defs.specs.declared.Sizes.{Sizes};
 ghost use Rattle.tex_defs.specs.declared.Fatal.TheVariants as fatal;
 ghost use Rattle.plain_machine.specs.States.{Move, Written};
-ghost use Rattle.plain_machine.specs.Plan.{Page, put_one, reported, reports_room, checked, check_noted, incomplete, inserted_at};
-ghost use Rattle.plain_machine.specs.Does.{Did};
+ghost use Rattle.plain_machine.specs.Plan.{Page, put_one, reported, checked, check_noted, incomplete, inserted_at};
 ghost use Rattle.world_io.specs.Told.{FilesTold};
 ghost use Rattle.engine_state.specs.Book.{Book};
 ghost use Rattle.engine_state.specs.Calls.{AllStand};
 ghost use Rattle.engine_state.specs.CutReadings.{CutsIn};
 ghost use Rattle.engine_state.specs.Begins.{away_moves, check_report};
+ghost use Rattle.engine_state.specs.Clauses.{WritesOut, CutsWriting, EndsAtHundredth, CutsReport};
 ghost use Rattle.engine_state.specs.Stands.{SameFrames, SameReadings, OnlyColumn, state_of, page_of};
-ghost use Rattle.engine_state.specs.Rules.{world_of, onward_of, token_moves, space_moves, scanning_of, Takes, Cuts, Halts, DoesOnward, away_text, check_moves, IsScanned, IsFound, IsListed, Finds, Wants, Meets, Behind};
+ghost use Rattle.engine_state.specs.Rules.{world_of, onward_of, token_moves, space_moves, scanning_of, Takes, Halts, DoesOnward, away_text, check_moves, IsScanned, IsFound, IsListed, Finds, Wants, Meets, Behind};
 ghost use Rattle.engine_state.specs.declared.check.Check.TheVariants.{Forbidden};
 ghost use Rattle.engine_state.specs.Steps.{IsFree, IsHalted, weight};
 ghost use Rattle.input_state.specs.CallFeeds.{with_scan};
@@ -101,8 +101,8 @@ impl Engine {
         number: u32,
     ) -> Result<(), Broken>
         requires { IsScanned what number self.old }
-        ensures did { OnOk result ((sizes : Sizes) (f : FilesTold) (book : Book) → Did sizes (state_of self.old book) (state_of self.new book) (world_of f (S.told out.old) self.old) (world_of f (S.told out.new) self.new) (Written Transcript (away_text what number self.old) ∷ [])) }
-        ensures err { IfErr result (λ b. (sizes : Sizes) (f : FilesTold) (book : Book) (more : List Move) → Cuts sizes (state_of self.old book) self.new book (world_of f (S.told out.old) self.old) (world_of f (S.told out.new) self.new) (Written Transcript (away_text what number self.old) ∷ more) b) }
+        ensures did { OnOk result (WritesOut self.old self.new (S.told out.old) (S.told out.new) (λ _. Written Transcript (away_text what number self.old) ∷ [])) }
+        ensures err { IfErr result (λ b. CutsWriting self.old self.new (S.told out.old) (S.told out.new) (λ _. Written Transcript (away_text what number self.old) ∷ []) b) }
         ensures only { OnlyColumn self.old self.new }
     {
         match what {
@@ -133,10 +133,8 @@ impl Engine {
         requires asked { IsScanned what number self.old }
         ensures on { IfOk result (λ on. on ≡ true → (sizes : Sizes) (f : FilesTold) (book : Book) (want space : Option Want) (page : Page) → Takes sizes want self.old book →
             Behind sizes want space (state_of self.old book) self.new book page (world_of f (S.told out.old) self.old) (world_of f (S.told out.new) self.new) (reported (page_of self.old book) report (check_noted what (space_moves page space book.work)))) }
-        ensures last { IfOk result (λ on. on ≡ false → (sizes : Sizes) (f : FilesTold) (book : Book) (rest : List Move) →
-            Halts sizes (state_of self.old book) self.new book (world_of f (S.told out.old) self.old) (world_of f (S.told out.new) self.new) (reported (page_of self.old book) report rest) (AtFatal fatal.HundredErrors) 0) }
-        ensures err { IfErr result (λ b. (sizes : Sizes) (f : FilesTold) (book : Book) (rest : List Move) → self.old.reports ≤ reports_room →
-            Cuts sizes (state_of self.old book) self.new book (world_of f (S.told out.old) self.old) (world_of f (S.told out.new) self.new) (reported (page_of self.old book) report rest) b) }
+        ensures last { IfOk result (λ on. on ≡ false → EndsAtHundredth self.old self.new (S.told out.old) (S.told out.new) (λ page rest. reported page report rest)) }
+        ensures err { IfErr result (λ b. CutsReport self.old self.new (S.told out.old) (S.told out.new) (λ page rest. reported page report rest) b) }
         ensures halts { IfOk result (λ on. on ≡ false → SameFrames self.old self.new) }
         ensures frames { OnErr result (SameFrames self.old self.new) }
         ensures still { OnOk result (weight self.new ≡ weight self.old) }

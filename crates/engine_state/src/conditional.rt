@@ -1,17 +1,16 @@
 // The open conditionals.
-ghost use Rattle.std.specs.Prelude.{◌≡◌, [], ◌∷◌, ◌++◌, List, IfErr, OnOk};
+ghost use Rattle.std.specs.Prelude.{◌≡◌, [], ◌∷◌, IfErr, OnOk};
 ghost use Rattle.tex_defs.specs.Places.{World};
 ghost use Rattle.tex_defs.specs.declared.Sizes.{Sizes};
 ghost use Rattle.conditionals.specs.Open.{above_sought, limit_of};
 ghost use Rattle.conditionals.specs.Same as same;
 ghost use Rattle.plain_tokens.specs.Arguments.{are_same};
-ghost use Rattle.plain_machine.specs.States.{Move, ConditionOpened, LimitSet, ConditionClosed};
+ghost use Rattle.plain_machine.specs.States.{ConditionOpened, LimitSet, ConditionClosed};
 ghost use Rattle.plain_machine.specs.Plan.{conditionals_left, tokens_meant};
 ghost use Rattle.plain_machine.specs.Does.{Did};
-ghost use Rattle.world_io.specs.Told.{FilesTold};
 ghost use Rattle.engine_state.specs.Book.{Book};
+ghost use Rattle.engine_state.specs.Clauses.{Still, MakesMoves, CutsMoves, WritesOut, CutsWriting};
 ghost use Rattle.engine_state.specs.Stands.{Stands, IsSized, IsSound, OnlyColumn, SameFrames, state_of, page_of, own_style};
-ghost use Rattle.engine_state.specs.Rules.{world_of, Cuts};
 ghost use Rattle.engine_state.specs.declared.broken.Broken.TheVariants as broken;
 
 use crate::broken::Broken;
@@ -29,10 +28,10 @@ impl Engine {
     /// # Errors
     /// As many conditionals are open as may be; nothing has changed.
     pub fn begin_conditional(&mut self, test: u16) -> Result<(), Full>
-        ensures did { OnOk result ((sizes : Sizes) (w : World) (book : Book) → IsSized sizes self.old → Did sizes (state_of self.old book) (state_of self.new book) w w (ConditionOpened test self.old.input.pending.number ∷ [])) }
-        ensures err { IfErr result (λ full. (sizes : Sizes) (w : World) (book : Book) (more : List Move) → IsSized sizes self.old → Cuts sizes (state_of self.old book) self.new book w w (ConditionOpened test self.old.input.pending.number ∷ more) (broken.Full full)) }
+        ensures did { OnOk result (MakesMoves (λ sizes e _. IsSized sizes e) self.old self.new (λ _. ConditionOpened test self.old.input.pending.number ∷ [])) }
+        ensures err { IfErr result (λ full. CutsMoves (λ sizes e _. IsSized sizes e) self.old self.new (λ _. ConditionOpened test self.old.input.pending.number ∷ []) (broken.Full full)) }
         ensures unchanged { IfErr result (λ full. self.new ≡ self.old) }
-        ensures stands { OnOk result ((sizes : Sizes) (book : Book) → Stands sizes self.old book → Stands sizes self.new book) }
+        ensures stands { OnOk result (Still Stands self.old self.new) }
         ensures frames { SameFrames self.old self.new }
         ensures only { self.new ≡ record self.old { conditionals = self.new.conditionals } }
     {
@@ -42,7 +41,7 @@ impl Engine {
     /// The innermost conditional whose test is under way goes on with this limit. *TeX: The Program*, part 28 (`change_if_limit`).
     pub fn set_limit(&mut self, limit: Limit)
         ensures did { (sizes : Sizes) (w : World) (book : Book) → Did sizes (state_of self.old book) (state_of self.new book) w w (LimitSet limit ∷ []) }
-        ensures stands { (sizes : Sizes) (book : Book) → Stands sizes self.old book → Stands sizes self.new book }
+        ensures stands { Still Stands self.old self.new }
         ensures frames { SameFrames self.old self.new }
         ensures only { self.new ≡ record self.old { conditionals = self.new.conditionals } }
     {
@@ -52,7 +51,7 @@ impl Engine {
     /// The innermost conditional closes, if one is open. *TeX: The Program*, part 28 ("Pop the condition stack").
     pub fn close_conditional(&mut self)
         ensures did { (sizes : Sizes) (w : World) (book : Book) → Did sizes (state_of self.old book) (state_of self.new book) w w (ConditionClosed ∷ []) }
-        ensures stands { (sizes : Sizes) (book : Book) → Stands sizes self.old book → Stands sizes self.new book }
+        ensures stands { Still Stands self.old self.new }
         ensures frames { SameFrames self.old self.new }
         ensures only { self.new ≡ record self.old { conditionals = self.new.conditionals } }
     {
@@ -92,8 +91,8 @@ impl Engine {
 
     /// Writes the line of `\end` for this conditional.
     fn write_left<S: Sink>(&mut self, out: &mut S, conditional: Conditional) -> Result<(), Broken>
-        ensures did { OnOk result ((sizes : Sizes) (f : FilesTold) (book : Book) → Did sizes (state_of self.old book) (state_of self.new book) (world_of f (S.told out.old) self.old) (world_of f (S.told out.new) self.new) (conditionals_left (own_style self.old) (conditional ∷ []))) }
-        ensures err { IfErr result (λ b. (sizes : Sizes) (f : FilesTold) (book : Book) (more : List Move) → Cuts sizes (state_of self.old book) self.new book (world_of f (S.told out.old) self.old) (world_of f (S.told out.new) self.new) (conditionals_left (own_style self.old) (conditional ∷ []) ++ more) b) }
+        ensures did { OnOk result (WritesOut self.old self.new (S.told out.old) (S.told out.new) (λ _. conditionals_left (own_style self.old) (conditional ∷ []))) }
+        ensures err { IfErr result (λ b. CutsWriting self.old self.new (S.told out.old) (S.told out.new) (λ _. conditionals_left (own_style self.old) (conditional ∷ [])) b) }
         ensures only { OnlyColumn self.old self.new }
     {
         let view = view_of(self.input.lists(), &self.input, &self.names);
@@ -112,8 +111,8 @@ impl Engine {
     /// # Errors
     /// A write failed or wanted memory: the lines in front of one are there, and a front of that one.
     pub(crate) fn write_conditionals_left<S: Sink>(&mut self, out: &mut S) -> Result<(), Broken>
-        ensures did { OnOk result ((sizes : Sizes) (f : FilesTold) (book : Book) → Did sizes (state_of self.old book) (state_of self.new book) (world_of f (S.told out.old) self.old) (world_of f (S.told out.new) self.new) (conditionals_left (own_style self.old) self.old.conditionals.items)) }
-        ensures err { IfErr result (λ b. (sizes : Sizes) (f : FilesTold) (book : Book) (more : List Move) → Cuts sizes (state_of self.old book) self.new book (world_of f (S.told out.old) self.old) (world_of f (S.told out.new) self.new) (conditionals_left (own_style self.old) self.old.conditionals.items ++ more) b) }
+        ensures did { OnOk result (WritesOut self.old self.new (S.told out.old) (S.told out.new) (λ _. conditionals_left (own_style self.old) self.old.conditionals.items)) }
+        ensures err { IfErr result (λ b. CutsWriting self.old self.new (S.told out.old) (S.told out.new) (λ _. conditionals_left (own_style self.old) self.old.conditionals.items) b) }
         ensures only { OnlyColumn self.old self.new }
     {
         for number in 0..self.conditionals.count() {

@@ -1,14 +1,12 @@
 // The engine: what it keeps of the machine's state.
-ghost use Rattle.std.specs.Prelude.{◌≡◌, List, [], ◌∷◌, IfOk, IfErr, OnOk, MatchResult, true};
-ghost use Rattle.tex_defs.specs.Places.{World};
+ghost use Rattle.std.specs.Prelude.{◌≡◌, [], ◌∷◌, IfOk, IfErr, OnOk, MatchResult, true};
 ghost use Rattle.tex_defs.specs.Sizes.{first_out_of_range};
 ghost use Rattle.tex_defs.specs.declared.Sizes.{Sizes};
 ghost use Rattle.plain_machine.specs.Demands.{words};
-ghost use Rattle.plain_machine.specs.States.{Move, Kept};
-ghost use Rattle.plain_machine.specs.Does.{Did};
+ghost use Rattle.plain_machine.specs.States.{Kept};
 ghost use Rattle.engine_state.specs.Book.{Book};
+ghost use Rattle.engine_state.specs.Clauses.{Still, MakesMoves, CutsMoves};
 ghost use Rattle.engine_state.specs.Stands.{Stands, IsSized, IsSound, SameFrames, state_of};
-ghost use Rattle.engine_state.specs.Rules.{Cuts};
 ghost use Rattle.engine_state.specs.First.{Begins};
 
 use crate::broken::Broken;
@@ -177,9 +175,9 @@ impl Engine {
     /// # Errors
     /// There is no room for it in the pool or among the strings; nothing has changed, but that the engine has stopped.
     pub fn keep_name(&mut self, name: &[u8]) -> Result<(), Broken>
-        ensures did { OnOk result ((sizes : Sizes) (w : World) (book : Book) → IsSized sizes self.old → Did sizes (state_of self.old book) (state_of self.new book) w w (Kept name.now ∷ [])) }
-        ensures err { IfErr result (λ b. (sizes : Sizes) (w : World) (book : Book) (more : List Move) → IsSized sizes self.old → Cuts sizes (state_of self.old book) self.new book w w (Kept name.now ∷ more) b) }
-        ensures stands { OnOk result ((sizes : Sizes) (book : Book) → Stands sizes self.old book → Stands sizes self.new book) }
+        ensures did { OnOk result (MakesMoves (λ sizes e _. IsSized sizes e) self.old self.new (λ _. Kept name.now ∷ [])) }
+        ensures err { IfErr result (λ b. CutsMoves (λ sizes e _. IsSized sizes e) self.old self.new (λ _. Kept name.now ∷ []) b) }
+        ensures stands { OnOk result (Still Stands self.old self.new) }
         ensures frames { SameFrames self.old self.new }
         ensures column { self.new.in_line ≡ self.old.in_line }
         ensures input { self.new.input ≡ self.old.input }

@@ -15,6 +15,7 @@ ghost use Rattle.plain_machine.specs.Does.{Did};
 ghost use Rattle.world_io.specs.Told.{FilesTold};
 ghost use Rattle.engine_state.specs.Book.{Book};
 ghost use Rattle.engine_state.specs.Calls.{AllStand};
+ghost use Rattle.engine_state.specs.Clauses.{Still};
 ghost use Rattle.engine_state.specs.Stands.{IsSound, SameFrames, state_of, page_of};
 ghost use Rattle.engine_state.specs.Rules.{world_of, counted, Cuts, Halts};
 ghost use Rattle.engine_state.specs.Steps.{all_start, asked};
@@ -51,7 +52,7 @@ impl Engine {
         requires opened { IsSome self.old.input.pending.next }
         ensures did { OnOk result ((sizes : Sizes) (w : World) (book : Book) → IsSound sizes self.old book.number book.macros → Did sizes (state_of self.old book) (state_of self.new book) w w (ruled (state_of self.old book) self.old.input.pending.next)) }
         ensures err { IfErr result (λ b. (sizes : Sizes) (w : World) (book : Book) → IsSound sizes self.old book.number book.macros → Cuts sizes (state_of self.old book) self.new book w w (ruled (state_of self.old book) self.old.input.pending.next) b) }
-        ensures stands { (sizes : Sizes) (book : Book) → AllStand sizes self.old book → AllStand sizes self.new book }
+        ensures stands { Still AllStand self.old self.new }
         ensures pending { OnOk result (self.new.input.pending ≡ with_end (end_of_line self.old.input.groups.now) (with_begun (settle self.old.input.pending))) }
         ensures frames { SameFrames self.old self.new }
         ensures only { self.new ≡ record self.old { input = record self.old.input { pending = self.new.input.pending; buffer = self.new.input.buffer; lists = self.new.input.lists } } }
@@ -64,7 +65,7 @@ impl Engine {
     /// The innermost file is to end behind its present line. *The TeXbook*, chapter 20 (`\\endinput`).
     pub fn end_input(&mut self)
         ensures did { (sizes : Sizes) (w : World) (book : Book) → Did sizes (state_of self.old book) (state_of self.new book) w w (FileEnds ∷ []) }
-        ensures stands { (sizes : Sizes) (book : Book) → AllStand sizes self.old book → AllStand sizes self.new book }
+        ensures stands { Still AllStand self.old self.new }
         ensures only { self.new ≡ record self.old { input = record self.old.input { pending = ending self.old.input.pending } } }
     {
         self.input.end_input();

@@ -1,18 +1,14 @@
 // Lists that are put in front.
-ghost use Rattle.std.specs.Prelude.{◌≡◌, ◌+◌, List, ◌++◌, IfErr, OnOk, None};
-ghost use Rattle.tex_defs.specs.Places.{World};
-ghost use Rattle.tex_defs.specs.declared.Sizes.{Sizes};
-ghost use Rattle.plain_machine.specs.States.{Move};
+ghost use Rattle.std.specs.Prelude.{◌≡◌, IfErr, OnOk, None};
 ghost use Rattle.plain_machine.specs.Plan.{given_back, put_inserted, put_one};
-ghost use Rattle.plain_machine.specs.Does.{Did};
 ghost use Rattle.engine_state.specs.Book.{Book};
-ghost use Rattle.engine_state.specs.Stands.{Counts, SameStore, SameOthers, SameFrames, state_of, page_of};
-ghost use Rattle.engine_state.specs.Rules.{Cuts};
+ghost use Rattle.engine_state.specs.Clauses.{PutsInFront, CutsPutting};
+ghost use Rattle.engine_state.specs.Stands.{SameStore, SameOthers, SameFrames, page_of};
 ghost use Rattle.engine_state.specs.Steps.{pending_weight};
 
 use crate::broken::Broken;
 use crate::engine::Engine;
-use tex_defs::{Sizes, Token};
+use tex_defs::Token;
 
 impl Engine {
     /// Puts a token in front: a list of it is begun, grown and put, once the finished lists in front have gone. *TeX: The Program*,
@@ -22,8 +18,8 @@ impl Engine {
     /// The main memory or the input stack is full: of the list there is what had room.
     pub fn put_one(&mut self, token: Token) -> Result<(), Broken>
         requires idle { self.old.input.making ≡ None }
-        ensures did { OnOk result ((sizes : Sizes) (w : World) (book : Book) → Counts sizes self.old book → self.old.input.making ≡ None → Did sizes (state_of self.old book) (state_of self.new book) w w (put_one token)) }
-        ensures err { IfErr result (λ b. (sizes : Sizes) (w : World) (book : Book) (more : List Move) → Counts sizes self.old book → self.old.input.making ≡ None → Cuts sizes (state_of self.old book) self.new book w w (put_one token ++ more) b) }
+        ensures did { OnOk result (PutsInFront self.old self.new (λ _. put_one token)) }
+        ensures err { IfErr result (λ b. CutsPutting self.old self.new (λ _. put_one token) b) }
         ensures frames { SameFrames self.old self.new }
         ensures others { SameOthers self.old self.new }
         ensures store { SameStore self.old.input self.new.input }
@@ -46,8 +42,8 @@ impl Engine {
     /// As [`Engine::put_one`].
     pub fn put_back(&mut self, back: bool) -> Result<(), Broken>
         requires idle { self.old.input.making ≡ None }
-        ensures did { OnOk result ((sizes : Sizes) (w : World) (book : Book) → Counts sizes self.old book → self.old.input.making ≡ None → Did sizes (state_of self.old book) (state_of self.new book) w w (given_back back self.old.last)) }
-        ensures err { IfErr result (λ b. (sizes : Sizes) (w : World) (book : Book) (more : List Move) → Counts sizes self.old book → self.old.input.making ≡ None → Cuts sizes (state_of self.old book) self.new book w w (given_back back self.old.last ++ more) b) }
+        ensures did { OnOk result (PutsInFront self.old self.new (λ _. given_back back self.old.last)) }
+        ensures err { IfErr result (λ b. CutsPutting self.old self.new (λ _. given_back back self.old.last) b) }
         ensures frames { SameFrames self.old self.new }
         ensures others { SameOthers self.old self.new }
         ensures store { SameStore self.old.input self.new.input }
@@ -69,8 +65,8 @@ impl Engine {
     /// As [`Engine::put_one`].
     pub fn insert(&mut self, inserted: Option<Token>) -> Result<(), Broken>
         requires idle { self.old.input.making ≡ None }
-        ensures did { OnOk result ((sizes : Sizes) (w : World) (book : Book) → Counts sizes self.old book → self.old.input.making ≡ None → Did sizes (state_of self.old book) (state_of self.new book) w w (put_inserted inserted)) }
-        ensures err { IfErr result (λ b. (sizes : Sizes) (w : World) (book : Book) (more : List Move) → Counts sizes self.old book → self.old.input.making ≡ None → Cuts sizes (state_of self.old book) self.new book w w (put_inserted inserted ++ more) b) }
+        ensures did { OnOk result (PutsInFront self.old self.new (λ _. put_inserted inserted)) }
+        ensures err { IfErr result (λ b. CutsPutting self.old self.new (λ _. put_inserted inserted) b) }
         ensures frames { SameFrames self.old self.new }
         ensures others { SameOthers self.old self.new }
         ensures store { SameStore self.old.input self.new.input }

@@ -1,12 +1,13 @@
 // Groups opened and closed, and the tokens that come behind them and behind assignments.
-ghost use Rattle.std.specs.Prelude.{◌≡◌, [], ◌∷◌, ◌++◌, List, IfErr, OnOk, Some, None};
+ghost use Rattle.std.specs.Prelude.{◌≡◌, [], ◌∷◌, IfErr, OnOk, Some, None};
 ghost use Rattle.tex_defs.specs.Places.{World};
 ghost use Rattle.tex_defs.specs.declared.Sizes.{Sizes};
 ghost use Rattle.equivalents.specs.Groups.{kind_of};
-ghost use Rattle.plain_machine.specs.States.{Move, GroupOpened, KeptForAssignment};
+ghost use Rattle.plain_machine.specs.States.{GroupOpened, KeptForAssignment};
 ghost use Rattle.plain_machine.specs.Plan.{put_each, group_ended, kept_for_group, behind_assignment};
 ghost use Rattle.plain_machine.specs.Does.{Did};
 ghost use Rattle.engine_state.specs.Book.{Book};
+ghost use Rattle.engine_state.specs.Clauses.{Still, HoldsMacros, MakesMoves, CutsMoves};
 ghost use Rattle.engine_state.specs.Stands.{Stands, Counts, IsSound, SameStore, SameOthers, SameFrames, state_of, page_of};
 ghost use Rattle.engine_state.specs.Rules.{Cuts};
 ghost use Rattle.engine_state.specs.Steps.{pending_weight};
@@ -22,9 +23,9 @@ impl Engine {
     /// # Errors
     /// The save stack is full, or else as many groups are open as may be; nothing has changed.
     pub fn open_group(&mut self, kind: GroupKind) -> Result<(), Broken>
-        ensures did { OnOk result ((sizes : Sizes) (w : World) (book : Book) → IsSound sizes self.old book.number book.macros → Did sizes (state_of self.old book) (state_of self.new book) w w (GroupOpened kind ∷ [])) }
+        ensures did { OnOk result (MakesMoves HoldsMacros self.old self.new (λ _. GroupOpened kind ∷ [])) }
         ensures err { IfErr result (λ b. (sizes : Sizes) (w : World) (book : Book) → IsSound sizes self.old book.number book.macros → Cuts sizes (state_of self.old book) self.new book w w (GroupOpened kind ∷ []) b) }
-        ensures stands { OnOk result ((sizes : Sizes) (book : Book) → Stands sizes self.old book → Stands sizes self.new book) }
+        ensures stands { OnOk result (Still Stands self.old self.new) }
         ensures frames { SameFrames self.old self.new }
         ensures only { self.new ≡ record self.old { input = record self.old.input { groups = self.new.input.groups } } }
     {
@@ -38,9 +39,9 @@ impl Engine {
     /// # Errors
     /// The save stack is full; nothing has changed.
     pub fn keep_for_group(&mut self, token: Token) -> Result<(), Broken>
-        ensures did { OnOk result ((sizes : Sizes) (w : World) (book : Book) → IsSound sizes self.old book.number book.macros → Did sizes (state_of self.old book) (state_of self.new book) w w (kept_for_group (kind_of self.old.input.groups) token)) }
-        ensures err { IfErr result (λ b. (sizes : Sizes) (w : World) (book : Book) (more : List Move) → IsSound sizes self.old book.number book.macros → Cuts sizes (state_of self.old book) self.new book w w (kept_for_group (kind_of self.old.input.groups) token ++ more) b) }
-        ensures stands { OnOk result ((sizes : Sizes) (book : Book) → Stands sizes self.old book → Stands sizes self.new book) }
+        ensures did { OnOk result (MakesMoves HoldsMacros self.old self.new (λ _. kept_for_group (kind_of self.old.input.groups) token)) }
+        ensures err { IfErr result (λ b. CutsMoves HoldsMacros self.old self.new (λ _. kept_for_group (kind_of self.old.input.groups) token) b) }
+        ensures stands { OnOk result (Still Stands self.old self.new) }
         ensures frames { SameFrames self.old self.new }
         ensures only { self.new ≡ record self.old { input = record self.old.input { groups = self.new.input.groups } } }
     {
@@ -54,11 +55,11 @@ impl Engine {
     fn put_closing(&mut self) -> Result<(), Broken>
         requires idle { self.old.input.making ≡ None }
         requires closing { self.old.input.ending ≡ None → ⊥ }
-        ensures did { OnOk result ((sizes : Sizes) (w : World) (book : Book) → Counts sizes self.old book → Did sizes (state_of self.old book) (state_of self.new book) w w (put_each self.old.input.closing)) }
+        ensures did { OnOk result (MakesMoves Counts self.old self.new (λ _. put_each self.old.input.closing)) }
         ensures err { IfErr result (λ b. (sizes : Sizes) (w : World) (book : Book) → Counts sizes self.old book → Cuts sizes (state_of self.old book) self.new book w w (put_each self.old.input.closing) b) }
         ensures frames { SameFrames self.old self.new }
         ensures others { SameOthers self.old self.new }
-        ensures sound { (sizes : Sizes) (book : Book) → IsSound sizes self.old book.number book.macros → IsSound sizes self.new book.number book.macros }
+        ensures sound { Still HoldsMacros self.old self.new }
         ensures light { pending_weight self.new.input.pending ≡ pending_weight self.old.input.pending }
         ensures idle { OnOk result (self.new.input.making ≡ None) }
     {
@@ -76,9 +77,9 @@ impl Engine {
     pub fn end_group(&mut self) -> Result<(), Broken>
         requires idle { self.old.input.making ≡ None }
         requires open { kind_of self.old.input.groups ≡ None → ⊥ }
-        ensures did { OnOk result ((sizes : Sizes) (w : World) (book : Book) → Stands sizes self.old book → Did sizes (state_of self.old book) (state_of self.new book) w w (group_ended (page_of self.old book))) }
+        ensures did { OnOk result (MakesMoves Stands self.old self.new group_ended) }
         ensures err { IfErr result (λ b. (sizes : Sizes) (w : World) (book : Book) → Stands sizes self.old book → Cuts sizes (state_of self.old book) self.new book w w (group_ended (page_of self.old book)) b) }
-        ensures stands { OnOk result ((sizes : Sizes) (book : Book) → Stands sizes self.old book → Stands sizes self.new book) }
+        ensures stands { OnOk result (Still Stands self.old self.new) }
         ensures frames { SameFrames self.old self.new }
         ensures others { SameOthers self.old self.new }
         ensures light { pending_weight self.new.input.pending ≡ pending_weight self.old.input.pending }
@@ -107,8 +108,8 @@ impl Engine {
     /// The main memory or the input stack is full: of the list there is what had room.
     pub fn put_after(&mut self) -> Result<(), Broken>
         requires idle { self.old.input.making ≡ None }
-        ensures did { OnOk result ((sizes : Sizes) (w : World) (book : Book) → Counts sizes self.old book → Did sizes (state_of self.old book) (state_of self.new book) w w (behind_assignment self.old.after)) }
-        ensures err { IfErr result (λ b. (sizes : Sizes) (w : World) (book : Book) (more : List Move) → Counts sizes self.old book → Cuts sizes (state_of self.old book) self.new book w w (behind_assignment self.old.after ++ more) b) }
+        ensures did { OnOk result (MakesMoves Counts self.old self.new (λ _. behind_assignment self.old.after)) }
+        ensures err { IfErr result (λ b. CutsMoves Counts self.old self.new (λ _. behind_assignment self.old.after) b) }
         ensures frames { SameFrames self.old self.new }
         ensures others { SameOthers (record self.old { after = None }) self.new }
         ensures store { SameStore self.old.input self.new.input }

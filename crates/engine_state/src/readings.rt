@@ -18,10 +18,11 @@ ghost use Rattle.reading_frames.specs.Weights.{frames_weight, opening_frame, inn
 ghost use Rattle.reading_frames.specs.Stack.{asks_in};
 ghost use Rattle.plain_machine.specs.States.{Begun, BegunWith, Closed, Ended, Feeds, made};
 ghost use Rattle.plain_machine.specs.Demands.{refusal};
-ghost use Rattle.plain_machine.specs.Plan.{noting, value_tokens};
+ghost use Rattle.plain_machine.specs.Plan.{noting, value_tokens, feeding};
 ghost use Rattle.plain_machine.specs.Does.{Did};
 ghost use Rattle.engine_state.specs.Book.{Book, with_work};
-ghost use Rattle.engine_state.specs.CutReadings.{CutsIn, with_token};
+ghost use Rattle.engine_state.specs.Clauses.{CutsAtReading};
+ghost use Rattle.engine_state.specs.CutReadings.{with_token};
 ghost use Rattle.engine_state.specs.Feeding.{HasTop, IsKept, TokensFit, TokensCut, with_tokens};
 ghost use Rattle.engine_state.specs.Stands.{Stands, Counts, IsSound, SameBut, state_of, page_of, depth, depth_full};
 ghost use Rattle.engine_state.specs.Rules.{feeds_of};
@@ -147,7 +148,7 @@ impl Engine {
     pub fn feed(&mut self, x: Seen) -> Result<(), Full>
         ensures stands { OnOk result ((sizes : Sizes) (book : Book) → Stands sizes self.old book → Stands sizes self.new (with_work (fed_with (Tok x) book.work) book)) }
         ensures did { OnOk result ((sizes : Sizes) (w : World) (book : Book) (r : Reading) (rs : List Reading) → Stands sizes self.old (with_work (r ∷ rs) book) → Did sizes (state_of self.old (with_work (r ∷ rs) book)) (state_of self.new (with_work (fed_with (Tok x) (r ∷ rs)) book)) w w (feeds_of (r ∷ rs) x)) }
-        ensures refused { IfErr result (λ full. (sizes : Sizes) (w : World) (book : Book) (r : Reading) (rs : List Reading) → Stands sizes self.old (with_work (r ∷ rs) book) → CutsIn sizes (state_of self.old (with_work (r ∷ rs) book)) self.new w w (feeds_of (r ∷ rs) x) (broken.Full full)) }
+        ensures refused { IfErr result (λ full. CutsAtReading self.old self.new (λ _ r. feeding r x) (broken.Full full)) }
         ensures column { self.new.in_line ≡ self.old.in_line }
         ensures idle { self.new.input.making ≡ self.old.input.making }
         ensures call { self.new.call ≡ self.old.call }
@@ -174,7 +175,7 @@ impl Engine {
     pub fn note(&mut self) -> Result<(), Full>
         ensures stands { OnOk result ((sizes : Sizes) (book : Book) → Stands sizes self.old book → Stands sizes self.new (with_work (fed_with Told book.work) book)) }
         ensures did { OnOk result ((sizes : Sizes) (w : World) (book : Book) (r : Reading) (rs : List Reading) → Stands sizes self.old (with_work (r ∷ rs) book) → Did sizes (state_of self.old (with_work (r ∷ rs) book)) (state_of self.new (with_work (fed_with Told (r ∷ rs)) book)) w w (noting r)) }
-        ensures refused { IfErr result (λ full. (sizes : Sizes) (w : World) (book : Book) (r : Reading) (rs : List Reading) → Stands sizes self.old (with_work (r ∷ rs) book) → CutsIn sizes (state_of self.old (with_work (r ∷ rs) book)) self.new w w (noting r) (broken.Full full)) }
+        ensures refused { IfErr result (λ full. CutsAtReading self.old self.new (λ _ r. noting r) (broken.Full full)) }
         ensures weight { OnOk result (IsReported (asks_in self.old.readings.frames []) → innermost_weight self.new.readings.frames < innermost_weight self.old.readings.frames) }
         ensures count { OnOk result (length self.new.readings.frames ≡ length self.old.readings.frames) }
         ensures frames { OnOk result (frames_weight self.new.readings.frames ≡ frames_weight self.old.readings.frames) }

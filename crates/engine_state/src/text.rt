@@ -1,8 +1,6 @@
 // Made texts that are put in front.
-ghost use Rattle.std.specs.Prelude.{◌≡◌, ◌≢◌, List, [], ◌∷◌, ◌++◌, map, IfErr, IfOk, OnOk, IsSome, IfSome, MatchBool, Some, None};
-ghost use Rattle.tex_defs.specs.Places.{World};
-ghost use Rattle.tex_defs.specs.declared.Sizes.{Sizes};
-ghost use Rattle.plain_machine.specs.States.{Move, Settled, ListBegun};
+ghost use Rattle.std.specs.Prelude.{◌≡◌, ◌≢◌, [], ◌∷◌, map, IfErr, IfOk, OnOk, IsSome, IfSome, MatchBool, Some, None};
+ghost use Rattle.plain_machine.specs.States.{Settled, ListBegun};
 ghost use Rattle.plain_tokens.specs.Tokens.{made_token, made_text};
 ghost use Rattle.plain_tokens.specs.Pending.{settle};
 ghost use Rattle.plain_tokens.specs.Meanings.{seen_as, meaning_to_let};
@@ -17,13 +15,12 @@ ghost use Rattle.token_show.specs.Views.{names_style, IsNamesView};
 ghost use Rattle.transcript.specs.Given.{tokens_given};
 ghost use Rattle.input_state.specs.Calls.{text_of};
 ghost use Rattle.plain_machine.specs.Plan.{put_made, put_text, put_characters, macro_tokens};
-ghost use Rattle.plain_machine.specs.Does.{Did};
 ghost use Rattle.reading_frames.specs.Sees.{kept_list_of};
 ghost use Rattle.input_state.specs.HeldLists.{made};
 ghost use Rattle.engine_state.specs.Book.{Book};
+ghost use Rattle.engine_state.specs.Clauses.{HoldsMacros, MakesMoves, CutsMoves, PutsInFront, CutsPutting};
 ghost use Rattle.engine_state.specs.Making.{HasGrown, GrowsNot, IsInFront, changed_list, characters_in, characters_of, text_at};
-ghost use Rattle.engine_state.specs.Stands.{Counts, IsSound, SameStore, SameOthers, SameFrames, state_of, page_of};
-ghost use Rattle.engine_state.specs.Rules.{Cuts};
+ghost use Rattle.engine_state.specs.Stands.{SameStore, SameOthers, SameFrames, page_of};
 ghost use Rattle.engine_state.specs.Steps.{pending_weight};
 
 use crate::broken::Broken;
@@ -35,7 +32,7 @@ use char_text::{Roman, Text, whole_number_length};
 use equivalents::Loc;
 use input_state::{Input, walks_stay};
 use name_table::NameTable;
-use tex_defs::{Full, Meaning, Name, Seen, Sizes, Token};
+use tex_defs::{Full, Meaning, Name, Seen, Token};
 use token_lists::{ListRef, Lists};
 use token_show::{NamesView, TokenText, last_after, places_after};
 
@@ -258,8 +255,8 @@ impl Engine {
     /// The finished lists in front go, and the list that is made is begun.
     fn begin_text(&mut self) -> Result<(), Broken>
         requires idle { self.old.input.making ≡ None }
-        ensures did { OnOk result ((sizes : Sizes) (w : World) (book : Book) → IsSound sizes self.old book.number book.macros → Did sizes (state_of self.old book) (state_of self.new book) w w (Settled ∷ ListBegun ∷ [])) }
-        ensures err { IfErr result (λ b. (sizes : Sizes) (w : World) (book : Book) (rest : List Move) → IsSound sizes self.old book.number book.macros → Cuts sizes (state_of self.old book) self.new book w w (Settled ∷ ListBegun ∷ rest) b) }
+        ensures did { OnOk result (MakesMoves HoldsMacros self.old self.new (λ _. Settled ∷ ListBegun ∷ [])) }
+        ensures err { IfErr result (λ b. CutsMoves HoldsMacros self.old self.new (λ _. Settled ∷ ListBegun ∷ []) b) }
         ensures begun { OnOk result (self.new.input.making ≡ Some []) }
         ensures settled { self.new.input.pending ≡ settle self.old.input.pending }
         ensures front { IsInFront self.old self.new }
@@ -274,8 +271,8 @@ impl Engine {
         requires making { IsSome self.old.input.making }
         requires settled { self.old.input.pending ≡ settle self.old.input.pending }
         requires some { MatchBool some (made self.old.input.making ≢ []) (made self.old.input.making ≡ []) }
-        ensures did { OnOk result ((sizes : Sizes) (w : World) (book : Book) → IsSound sizes self.old book.number book.macros → Did sizes (state_of self.old book) (state_of self.new book) w w (put_made (made self.old.input.making))) }
-        ensures err { IfErr result (λ b. (sizes : Sizes) (w : World) (book : Book) (more : List Move) → IsSound sizes self.old book.number book.macros → Cuts sizes (state_of self.old book) self.new book w w (put_made (made self.old.input.making) ++ more) b) }
+        ensures did { OnOk result (MakesMoves HoldsMacros self.old self.new (λ _. put_made (made self.old.input.making))) }
+        ensures err { IfErr result (λ b. CutsMoves HoldsMacros self.old self.new (λ _. put_made (made self.old.input.making)) b) }
         ensures front { IsInFront self.old self.new }
         ensures idle { OnOk result (self.new.input.making ≡ None) }
     {
@@ -312,8 +309,8 @@ impl Engine {
     /// The main memory or the input stack is full: of the list there is what had room.
     pub fn put_characters(&mut self, made: Made) -> Result<(), Broken>
         requires idle { self.old.input.making ≡ None }
-        ensures did { OnOk result ((sizes : Sizes) (w : World) (book : Book) → Counts sizes self.old book → self.old.input.making ≡ None → Did sizes (state_of self.old book) (state_of self.new book) w w (put_characters (characters_of (page_of self.old book) made))) }
-        ensures err { IfErr result (λ b. (sizes : Sizes) (w : World) (book : Book) (more : List Move) → Counts sizes self.old book → self.old.input.making ≡ None → Cuts sizes (state_of self.old book) self.new book w w (put_characters (characters_of (page_of self.old book) made) ++ more) b) }
+        ensures did { OnOk result (PutsInFront self.old self.new (λ page. put_characters (characters_of page made))) }
+        ensures err { IfErr result (λ b. CutsPutting self.old self.new (λ page. put_characters (characters_of page made)) b) }
         ensures frames { SameFrames self.old self.new }
         ensures others { SameOthers self.old self.new }
         ensures store { SameStore self.old.input self.new.input }
@@ -351,8 +348,8 @@ impl Engine {
     /// The main memory or the input stack is full: of the list there is what had room.
     pub fn put_changed(&mut self, upper: bool, listed: bool) -> Result<(), Broken>
         requires idle { self.old.input.making ≡ None }
-        ensures did { OnOk result ((sizes : Sizes) (w : World) (book : Book) → Counts sizes self.old book → self.old.input.making ≡ None → Did sizes (state_of self.old book) (state_of self.new book) w w (put_text (map (case_changed (case_codes upper (page_of self.old book).now)) (kept_list_of listed self.old.input.builds)))) }
-        ensures err { IfErr result (λ b. (sizes : Sizes) (w : World) (book : Book) (more : List Move) → Counts sizes self.old book → self.old.input.making ≡ None → Cuts sizes (state_of self.old book) self.new book w w (put_text (map (case_changed (case_codes upper (page_of self.old book).now)) (kept_list_of listed self.old.input.builds)) ++ more) b) }
+        ensures did { OnOk result (PutsInFront self.old self.new (λ page. put_text (map (case_changed (case_codes upper page.now)) (kept_list_of listed self.old.input.builds)))) }
+        ensures err { IfErr result (λ b. CutsPutting self.old self.new (λ page. put_text (map (case_changed (case_codes upper page.now)) (kept_list_of listed self.old.input.builds))) b) }
         ensures front { IsInFront self.old self.new }
         ensures idle { OnOk result (self.new.input.making ≡ None) }
     {

@@ -1,10 +1,8 @@
 // What the engine writes.
 ghost use Rattle.std.specs.Prelude.{◌≡◌, ◌≤◌, ◌<◌, length, List, [], ◌∷◌, ◌++◌, IfOk, IfErr, OnOk, None, true, false};
-ghost use Rattle.tex_syntax.specs.declared.words.Outcome.TheVariants.{AtFatal};
 ghost use Rattle.tex_syntax.specs.declared.words.Scanned.TheVariants as scanned;
 ghost use Rattle.tex_defs.specs.Places.{Transcript};
 ghost use Rattle.tex_defs.specs.declared.Sizes.{Sizes};
-ghost use Rattle.tex_defs.specs.declared.Fatal.TheVariants as fatal;
 ghost use Rattle.equivalents.specs.Groups.{IsLocation};
 ghost use Rattle.equivalents.specs.Locations.{value_seen};
 ghost use Rattle.equivalents.specs.Tables.{get};
@@ -22,8 +20,9 @@ ghost use Rattle.engine_state.specs.Book.{Book};
 ghost use Rattle.engine_state.specs.Calls.{AllStand, argument_bytes};
 ghost use Rattle.engine_state.specs.Lists.{list_at};
 ghost use Rattle.engine_state.specs.Begins.{outcome_of_last, last_moves, last_bytes, last_written};
+ghost use Rattle.engine_state.specs.Clauses.{WritesOut, CutsWriting, EndsAtHundredth, CutsReport};
 ghost use Rattle.engine_state.specs.Stands.{IsSized, IsSound, SameFrames, OnlyColumn, state_of, page_of, own_style};
-ghost use Rattle.engine_state.specs.Rules.{world_of, list_number, counted, CountsOn, Cuts, Reports, ReportsAs, Halts, DoesOnward};
+ghost use Rattle.engine_state.specs.Rules.{world_of, list_number, counted, CountsOn, Cuts, Reports, ReportsAs, DoesOnward};
 ghost use Rattle.engine_state.specs.Steps.{IsFree};
 ghost use Rattle.engine_state.specs.declared.outcome.Ruled.TheVariants.{Halted};
 
@@ -52,8 +51,8 @@ impl Engine {
     /// # Errors
     /// A write failed or wanted memory: a front of the text was written.
     pub fn write_text<S: Sink>(&mut self, out: &mut S, text: &[u8]) -> Result<(), Broken>
-        ensures did { OnOk result ((sizes : Sizes) (f : FilesTold) (book : Book) → Did sizes (state_of self.old book) (state_of self.new book) (world_of f (S.told out.old) self.old) (world_of f (S.told out.new) self.new) (Written Transcript text.now ∷ [])) }
-        ensures err { IfErr result (λ b. (sizes : Sizes) (f : FilesTold) (book : Book) (more : List Move) → Cuts sizes (state_of self.old book) self.new book (world_of f (S.told out.old) self.old) (world_of f (S.told out.new) self.new) (Written Transcript text.now ∷ more) b) }
+        ensures did { OnOk result (WritesOut self.old self.new (S.told out.old) (S.told out.new) (λ _. Written Transcript text.now ∷ [])) }
+        ensures err { IfErr result (λ b. CutsWriting self.old self.new (S.told out.old) (S.told out.new) (λ _. Written Transcript text.now ∷ []) b) }
         ensures only { OnlyColumn self.old self.new }
     {
         put(out, &mut self.in_line, text)?;
@@ -65,8 +64,8 @@ impl Engine {
     /// # Errors
     /// A write failed or wanted memory: a front of the text was written.
     pub fn write_message<S: Sink>(&mut self, out: &mut S, listed: bool) -> Result<(), Broken>
-        ensures did { OnOk result ((sizes : Sizes) (f : FilesTold) (book : Book) → Did sizes (state_of self.old book) (state_of self.new book) (world_of f (S.told out.old) self.old) (world_of f (S.told out.new) self.new) (Written Transcript (message_bytes (own_style self.old) self.old.in_line (kept_list_of listed self.old.input.builds)) ∷ [])) }
-        ensures err { IfErr result (λ b. (sizes : Sizes) (f : FilesTold) (book : Book) (more : List Move) → Cuts sizes (state_of self.old book) self.new book (world_of f (S.told out.old) self.old) (world_of f (S.told out.new) self.new) (Written Transcript (message_bytes (own_style self.old) self.old.in_line (kept_list_of listed self.old.input.builds)) ∷ more) b) }
+        ensures did { OnOk result (WritesOut self.old self.new (S.told out.old) (S.told out.new) (λ _. Written Transcript (message_bytes (own_style self.old) self.old.in_line (kept_list_of listed self.old.input.builds)) ∷ [])) }
+        ensures err { IfErr result (λ b. CutsWriting self.old self.new (S.told out.old) (S.told out.new) (λ _. Written Transcript (message_bytes (own_style self.old) self.old.in_line (kept_list_of listed self.old.input.builds)) ∷ []) b) }
         ensures only { OnlyColumn self.old self.new }
     {
         if listed && self.input.has_list() {
@@ -85,8 +84,8 @@ impl Engine {
     /// # Errors
     /// A write failed or wanted memory: a front of the report was written.
     pub fn write_error_message<S: Sink>(&mut self, out: &mut S, listed: bool) -> Result<(), Broken>
-        ensures did { OnOk result ((sizes : Sizes) (f : FilesTold) (book : Book) → Did sizes (state_of self.old book) (state_of self.new book) (world_of f (S.told out.old) self.old) (world_of f (S.told out.new) self.new) (Written Transcript (error_message_bytes (own_style self.old) self.old.in_line self.old.input.pending.number (kept_list_of listed self.old.input.builds)) ∷ [])) }
-        ensures err { IfErr result (λ b. (sizes : Sizes) (f : FilesTold) (book : Book) (more : List Move) → Cuts sizes (state_of self.old book) self.new book (world_of f (S.told out.old) self.old) (world_of f (S.told out.new) self.new) (Written Transcript (error_message_bytes (own_style self.old) self.old.in_line self.old.input.pending.number (kept_list_of listed self.old.input.builds)) ∷ more) b) }
+        ensures did { OnOk result (WritesOut self.old self.new (S.told out.old) (S.told out.new) (λ _. Written Transcript (error_message_bytes (own_style self.old) self.old.in_line self.old.input.pending.number (kept_list_of listed self.old.input.builds)) ∷ [])) }
+        ensures err { IfErr result (λ b. CutsWriting self.old self.new (S.told out.old) (S.told out.new) (λ _. Written Transcript (error_message_bytes (own_style self.old) self.old.in_line self.old.input.pending.number (kept_list_of listed self.old.input.builds)) ∷ []) b) }
         ensures only { OnlyColumn self.old self.new }
     {
         let line = self.input.line_number();
@@ -109,8 +108,8 @@ impl Engine {
         number: u32,
     ) -> Result<(), Broken>
         requires { number < length self.old.input.builds }
-        ensures did { OnOk result ((sizes : Sizes) (f : FilesTold) (book : Book) → Did sizes (state_of self.old book) (state_of self.new book) (world_of f (S.told out.old) self.old) (world_of f (S.told out.new) self.new) (Written Transcript (runaway_bytes what (own_style self.old) self.old.in_line (list_number number self.old.input.builds)) ∷ [])) }
-        ensures err { IfErr result (λ b. (sizes : Sizes) (f : FilesTold) (book : Book) (more : List Move) → Cuts sizes (state_of self.old book) self.new book (world_of f (S.told out.old) self.old) (world_of f (S.told out.new) self.new) (Written Transcript (runaway_bytes what (own_style self.old) self.old.in_line (list_number number self.old.input.builds)) ∷ more) b) }
+        ensures did { OnOk result (WritesOut self.old self.new (S.told out.old) (S.told out.new) (λ _. Written Transcript (runaway_bytes what (own_style self.old) self.old.in_line (list_number number self.old.input.builds)) ∷ [])) }
+        ensures err { IfErr result (λ b. CutsWriting self.old self.new (S.told out.old) (S.told out.new) (λ _. Written Transcript (runaway_bytes what (own_style self.old) self.old.in_line (list_number number self.old.input.builds)) ∷ []) b) }
         ensures only { OnlyColumn self.old self.new }
     {
         let (lists, list) = self.input.list_number(number);
@@ -124,8 +123,8 @@ impl Engine {
     /// # Errors
     /// A write failed or wanted memory: a front of the text was written.
     pub fn write_argument<S: Sink>(&mut self, out: &mut S) -> Result<(), Broken>
-        ensures did { OnOk result ((sizes : Sizes) (f : FilesTold) (book : Book) → Did sizes (state_of self.old book) (state_of self.new book) (world_of f (S.told out.old) self.old) (world_of f (S.told out.new) self.new) (Written Transcript (argument_bytes self.old) ∷ [])) }
-        ensures err { IfErr result (λ b. (sizes : Sizes) (f : FilesTold) (book : Book) (more : List Move) → Cuts sizes (state_of self.old book) self.new book (world_of f (S.told out.old) self.old) (world_of f (S.told out.new) self.new) (Written Transcript (argument_bytes self.old) ∷ more) b) }
+        ensures did { OnOk result (WritesOut self.old self.new (S.told out.old) (S.told out.new) (λ _. Written Transcript (argument_bytes self.old) ∷ [])) }
+        ensures err { IfErr result (λ b. CutsWriting self.old self.new (S.told out.old) (S.told out.new) (λ _. Written Transcript (argument_bytes self.old) ∷ []) b) }
         ensures only { OnlyColumn self.old self.new }
     {
         match self.input.call_list() {
@@ -147,8 +146,7 @@ impl Engine {
     /// # Errors
     /// A write failed or wanted memory: a front of the text was written.
     pub fn token_line<S: Sink>(&mut self, out: &mut S, meaning: Meaning<()>) -> Result<(), Broken>
-        ensures did { OnOk result ((sizes : Sizes) (f : FilesTold) (book : Book) →
-            Did sizes (state_of self.old book) (state_of self.new book) (world_of f (S.told out.old) self.old) (world_of f (S.told out.new) self.new) (token_line (page_of self.old book) meaning)) }
+        ensures did { OnOk result (WritesOut self.old self.new (S.told out.old) (S.told out.new) (λ page. token_line page meaning)) }
         ensures err { IfErr result (λ b. (sizes : Sizes) (f : FilesTold) (book : Book) → Cuts sizes (state_of self.old book) self.new book (world_of f (S.told out.old) self.old) (world_of f (S.told out.new) self.new) (token_line (page_of self.old book) meaning) b) }
         ensures only { OnlyColumn self.old self.new }
     {
@@ -168,10 +166,8 @@ impl Engine {
     pub fn report<S: Sink>(&mut self, out: &mut S, report: Report) -> Result<bool, Broken>
         ensures on { IfOk result (λ on. on ≡ true → (sizes : Sizes) (f : FilesTold) (book : Book) (rest : List Move) →
             Reports sizes (state_of self.old book) (state_of self.new book) (world_of f (S.told out.old) self.old) (world_of f (S.told out.new) self.new) (page_of self.old book) report rest) }
-        ensures last { IfOk result (λ on. on ≡ false → (sizes : Sizes) (f : FilesTold) (book : Book) (rest : List Move) →
-            Halts sizes (state_of self.old book) self.new book (world_of f (S.told out.old) self.old) (world_of f (S.told out.new) self.new) (reported (page_of self.old book) report rest) (AtFatal fatal.HundredErrors) 0) }
-        ensures err { IfErr result (λ b. (sizes : Sizes) (f : FilesTold) (book : Book) (rest : List Move) → self.old.reports ≤ reports_room →
-            Cuts sizes (state_of self.old book) self.new book (world_of f (S.told out.old) self.old) (world_of f (S.told out.new) self.new) (reported (page_of self.old book) report rest) b) }
+        ensures last { IfOk result (λ on. on ≡ false → EndsAtHundredth self.old self.new (S.told out.old) (S.told out.new) (λ page rest. reported page report rest)) }
+        ensures err { IfErr result (λ b. CutsReport self.old self.new (S.told out.old) (S.told out.new) (λ page rest. reported page report rest) b) }
         ensures frames { SameFrames self.old self.new }
         ensures input { self.new.input ≡ self.old.input }
         ensures sized { IfOk result (λ on. on ≡ true → (sizes : Sizes) → IsSized sizes self.old → IsSized sizes self.new) }
@@ -188,10 +184,8 @@ impl Engine {
     pub fn report_as<S: Sink>(&mut self, out: &mut S, listed: bool) -> Result<bool, Broken>
         ensures on { IfOk result (λ on. on ≡ true → (sizes : Sizes) (f : FilesTold) (book : Book) (rest : List Move) →
             ReportsAs sizes (state_of self.old book) (state_of self.new book) (world_of f (S.told out.old) self.old) (world_of f (S.told out.new) self.new) (page_of self.old book) (kept_list_of listed self.old.input.builds) rest) }
-        ensures last { IfOk result (λ on. on ≡ false → (sizes : Sizes) (f : FilesTold) (book : Book) (rest : List Move) →
-            Halts sizes (state_of self.old book) self.new book (world_of f (S.told out.old) self.old) (world_of f (S.told out.new) self.new) (reported_as (page_of self.old book) (kept_list_of listed self.old.input.builds) rest) (AtFatal fatal.HundredErrors) 0) }
-        ensures err { IfErr result (λ b. (sizes : Sizes) (f : FilesTold) (book : Book) (rest : List Move) → self.old.reports ≤ reports_room →
-            Cuts sizes (state_of self.old book) self.new book (world_of f (S.told out.old) self.old) (world_of f (S.told out.new) self.new) (reported_as (page_of self.old book) (kept_list_of listed self.old.input.builds) rest) b) }
+        ensures last { IfOk result (λ on. on ≡ false → EndsAtHundredth self.old self.new (S.told out.old) (S.told out.new) (λ page rest. reported_as page (kept_list_of listed self.old.input.builds) rest)) }
+        ensures err { IfErr result (λ b. CutsReport self.old self.new (S.told out.old) (S.told out.new) (λ page rest. reported_as page (kept_list_of listed self.old.input.builds) rest) b) }
         ensures frames { SameFrames self.old self.new }
         ensures input { self.new.input ≡ self.old.input }
         ensures sized { IfOk result (λ on. on ≡ true → (sizes : Sizes) → IsSized sizes self.old → IsSized sizes self.new) }
@@ -204,10 +198,8 @@ impl Engine {
     pub(crate) fn count_report<S: Sink>(&mut self, out: &mut S) -> Result<bool, Broken>
         ensures on { IfOk result (λ on. on ≡ true → (sizes : Sizes) (f : FilesTold) (book : Book) (rest : List Move) →
             CountsOn sizes (state_of self.old book) (state_of self.new book) (world_of f (S.told out.old) self.old) (world_of f (S.told out.new) self.new) (page_of self.old book) rest) }
-        ensures last { IfOk result (λ on. on ≡ false → (sizes : Sizes) (f : FilesTold) (book : Book) (rest : List Move) →
-            Halts sizes (state_of self.old book) self.new book (world_of f (S.told out.old) self.old) (world_of f (S.told out.new) self.new) (counted (page_of self.old book) rest) (AtFatal fatal.HundredErrors) 0) }
-        ensures err { IfErr result (λ b. (sizes : Sizes) (f : FilesTold) (book : Book) (rest : List Move) → self.old.reports ≤ reports_room →
-            Cuts sizes (state_of self.old book) self.new book (world_of f (S.told out.old) self.old) (world_of f (S.told out.new) self.new) (counted (page_of self.old book) rest) b) }
+        ensures last { IfOk result (λ on. on ≡ false → EndsAtHundredth self.old self.new (S.told out.old) (S.told out.new) counted) }
+        ensures err { IfErr result (λ b. CutsReport self.old self.new (S.told out.old) (S.told out.new) counted b) }
         ensures frames { SameFrames self.old self.new }
         ensures input { self.new.input ≡ self.old.input }
         ensures sized { IfOk result (λ on. on ≡ true → (sizes : Sizes) → IsSized sizes self.old → IsSized sizes self.new) }
@@ -225,8 +217,8 @@ impl Engine {
 
     /// Writes a report.
     fn write_report<S: Sink>(&mut self, out: &mut S, report: Report) -> Result<(), Broken>
-        ensures did { OnOk result ((sizes : Sizes) (f : FilesTold) (book : Book) → Did sizes (state_of self.old book) (state_of self.new book) (world_of f (S.told out.old) self.old) (world_of f (S.told out.new) self.new) (Written Transcript (report_bytes (own_style self.old) self.old.in_line self.old.input.pending.number report) ∷ [])) }
-        ensures err { IfErr result (λ b. (sizes : Sizes) (f : FilesTold) (book : Book) (more : List Move) → Cuts sizes (state_of self.old book) self.new book (world_of f (S.told out.old) self.old) (world_of f (S.told out.new) self.new) (Written Transcript (report_bytes (own_style self.old) self.old.in_line self.old.input.pending.number report) ∷ more) b) }
+        ensures did { OnOk result (WritesOut self.old self.new (S.told out.old) (S.told out.new) (λ _. Written Transcript (report_bytes (own_style self.old) self.old.in_line self.old.input.pending.number report) ∷ [])) }
+        ensures err { IfErr result (λ b. CutsWriting self.old self.new (S.told out.old) (S.told out.new) (λ _. Written Transcript (report_bytes (own_style self.old) self.old.in_line self.old.input.pending.number report) ∷ []) b) }
         ensures only { OnlyColumn self.old self.new }
     {
         let line = self.input.line_number();
@@ -237,8 +229,8 @@ impl Engine {
 
     /// Writes a token and what it means, of a macro with the tokens of its list.
     fn write_shown_meaning<S: Sink>(&mut self, out: &mut S, x: Seen) -> Result<(), Broken>
-        ensures did { OnOk result ((sizes : Sizes) (f : FilesTold) (book : Book) → Did sizes (state_of self.old book) (state_of self.new book) (world_of f (S.told out.old) self.old) (world_of f (S.told out.new) self.new) (Written Transcript (shown_meaning_bytes (own_style self.old) self.old.in_line self.old.input.pending.number x.token x.meaning (meaning_tokens (macro_tokens self.old.input.lists) (meaning_to_let self.old.input.groups.now.meanings x))) ∷ [])) }
-        ensures err { IfErr result (λ b. (sizes : Sizes) (f : FilesTold) (book : Book) (more : List Move) → Cuts sizes (state_of self.old book) self.new book (world_of f (S.told out.old) self.old) (world_of f (S.told out.new) self.new) (Written Transcript (shown_meaning_bytes (own_style self.old) self.old.in_line self.old.input.pending.number x.token x.meaning (meaning_tokens (macro_tokens self.old.input.lists) (meaning_to_let self.old.input.groups.now.meanings x))) ∷ more) b) }
+        ensures did { OnOk result (WritesOut self.old self.new (S.told out.old) (S.told out.new) (λ _. Written Transcript (shown_meaning_bytes (own_style self.old) self.old.in_line self.old.input.pending.number x.token x.meaning (meaning_tokens (macro_tokens self.old.input.lists) (meaning_to_let self.old.input.groups.now.meanings x))) ∷ [])) }
+        ensures err { IfErr result (λ b. CutsWriting self.old self.new (S.told out.old) (S.told out.new) (λ _. Written Transcript (shown_meaning_bytes (own_style self.old) self.old.in_line self.old.input.pending.number x.token x.meaning (meaning_tokens (macro_tokens self.old.input.lists) (meaning_to_let self.old.input.groups.now.meanings x))) ∷ []) b) }
         ensures only { OnlyColumn self.old self.new }
     {
         let line = self.input.line_number();
@@ -266,8 +258,8 @@ impl Engine {
 
     /// Writes a number.
     fn write_shown_number<S: Sink>(&mut self, out: &mut S, n: i32) -> Result<(), Broken>
-        ensures did { OnOk result ((sizes : Sizes) (f : FilesTold) (book : Book) → Did sizes (state_of self.old book) (state_of self.new book) (world_of f (S.told out.old) self.old) (world_of f (S.told out.new) self.new) (Written Transcript (shown_value_bytes (own_style self.old) self.old.in_line self.old.input.pending.number (whole_number n) []) ∷ [])) }
-        ensures err { IfErr result (λ b. (sizes : Sizes) (f : FilesTold) (book : Book) (more : List Move) → Cuts sizes (state_of self.old book) self.new book (world_of f (S.told out.old) self.old) (world_of f (S.told out.new) self.new) (Written Transcript (shown_value_bytes (own_style self.old) self.old.in_line self.old.input.pending.number (whole_number n) []) ∷ more) b) }
+        ensures did { OnOk result (WritesOut self.old self.new (S.told out.old) (S.told out.new) (λ _. Written Transcript (shown_value_bytes (own_style self.old) self.old.in_line self.old.input.pending.number (whole_number n) []) ∷ [])) }
+        ensures err { IfErr result (λ b. CutsWriting self.old self.new (S.told out.old) (S.told out.new) (λ _. Written Transcript (shown_value_bytes (own_style self.old) self.old.in_line self.old.input.pending.number (whole_number n) []) ∷ []) b) }
         ensures only { OnlyColumn self.old self.new }
     {
         let line = self.input.line_number();
@@ -280,8 +272,8 @@ impl Engine {
     /// Writes what stands at a location.
     fn write_standing<S: Sink>(&mut self, out: &mut S, loc: Loc) -> Result<(), Broken>
         requires there { IsLocation self.old.input.groups loc }
-        ensures did { OnOk result ((sizes : Sizes) (f : FilesTold) (book : Book) → Did sizes (state_of self.old book) (state_of self.new book) (world_of f (S.told out.old) self.old) (world_of f (S.told out.new) self.new) (Written Transcript (shown_value_bytes (own_style self.old) self.old.in_line self.old.input.pending.number (value_text loc (value_seen (get self.old.input.groups.now loc))) (list_at self.old loc)) ∷ [])) }
-        ensures err { IfErr result (λ b. (sizes : Sizes) (f : FilesTold) (book : Book) (more : List Move) → Cuts sizes (state_of self.old book) self.new book (world_of f (S.told out.old) self.old) (world_of f (S.told out.new) self.new) (Written Transcript (shown_value_bytes (own_style self.old) self.old.in_line self.old.input.pending.number (value_text loc (value_seen (get self.old.input.groups.now loc))) (list_at self.old loc)) ∷ more) b) }
+        ensures did { OnOk result (WritesOut self.old self.new (S.told out.old) (S.told out.new) (λ _. Written Transcript (shown_value_bytes (own_style self.old) self.old.in_line self.old.input.pending.number (value_text loc (value_seen (get self.old.input.groups.now loc))) (list_at self.old loc)) ∷ [])) }
+        ensures err { IfErr result (λ b. CutsWriting self.old self.new (S.told out.old) (S.told out.new) (λ _. Written Transcript (shown_value_bytes (own_style self.old) self.old.in_line self.old.input.pending.number (value_text loc (value_seen (get self.old.input.groups.now loc))) (list_at self.old loc)) ∷ []) b) }
         ensures only { OnlyColumn self.old self.new }
     {
         let line = self.input.line_number();
@@ -297,8 +289,8 @@ impl Engine {
     /// # Errors
     /// A write failed or wanted memory: a front of the text was written.
     pub fn show_number<S: Sink>(&mut self, out: &mut S, n: i32) -> Result<(), Broken>
-        ensures did { OnOk result ((sizes : Sizes) (f : FilesTold) (book : Book) → Did sizes (state_of self.old book) (state_of self.new book) (world_of f (S.told out.old) self.old) (world_of f (S.told out.new) self.new) (value_shown (page_of self.old book) (whole_number n) [])) }
-        ensures err { IfErr result (λ b. (sizes : Sizes) (f : FilesTold) (book : Book) (more : List Move) → Cuts sizes (state_of self.old book) self.new book (world_of f (S.told out.old) self.old) (world_of f (S.told out.new) self.new) (value_shown (page_of self.old book) (whole_number n) [] ++ more) b) }
+        ensures did { OnOk result (WritesOut self.old self.new (S.told out.old) (S.told out.new) (λ page. value_shown page (whole_number n) [])) }
+        ensures err { IfErr result (λ b. CutsWriting self.old self.new (S.told out.old) (S.told out.new) (λ page. value_shown page (whole_number n) []) b) }
         ensures only { self.new ≡ record self.old { in_line = self.new.in_line; flawed = self.new.flawed } }
         ensures frames { SameFrames self.old self.new }
     {
@@ -359,8 +351,8 @@ impl Engine {
 
     /// Writes what the machine writes where it stops.
     fn write_last<S: Sink>(&mut self, out: &mut S, last: Last) -> Result<(), Broken>
-        ensures did { OnOk result ((sizes : Sizes) (f : FilesTold) (book : Book) → Did sizes (state_of self.old book) (state_of self.new book) (world_of f (S.told out.old) self.old) (world_of f (S.told out.new) self.new) (last_written (page_of self.old book) last)) }
-        ensures err { IfErr result (λ b. (sizes : Sizes) (f : FilesTold) (book : Book) (more : List Move) → Cuts sizes (state_of self.old book) self.new book (world_of f (S.told out.old) self.old) (world_of f (S.told out.new) self.new) (last_written (page_of self.old book) last ++ more) b) }
+        ensures did { OnOk result (WritesOut self.old self.new (S.told out.old) (S.told out.new) (λ page. last_written page last)) }
+        ensures err { IfErr result (λ b. CutsWriting self.old self.new (S.told out.old) (S.told out.new) (λ page. last_written page last) b) }
         ensures only { OnlyColumn self.old self.new }
     {
         let text = self.last_text(last);

@@ -19,8 +19,9 @@ ghost use Rattle.input_state.specs.Calls.{call_kind, text_of};
 ghost use Rattle.input_state.specs.Stored.{KeepsMacros};
 ghost use Rattle.engine_state.specs.Book.{Book};
 ghost use Rattle.engine_state.specs.Calls.{open_call};
+ghost use Rattle.engine_state.specs.Clauses.{GoesFree};
 ghost use Rattle.engine_state.specs.Stands.{Stands, Counts, SameFrames, state_of, page_of};
-ghost use Rattle.engine_state.specs.Rules.{Cuts, Went};
+ghost use Rattle.engine_state.specs.Rules.{Cuts};
 ghost use Rattle.engine_state.specs.Steps.{weight, pending_weight};
 ghost use Rattle.engine_state.specs.declared.broken.Broken.TheVariants as broken;
 
@@ -35,8 +36,7 @@ use tex_defs::{Full, Meaning, Name, Seen, Token};
 /// There is no room for the level, for one more reading or for the first argument's list; the finished lists in front
 /// have gone where a level was asked for.
 pub(crate) fn call_name(engine: &mut Engine, token: Token) -> Result<(), Full>
-    ensures ok { OnOk result ((sizes : Sizes) (w : World) (book : Book) → Stands sizes engine.old book →
-        Went sizes (state_of engine.old book) engine.new w w (called (page_of engine.old book) token) 0) }
+    ensures ok { OnOk result (GoesFree engine.old engine.new (λ page. called page token)) }
     ensures err { IfErr result (λ full. (sizes : Sizes) (w : World) (book : Book) → Stands sizes engine.old book →
         Cuts sizes (state_of engine.old book) engine.new book w w (called (page_of engine.old book) token) (broken.Full full)) }
     ensures frames { OnErr result (SameFrames engine.old engine.new) }

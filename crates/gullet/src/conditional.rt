@@ -1,17 +1,12 @@
 // A conditional begins, goes on by the value of its test, and skips text; and a `\fi`, an `\else` or an `\or` comes in text that is read.
 // *The TeXbook*, chapter 20; *TeX: The Program*, part 28 (`conditional`, `fi_or_else`, `pass_text`, `change_if_limit`).
 ghost use Rattle.std.specs.Prelude.{◌≡◌, ◌≤◌, ◌+◌, ℕ, IfOk, IfErr, OnOk, None};
-ghost use Rattle.tex_defs.specs.declared.Sizes.{Sizes};
-ghost use Rattle.tex_defs.specs.Places.{World};
 ghost use Rattle.conditionals.specs.Open.{constant_test as plain_constant};
 ghost use Rattle.plain_readings.specs.Weights.{act_frame, act_weight};
 ghost use Rattle.reading_frames.specs.Weights.{frames_weight, innermost_weight};
 ghost use Rattle.plain_machine.specs.Plan.{chosen, conditional_begun, ender_met, ender_number as plain_number, skips};
-ghost use Rattle.world_io.specs.Told.{FilesTold};
-ghost use Rattle.engine_state.specs.Book.{Book};
-ghost use Rattle.engine_state.specs.CutReadings.{CutsIn};
-ghost use Rattle.engine_state.specs.Rules.{world_of, Went, DoesOnward};
-ghost use Rattle.engine_state.specs.Stands.{Stands, SameFrames, state_of, page_of};
+ghost use Rattle.engine_state.specs.Clauses.{GoesFree, CutsFree, GoesOnward, CutsOnward};
+ghost use Rattle.engine_state.specs.Stands.{SameFrames};
 ghost use Rattle.engine_state.specs.Steps.{pending_weight, weight, IsFree, IsHalted};
 
 use crate::relax::put_behind_relax;
@@ -28,10 +23,8 @@ use world_io::Sink;
 /// # Errors
 /// There is no room for the reading: the engine stands for the moment before.
 pub fn skip_on(engine: &mut Engine, call: Call, aim: Aim) -> Result<(), Broken>
-    ensures rule { OnOk result ((sizes : Sizes) (w : World) (book : Book) → Stands sizes engine.old book →
-        Went sizes (state_of engine.old book) engine.new w w (skips (page_of engine.old book) call aim) 0) }
-    ensures err { IfErr result (λ b. (sizes : Sizes) (w : World) (book : Book) → Stands sizes engine.old book →
-        CutsIn sizes (state_of engine.old book) engine.new w w (skips (page_of engine.old book) call aim) b) }
+    ensures rule { OnOk result (GoesFree engine.old engine.new (λ page. skips page call aim)) }
+    ensures err { IfErr result (λ b. CutsFree engine.old engine.new (λ page. skips page call aim) b) }
     ensures light { OnOk result ((most : ℕ) → engine.old.call ≡ None → act_frame ≤ most → weight engine.new ≤ frames_weight engine.old.readings.frames + most + pending_weight engine.old.input.pending) }
     ensures call { engine.new.call ≡ engine.old.call }
     ensures column { engine.new.in_line ≡ engine.old.in_line }
@@ -48,10 +41,8 @@ pub fn skip_on(engine: &mut Engine, call: Call, aim: Aim) -> Result<(), Broken>
 /// # Errors
 /// There is no room for the reading of skipped text: the engine stands for the moment before.
 pub fn choose(engine: &mut Engine, call: Call, value: Value) -> Result<(), Broken>
-    ensures rule { OnOk result ((sizes : Sizes) (w : World) (book : Book) → Stands sizes engine.old book →
-        Went sizes (state_of engine.old book) engine.new w w (chosen (page_of engine.old book) call value) 0) }
-    ensures err { IfErr result (λ b. (sizes : Sizes) (w : World) (book : Book) → Stands sizes engine.old book →
-        CutsIn sizes (state_of engine.old book) engine.new w w (chosen (page_of engine.old book) call value) b) }
+    ensures rule { OnOk result (GoesFree engine.old engine.new (λ page. chosen page call value)) }
+    ensures err { IfErr result (λ b. CutsFree engine.old engine.new (λ page. chosen page call value) b) }
     ensures light { OnOk result ((most : ℕ) → engine.old.call ≡ None → act_frame ≤ most → innermost_weight engine.old.readings.frames ≤ most → weight engine.new ≤ frames_weight engine.old.readings.frames + most + pending_weight engine.old.input.pending) }
     ensures call { engine.new.call ≡ engine.old.call }
     ensures column { engine.new.in_line ≡ engine.old.in_line }
@@ -73,10 +64,8 @@ pub fn choose(engine: &mut Engine, call: Call, value: Value) -> Result<(), Broke
 /// # Errors
 /// There is no room for a reading or for the conditional: the engine stands for the moment before.
 pub(crate) fn begin_conditional(engine: &mut Engine, call: Call, number: u16) -> Result<(), Broken>
-    ensures rule { OnOk result ((sizes : Sizes) (w : World) (book : Book) → Stands sizes engine.old book →
-        Went sizes (state_of engine.old book) engine.new w w (conditional_begun (page_of engine.old book) call number (plain_constant number)) 0) }
-    ensures err { IfErr result (λ b. (sizes : Sizes) (w : World) (book : Book) → Stands sizes engine.old book →
-        CutsIn sizes (state_of engine.old book) engine.new w w (conditional_begun (page_of engine.old book) call number (plain_constant number)) b) }
+    ensures rule { OnOk result (GoesFree engine.old engine.new (λ page. conditional_begun page call number (plain_constant number))) }
+    ensures err { IfErr result (λ b. CutsFree engine.old engine.new (λ page. conditional_begun page call number (plain_constant number)) b) }
     ensures light { OnOk result (engine.old.call ≡ None → innermost_weight engine.old.readings.frames ≤ act_weight → weight engine.new ≤ frames_weight engine.old.readings.frames + act_weight + pending_weight engine.old.input.pending) }
     ensures column { engine.new.in_line ≡ engine.old.in_line }
     ensures idle { engine.new.input.making ≡ engine.old.input.making }
@@ -117,10 +106,8 @@ pub(crate) fn meet_ender<S: Sink>(
 ) -> Result<Ruled, Broken>
     requires idle { engine.old.input.making ≡ None }
     requires uncalled { engine.old.call ≡ None }
-    ensures rule { IfOk result (λ ruled. (sizes : Sizes) (f : FilesTold) (book : Book) → Stands sizes engine.old book →
-        DoesOnward sizes (state_of engine.old book) engine.new book (world_of f (S.told out.old) engine.old) (world_of f (S.told out.new) engine.new) (ender_met (page_of engine.old book) token call ender) ruled) }
-    ensures err { IfErr result (λ b. (sizes : Sizes) (f : FilesTold) (book : Book) → Stands sizes engine.old book →
-        CutsIn sizes (state_of engine.old book) engine.new (world_of f (S.told out.old) engine.old) (world_of f (S.told out.new) engine.new) (ender_met (page_of engine.old book) token call ender) b) }
+    ensures rule { IfOk result (λ ruled. GoesOnward engine.old engine.new (S.told out.old) (S.told out.new) (λ page. ender_met page token call ender) ruled) }
+    ensures err { IfErr result (λ b. CutsOnward engine.old engine.new (S.told out.old) (S.told out.new) (λ page. ender_met page token call ender) b) }
     ensures halts { IfOk result (λ ruled. IsHalted ruled → SameFrames engine.old engine.new) }
     ensures light { OnOk result (innermost_weight engine.old.readings.frames ≤ act_weight → weight engine.new ≤ frames_weight engine.old.readings.frames + act_weight + pending_weight engine.old.input.pending) }
     ensures idle { OnOk result (engine.new.input.making ≡ None) }

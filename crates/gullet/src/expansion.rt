@@ -2,7 +2,6 @@
 // *The TeXbook*, chapter 20; *TeX: The Program*, part 25 (`get_x_token`, `expand`).
 ghost use Rattle.std.specs.Prelude.{◌≡◌, ◌<◌, ◌≤◌, ◌+◌, not, IfOk, IfErr, OnOk, MatchResult, List, None, false, true};
 ghost use Rattle.tex_defs.specs.declared.Sizes.{Sizes};
-ghost use Rattle.tex_defs.specs.Places.{World};
 ghost use Rattle.plain_tokens.specs.Pending.{pulled};
 ghost use Rattle.plain_readings.specs.Weights.{act_weight};
 ghost use Rattle.reading_frames.specs.Sees.{kind_of};
@@ -12,9 +11,10 @@ ghost use Rattle.plain_machine.specs.Plan.{Page, call_of as plain_call, expanded
 ghost use Rattle.world_io.specs.Told.{FilesTold};
 ghost use Rattle.input_state.specs.Reads.{gives_step};
 ghost use Rattle.engine_state.specs.Book.{Book};
+ghost use Rattle.engine_state.specs.Clauses.{GoesFree, CutsFree};
 ghost use Rattle.engine_state.specs.CutReadings.{CutsIn};
 ghost use Rattle.engine_state.specs.Stands.{Stands, SameFrames, SameReadings, state_of, page_of};
-ghost use Rattle.engine_state.specs.Rules.{world_of, onward_of, enters_of, Takes, Went, next_moves};
+ghost use Rattle.engine_state.specs.Rules.{world_of, onward_of, enters_of, Takes, next_moves};
 ghost use Rattle.engine_state.specs.Steps.{weight, pending_weight};
 ghost use Rattle.gullet.specs.Stepping.{IsLight, ExpandsTo, is_expansion, expands, job_moves, row_moves, wants_raw, ExpandsOnce, IsExpanded, IsStayed, EndsRun, changes, once_by, Expands, Steps, StepStepsIf, IsSkipped, IsKept, IsOver, ends_run};
 
@@ -171,10 +171,8 @@ fn expansion_of(seen: Seen) -> Expansion
 /// There is no room for the reading or for the name: the engine stands for the moment before.
 fn put_job(engine: &mut Engine, opening: Opening) -> Result<(), Broken>
     requires idle { engine.old.input.making ≡ None }
-    ensures rule { OnOk result ((sizes : Sizes) (w : World) (book : Book) → Stands sizes engine.old book →
-        Went sizes (state_of engine.old book) engine.new w w (job_moves (page_of engine.old book) (kind_of opening)) 0) }
-    ensures err { IfErr result (λ b. (sizes : Sizes) (w : World) (book : Book) → Stands sizes engine.old book →
-        CutsIn sizes (state_of engine.old book) engine.new w w (job_moves (page_of engine.old book) (kind_of opening)) b) }
+    ensures rule { OnOk result (GoesFree engine.old engine.new (λ page. job_moves page (kind_of opening))) }
+    ensures err { IfErr result (λ b. CutsFree engine.old engine.new (λ page. job_moves page (kind_of opening)) b) }
     ensures frames { OnOk result (engine.new.readings.frames ≡ engine.old.readings.frames) }
     ensures call { OnOk result (engine.new.call ≡ engine.old.call) }
     ensures pending { OnOk result (pending_weight engine.new.input.pending ≡ pending_weight engine.old.input.pending) }
@@ -194,10 +192,8 @@ fn put_job(engine: &mut Engine, opening: Opening) -> Result<(), Broken>
 /// There is no room for the reading, or for what is put back: the engine stands for the moment before.
 fn begin_input(engine: &mut Engine, token: Token, call: Call) -> Result<(), Broken>
     requires idle { engine.old.input.making ≡ None }
-    ensures rule { OnOk result ((sizes : Sizes) (w : World) (book : Book) → Stands sizes engine.old book →
-        Went sizes (state_of engine.old book) engine.new w w (input_met (page_of engine.old book) token call) 0) }
-    ensures err { IfErr result (λ b. (sizes : Sizes) (w : World) (book : Book) → Stands sizes engine.old book →
-        CutsIn sizes (state_of engine.old book) engine.new w w (input_met (page_of engine.old book) token call) b) }
+    ensures rule { OnOk result (GoesFree engine.old engine.new (λ page. input_met page token call)) }
+    ensures err { IfErr result (λ b. CutsFree engine.old engine.new (λ page. input_met page token call) b) }
     ensures light { OnOk result (engine.old.call ≡ None → innermost_weight engine.old.readings.frames ≤ act_weight → weight engine.new ≤ frames_weight engine.old.readings.frames + act_weight + pending_weight engine.old.input.pending) }
     ensures call { OnOk result (engine.new.call ≡ engine.old.call) }
     ensures column { engine.new.in_line ≡ engine.old.in_line }

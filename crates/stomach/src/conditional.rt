@@ -1,27 +1,24 @@
 // Conditionals go on: by the values of their tests, and behind the text that was skipped.
 // *The TeXbook*, chapter 20; *TeX: The Program*, part 28 (`conditional`).
-ghost use Rattle.std.specs.Prelude.{◌≡◌, ◌<◌, ◌≤◌, ◌+◌, ℕ, List, ◌∷◌, [], IfOk, IfErr, OnOk, None, true, false};
-ghost use Rattle.tex_syntax.specs.declared.words.Outcome.TheVariants.{AtFatal};
-ghost use Rattle.tex_defs.specs.declared.Fatal.TheVariants.{HundredErrors};
+ghost use Rattle.std.specs.Prelude.{◌≡◌, ◌<◌, ◌≤◌, ◌+◌, ℕ, List, [], IfOk, IfErr, OnOk, None, true, false};
 ghost use Rattle.tex_defs.specs.Places.{World};
 ghost use Rattle.tex_defs.specs.declared.Sizes.{Sizes};
-ghost use Rattle.plain_readings.specs.Readings.{Reading};
 ghost use Rattle.plain_readings.specs.Weights.{act_frame};
 ghost use Rattle.rows.specs.Readings.{Ask};
 ghost use Rattle.rows.specs.declared.command.Effect.TheVariants as effects;
 ghost use Rattle.reading_frames.specs.Stack.{asks_in};
 ghost use Rattle.reading_frames.specs.Weights.{frames_weight, innermost_weight, IsEnd};
 ghost use Rattle.plain_machine.specs.States.{Move};
-ghost use Rattle.plain_machine.specs.Plan.{acts, ended_by, passed, reached, reports_room};
+ghost use Rattle.plain_machine.specs.Plan.{acts, ended_by, passed, reached};
 ghost use Rattle.plain_machine.specs.Does.{Did};
 ghost use Rattle.world_io.specs.Told.{FilesTold};
-ghost use Rattle.engine_state.specs.Book.{Book, with_work};
-ghost use Rattle.engine_state.specs.CutReadings.{CutsIn};
+ghost use Rattle.engine_state.specs.Book.{Book};
+ghost use Rattle.engine_state.specs.Clauses.{Still, EndsAtHundredth, CutsReport, GoesAtReading, CutsAtReading, GoesOnward, CutsOnward};
 ghost use Rattle.engine_state.specs.Stands.{Stands, SameFrames, state_of, page_of};
-ghost use Rattle.engine_state.specs.Rules.{world_of, Cuts, DoesOnward, Halts, Went};
+ghost use Rattle.engine_state.specs.Rules.{world_of};
 ghost use Rattle.engine_state.specs.Steps.{pending_weight, weight, IsFree, IsHalted, IsStep};
+ghost use Rattle.stomach.specs.Halting.{DoesRuleAtReading, CutsRuleAtReading};
 ghost use Rattle.stomach.specs.Skipping.{Passes};
-ghost use Rattle.stomach.specs.Halting.{DoesRuleIn};
 
 use crate::effects::free;
 use conditionals::{Aim, Choice, End, Ender, Passing, Step, Value};
@@ -42,10 +39,8 @@ const OR: u16 = 84;
 pub(crate) fn choose_behind(engine: &mut Engine, call: Call, value: Value) -> Result<(), Broken>
     requires idle { engine.old.input.making ≡ None }
     requires uncalled { engine.old.call ≡ None }
-    ensures rule { OnOk result ((sizes : Sizes) (w : World) (book : Book) (r : Reading) (rs : List Reading) → Stands sizes engine.old (with_work (r ∷ rs) book) →
-        Went sizes (state_of engine.old (with_work (r ∷ rs) book)) engine.new w w (acts (page_of engine.old book) call (effects.Choose value)) 0) }
-    ensures err { IfErr result (λ b. (sizes : Sizes) (w : World) (book : Book) (r : Reading) (rs : List Reading) → Stands sizes engine.old (with_work (r ∷ rs) book) →
-        CutsIn sizes (state_of engine.old (with_work (r ∷ rs) book)) engine.new w w (acts (page_of engine.old book) call (effects.Choose value)) b) }
+    ensures rule { OnOk result (GoesAtReading engine.old engine.new (λ page _. acts page call (effects.Choose value))) }
+    ensures err { IfErr result (λ b. CutsAtReading engine.old engine.new (λ page _. acts page call (effects.Choose value)) b) }
     ensures light { OnOk result ((a : Ask) → asks_in engine.old.readings.frames [] ≡ Some a → IsEnd a → weight engine.new < weight engine.old) }
     ensures column { engine.new.in_line ≡ engine.old.in_line }
     ensures idle { OnOk result (engine.new.input.making ≡ None) }
@@ -66,10 +61,8 @@ pub(crate) fn compare_behind(
 ) -> Result<(), Broken>
     requires idle { engine.old.input.making ≡ None }
     requires uncalled { engine.old.call ≡ None }
-    ensures rule { OnOk result ((sizes : Sizes) (w : World) (book : Book) (r : Reading) (rs : List Reading) → Stands sizes engine.old (with_work (r ∷ rs) book) →
-        Went sizes (state_of engine.old (with_work (r ∷ rs) book)) engine.new w w (acts (page_of engine.old book) call (effects.Compare x y)) 0) }
-    ensures err { IfErr result (λ b. (sizes : Sizes) (w : World) (book : Book) (r : Reading) (rs : List Reading) → Stands sizes engine.old (with_work (r ∷ rs) book) →
-        CutsIn sizes (state_of engine.old (with_work (r ∷ rs) book)) engine.new w w (acts (page_of engine.old book) call (effects.Compare x y)) b) }
+    ensures rule { OnOk result (GoesAtReading engine.old engine.new (λ page _. acts page call (effects.Compare x y))) }
+    ensures err { IfErr result (λ b. CutsAtReading engine.old engine.new (λ page _. acts page call (effects.Compare x y)) b) }
     ensures light { OnOk result ((a : Ask) → asks_in engine.old.readings.frames [] ≡ Some a → IsEnd a → weight engine.new < weight engine.old) }
     ensures column { engine.new.in_line ≡ engine.old.in_line }
     ensures idle { OnOk result (engine.new.input.making ≡ None) }
@@ -85,11 +78,9 @@ pub(crate) fn compare_behind(
 fn pass<S: Sink>(engine: &mut Engine, out: &mut S, passing: Passing) -> Result<bool, Broken>
     ensures on { IfOk result (λ on. on ≡ true → (sizes : Sizes) (f : FilesTold) (book : Book) (rest : List Move) →
         Passes sizes (state_of engine.old book) (state_of engine.new book) (world_of f (S.told out.old) engine.old) (world_of f (S.told out.new) engine.new) (page_of engine.old book) passing rest) }
-    ensures last { IfOk result (λ on. on ≡ false → (sizes : Sizes) (f : FilesTold) (book : Book) (rest : List Move) →
-        Halts sizes (state_of engine.old book) engine.new book (world_of f (S.told out.old) engine.old) (world_of f (S.told out.new) engine.new) (passed (page_of engine.old book) passing rest) (AtFatal HundredErrors) 0) }
-    ensures err { IfErr result (λ b. (sizes : Sizes) (f : FilesTold) (book : Book) (rest : List Move) → engine.old.reports ≤ reports_room →
-        Cuts sizes (state_of engine.old book) engine.new book (world_of f (S.told out.old) engine.old) (world_of f (S.told out.new) engine.new) (passed (page_of engine.old book) passing rest) b) }
-    ensures stands { IfOk result (λ on. on ≡ true → (sizes : Sizes) (book : Book) → Stands sizes engine.old book → Stands sizes engine.new book) }
+    ensures last { IfOk result (λ on. on ≡ false → EndsAtHundredth engine.old engine.new (S.told out.old) (S.told out.new) (λ page rest. passed page passing rest)) }
+    ensures err { IfErr result (λ b. CutsReport engine.old engine.new (S.told out.old) (S.told out.new) (λ page rest. passed page passing rest) b) }
+    ensures stands { IfOk result (λ on. on ≡ true → Still Stands engine.old engine.new) }
     ensures frames { SameFrames engine.old engine.new }
     ensures input { engine.new.input ≡ engine.old.input }
 {
@@ -106,7 +97,7 @@ fn pass<S: Sink>(engine: &mut Engine, out: &mut S, passing: Passing) -> Result<b
 /// No more text is skipped.
 fn end_skipping(engine: &mut Engine, end: End)
     ensures did { (sizes : Sizes) (w : World) (book : Book) → Did sizes (state_of engine.old book) (state_of engine.new book) w w (ended_by end) }
-    ensures stands { (sizes : Sizes) (book : Book) → Stands sizes engine.old book → Stands sizes engine.new book }
+    ensures stands { Still Stands engine.old engine.new }
     ensures only { engine.new ≡ record engine.old { conditionals = engine.new.conditionals } }
 {
     match end {
@@ -127,10 +118,8 @@ fn follow<S: Sink>(
 ) -> Result<Ruled, Broken>
     requires idle { engine.old.input.making ≡ None }
     requires uncalled { engine.old.call ≡ None }
-    ensures rule { IfOk result (λ ruled. (sizes : Sizes) (f : FilesTold) (book : Book) → Stands sizes engine.old book →
-        DoesOnward sizes (state_of engine.old book) engine.new book (world_of f (S.told out.old) engine.old) (world_of f (S.told out.new) engine.new) (reached (page_of engine.old book) call step) ruled) }
-    ensures err { IfErr result (λ b. (sizes : Sizes) (f : FilesTold) (book : Book) → Stands sizes engine.old book →
-        CutsIn sizes (state_of engine.old book) engine.new (world_of f (S.told out.old) engine.old) (world_of f (S.told out.new) engine.new) (reached (page_of engine.old book) call step) b) }
+    ensures rule { IfOk result (λ ruled. GoesOnward engine.old engine.new (S.told out.old) (S.told out.new) (λ page. reached page call step) ruled) }
+    ensures err { IfErr result (λ b. CutsOnward engine.old engine.new (S.told out.old) (S.told out.new) (λ page. reached page call step) b) }
     ensures halts { IfOk result (λ ruled. IsHalted ruled → SameFrames engine.old engine.new) }
     ensures on { IfOk result (λ ruled. IsFree ruled → ⊥) }
     ensures light { OnOk result ((most : ℕ) → act_frame ≤ most → innermost_weight engine.old.readings.frames ≤ most → weight engine.new ≤ frames_weight engine.old.readings.frames + most + pending_weight engine.old.input.pending) }
@@ -165,10 +154,8 @@ pub(crate) fn reach<S: Sink>(
 ) -> Result<Ruled, Broken>
     requires idle { engine.old.input.making ≡ None }
     requires uncalled { engine.old.call ≡ None }
-    ensures rule { IfOk result (λ ruled. (sizes : Sizes) (f : FilesTold) (book : Book) (r : Reading) (rs : List Reading) → Stands sizes engine.old (with_work (r ∷ rs) book) →
-        DoesRuleIn sizes (state_of engine.old (with_work (r ∷ rs) book)) engine.new (world_of f (S.told out.old) engine.old) (world_of f (S.told out.new) engine.new) (acts (page_of engine.old book) call (effects.Reach aim ender)) ruled) }
-    ensures err { IfErr result (λ b. (sizes : Sizes) (f : FilesTold) (book : Book) (r : Reading) (rs : List Reading) → Stands sizes engine.old (with_work (r ∷ rs) book) →
-        CutsIn sizes (state_of engine.old (with_work (r ∷ rs) book)) engine.new (world_of f (S.told out.old) engine.old) (world_of f (S.told out.new) engine.new) (acts (page_of engine.old book) call (effects.Reach aim ender)) b) }
+    ensures rule { IfOk result (λ ruled. DoesRuleAtReading engine.old engine.new (S.told out.old) (S.told out.new) (λ page _. acts page call (effects.Reach aim ender)) ruled) }
+    ensures err { IfErr result (λ b. CutsRuleAtReading engine.old engine.new (S.told out.old) (S.told out.new) (λ page _. acts page call (effects.Reach aim ender)) b) }
     ensures step { IfOk result (λ ruled. IsStep ruled → ⊥) }
     ensures light { IfOk result (λ ruled. IsFree ruled → (a : Ask) → asks_in engine.old.readings.frames [] ≡ Some a → IsEnd a → weight engine.new < weight engine.old) }
     ensures idle { OnOk result (engine.new.input.making ≡ None) }

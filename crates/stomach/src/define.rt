@@ -10,6 +10,7 @@ ghost use Rattle.plain_machine.specs.States.{Defined};
 ghost use Rattle.plain_machine.specs.Plan.{is_global as plain_global, macro_defined};
 ghost use Rattle.engine_state.specs.declared.broken.Broken.TheVariants as broken;
 ghost use Rattle.engine_state.specs.Book.{Book, with_work};
+ghost use Rattle.engine_state.specs.Clauses.{CutsAtReading};
 ghost use Rattle.engine_state.specs.CutReadings.{CutsIn};
 ghost use Rattle.engine_state.specs.Stands.{Stands, state_of, page_of};
 ghost use Rattle.engine_state.specs.Rules.{Went};
@@ -36,8 +37,7 @@ fn pass_list(engine: &mut Engine, call: Call, name: Name) -> Result<(), Full>
     requires token { top_list engine.old.input.builds ≢ [] }
     ensures rule { OnOk result ((sizes : Sizes) (w : World) (book : Book) (r : Reading) (rs : List Reading) → Stands sizes engine.old (with_work (r ∷ rs) book) → innermost_count engine.old.readings.frames ≡ 1 →
         Went sizes (state_of engine.old (with_work (r ∷ rs) book)) engine.new w w (Defined (plain_global (page_of engine.old book) call) name call.long call.outer (top_list engine.old.input.builds) ∷ []) 0) }
-    ensures err { IfErr result (λ full. (sizes : Sizes) (w : World) (book : Book) (r : Reading) (rs : List Reading) → Stands sizes engine.old (with_work (r ∷ rs) book) →
-        CutsIn sizes (state_of engine.old (with_work (r ∷ rs) book)) engine.new w w (Defined (plain_global (page_of engine.old book) call) name call.long call.outer (top_list engine.old.input.builds) ∷ []) (broken.Full full)) }
+    ensures err { IfErr result (λ full. CutsAtReading engine.old engine.new (λ page _. Defined (plain_global page call) name call.long call.outer (top_list engine.old.input.builds) ∷ []) (broken.Full full)) }
     ensures light { OnOk result (engine.old.call ≡ None → asks_in engine.old.readings.frames [] ≡ Some (Defines call name []) → weight engine.new < weight engine.old) }
     ensures call { engine.new.call ≡ engine.old.call }
     ensures after { engine.new.after ≡ engine.old.after }

@@ -1,6 +1,5 @@
 // What a command does, and its reading ends.
 ghost use Rattle.std.specs.Prelude.{◌≡◌, ◌<◌, List, [], ◌∷◌, ◌++◌, IfOk, IfErr, OnOk, MatchBool, Some, None};
-ghost use Rattle.tex_defs.specs.Places.{World};
 ghost use Rattle.tex_defs.specs.declared.Sizes.{Sizes};
 ghost use Rattle.plain_tokens.specs.Meanings.{meaning_to_let};
 ghost use Rattle.equivalents.specs.declared.values.Loc.TheVariants as loc;
@@ -19,6 +18,7 @@ ghost use Rattle.plain_machine.specs.Plan.{acts, acts_above, computed_to, is_glo
 ghost use Rattle.plain_machine.specs.Does.{Did};
 ghost use Rattle.world_io.specs.Told.{FilesTold};
 ghost use Rattle.engine_state.specs.Book.{Book, with_work};
+ghost use Rattle.engine_state.specs.Clauses.{Still, MakesMoves, CutsMoves};
 ghost use Rattle.engine_state.specs.Making.{IsInFront};
 ghost use Rattle.engine_state.specs.CutReadings.{CutsIn};
 ghost use Rattle.engine_state.specs.Stands.{Stands, Counts, IsSound, SameFrames, state_of, page_of};
@@ -26,7 +26,7 @@ ghost use Rattle.engine_state.specs.Rules.{world_of, Cuts, Went};
 ghost use Rattle.engine_state.specs.Steps.{asked, pending_weight, freed, weight, IsFree, IsStep};
 ghost use Rattle.rows.specs.Suiting.{IsVariable, IsSmall, IsThere};
 ghost use Rattle.stomach.specs.Effects.{put_by, done_alone, assignment_of, IsAlone};
-ghost use Rattle.stomach.specs.Halting.{DoesRuleIn};
+ghost use Rattle.stomach.specs.Halting.{DoesRuleIn, DoesRuleAtReading, CutsRuleAtReading};
 
 use crate::conditional::{choose_behind, compare_behind, reach};
 use crate::lists::{give_list, share_list};
@@ -53,8 +53,8 @@ fn marked(token: Token) -> Token
 /// Puts in front the text of what stands at a location, if it is there. *TeX: The Program*, part 27 (`the_toks`).
 fn put_value(engine: &mut Engine, loc: Loc) -> Result<(), Broken>
     requires idle { engine.old.input.making ≡ None }
-    ensures did { OnOk result (IsThere loc → (sizes : Sizes) (w : World) (book : Book) → Counts sizes engine.old book → Did sizes (state_of engine.old book) (state_of engine.new book) w w (put_by (page_of engine.old book) (effects.MakeValue loc))) }
-    ensures err { IfErr result (λ b. (sizes : Sizes) (w : World) (book : Book) (more : List Move) → Counts sizes engine.old book → Cuts sizes (state_of engine.old book) engine.new book w w (put_by (page_of engine.old book) (effects.MakeValue loc) ++ more) b) }
+    ensures did { OnOk result (IsThere loc → MakesMoves Counts engine.old engine.new (λ page. put_by page (effects.MakeValue loc))) }
+    ensures err { IfErr result (λ b. CutsMoves Counts engine.old engine.new (λ page. put_by page (effects.MakeValue loc)) b) }
     ensures front { IsInFront engine.old engine.new }
     ensures idle { OnOk result (engine.new.input.making ≡ None) }
 {
@@ -67,8 +67,8 @@ fn put_value(engine: &mut Engine, loc: Loc) -> Result<(), Broken>
 /// Puts in front what a command gives back or makes.
 fn put_effect(engine: &mut Engine, effect: Effect) -> Result<(), Broken>
     requires idle { engine.old.input.making ≡ None }
-    ensures did { OnOk result (IsSmall effect → (sizes : Sizes) (w : World) (book : Book) → Counts sizes engine.old book → Did sizes (state_of engine.old book) (state_of engine.new book) w w (put_by (page_of engine.old book) effect)) }
-    ensures err { IfErr result (λ b. (sizes : Sizes) (w : World) (book : Book) (more : List Move) → Counts sizes engine.old book → Cuts sizes (state_of engine.old book) engine.new book w w (put_by (page_of engine.old book) effect ++ more) b) }
+    ensures did { OnOk result (IsSmall effect → MakesMoves Counts engine.old engine.new (λ page. put_by page effect)) }
+    ensures err { IfErr result (λ b. CutsMoves Counts engine.old engine.new (λ page. put_by page effect) b) }
     ensures front { IsInFront engine.old engine.new }
     ensures idle { OnOk result (engine.new.input.making ≡ None) }
 {
@@ -102,9 +102,9 @@ pub(crate) fn is_global(engine: &Engine, call: Call) -> bool
 /// # Errors
 /// The save stack is full; nothing has changed.
 fn assign(engine: &mut Engine, name: Name, x: Seen, global: bool) -> Result<(), Broken>
-    ensures did { OnOk result ((sizes : Sizes) (w : World) (book : Book) → Stands sizes engine.old book → Did sizes (state_of engine.old book) (state_of engine.new book) w w (Assigned global name (meaning_to_let (page_of engine.old book).now.meanings x) ∷ [])) }
-    ensures err { IfErr result (λ b. (sizes : Sizes) (w : World) (book : Book) (more : List Move) → Stands sizes engine.old book → Cuts sizes (state_of engine.old book) engine.new book w w (Assigned global name (meaning_to_let (page_of engine.old book).now.meanings x) ∷ more) b) }
-    ensures stands { OnOk result ((sizes : Sizes) (book : Book) → Stands sizes engine.old book → Stands sizes engine.new book) }
+    ensures did { OnOk result (MakesMoves Stands engine.old engine.new (λ page. Assigned global name (meaning_to_let page.now.meanings x) ∷ [])) }
+    ensures err { IfErr result (λ b. CutsMoves Stands engine.old engine.new (λ page. Assigned global name (meaning_to_let page.now.meanings x) ∷ []) b) }
+    ensures stands { OnOk result (Still Stands engine.old engine.new) }
     ensures frames { SameFrames engine.old engine.new }
     ensures only { engine.new ≡ record engine.old { input = record engine.old.input { groups = engine.new.input.groups; lists = engine.new.input.lists } } }
 {
@@ -125,9 +125,9 @@ pub(crate) fn give_meaning(
     meaning: Meaning<()>,
     global: bool,
 ) -> Result<(), Broken>
-    ensures did { OnOk result ((sizes : Sizes) (w : World) (book : Book) → Stands sizes engine.old book → Did sizes (state_of engine.old book) (state_of engine.new book) w w (Assigned global name (without_list meaning) ∷ [])) }
-    ensures err { IfErr result (λ b. (sizes : Sizes) (w : World) (book : Book) (more : List Move) → Stands sizes engine.old book → Cuts sizes (state_of engine.old book) engine.new book w w (Assigned global name (without_list meaning) ∷ more) b) }
-    ensures stands { OnOk result ((sizes : Sizes) (book : Book) → Stands sizes engine.old book → Stands sizes engine.new book) }
+    ensures did { OnOk result (MakesMoves Stands engine.old engine.new (λ _. Assigned global name (without_list meaning) ∷ [])) }
+    ensures err { IfErr result (λ b. CutsMoves Stands engine.old engine.new (λ _. Assigned global name (without_list meaning) ∷ []) b) }
+    ensures stands { OnOk result (Still Stands engine.old engine.new) }
     ensures frames { SameFrames engine.old engine.new }
     ensures only { engine.new ≡ record engine.old { input = record engine.old.input { groups = engine.new.input.groups; lists = engine.new.input.lists } } }
 {
@@ -161,9 +161,9 @@ fn assign_behind(
     global: bool,
 ) -> Result<(), Broken>
     requires idle { engine.old.input.making ≡ None }
-    ensures did { OnOk result ((sizes : Sizes) (w : World) (book : Book) → Stands sizes engine.old book → Did sizes (state_of engine.old book) (state_of engine.new book) w w (put_one y.token ++ (put_one x.token ++ Assigned global name (meaning_to_let (page_of engine.old book).now.meanings y) ∷ []))) }
-    ensures err { IfErr result (λ b. (sizes : Sizes) (w : World) (book : Book) (more : List Move) → Stands sizes engine.old book → Cuts sizes (state_of engine.old book) engine.new book w w ((put_one y.token ++ (put_one x.token ++ Assigned global name (meaning_to_let (page_of engine.old book).now.meanings y) ∷ [])) ++ more) b) }
-    ensures stands { OnOk result ((sizes : Sizes) (book : Book) → Stands sizes engine.old book → Stands sizes engine.new book) }
+    ensures did { OnOk result (MakesMoves Stands engine.old engine.new (λ page. put_one y.token ++ (put_one x.token ++ Assigned global name (meaning_to_let page.now.meanings y) ∷ []))) }
+    ensures err { IfErr result (λ b. CutsMoves Stands engine.old engine.new (λ page. put_one y.token ++ (put_one x.token ++ Assigned global name (meaning_to_let page.now.meanings y) ∷ [])) b) }
+    ensures stands { OnOk result (Still Stands engine.old engine.new) }
     ensures frames { SameFrames engine.old engine.new }
     ensures column { engine.new.in_line ≡ engine.old.in_line }
     ensures after { engine.new.after ≡ engine.old.after }
@@ -205,9 +205,9 @@ pub(crate) fn set_number(
     value: i32,
     global: bool,
 ) -> Result<(), Broken>
-    ensures did { OnOk result (IsThere loc → Suits loc (val.Number value) → (sizes : Sizes) (w : World) (book : Book) → Stands sizes engine.old book → Did sizes (state_of engine.old book) (state_of engine.new book) w w (Set global loc (val.Number value) ∷ [])) }
-    ensures err { IfErr result (λ b. (sizes : Sizes) (w : World) (book : Book) (more : List Move) → Stands sizes engine.old book → Cuts sizes (state_of engine.old book) engine.new book w w (Set global loc (val.Number value) ∷ more) b) }
-    ensures stands { OnOk result ((sizes : Sizes) (book : Book) → Stands sizes engine.old book → Stands sizes engine.new book) }
+    ensures did { OnOk result (IsThere loc → Suits loc (val.Number value) → MakesMoves Stands engine.old engine.new (λ _. Set global loc (val.Number value) ∷ [])) }
+    ensures err { IfErr result (λ b. CutsMoves Stands engine.old engine.new (λ _. Set global loc (val.Number value) ∷ []) b) }
+    ensures stands { OnOk result (Still Stands engine.old engine.new) }
     ensures frames { SameFrames engine.old engine.new }
     ensures only { engine.new ≡ record engine.old { input = record engine.old.input { groups = engine.new.input.groups; lists = engine.new.input.lists } } }
 {
@@ -236,9 +236,9 @@ fn takes_glue(loc: Loc) -> bool
 /// # Errors
 /// The save stack is full; nothing has changed.
 fn set_glue(engine: &mut Engine, loc: Loc, glue: Glue, global: bool) -> Result<(), Broken>
-    ensures did { OnOk result (IsThere loc → Suits loc (val.Skip glue) → (sizes : Sizes) (w : World) (book : Book) → Stands sizes engine.old book → Did sizes (state_of engine.old book) (state_of engine.new book) w w (Set global loc (val.Skip glue) ∷ [])) }
-    ensures err { IfErr result (λ b. (sizes : Sizes) (w : World) (book : Book) (more : List Move) → Stands sizes engine.old book → Cuts sizes (state_of engine.old book) engine.new book w w (Set global loc (val.Skip glue) ∷ more) b) }
-    ensures stands { OnOk result ((sizes : Sizes) (book : Book) → Stands sizes engine.old book → Stands sizes engine.new book) }
+    ensures did { OnOk result (IsThere loc → Suits loc (val.Skip glue) → MakesMoves Stands engine.old engine.new (λ _. Set global loc (val.Skip glue) ∷ [])) }
+    ensures err { IfErr result (λ b. CutsMoves Stands engine.old engine.new (λ _. Set global loc (val.Skip glue) ∷ []) b) }
+    ensures stands { OnOk result (Still Stands engine.old engine.new) }
     ensures frames { SameFrames engine.old engine.new }
     ensures only { engine.new ≡ record engine.old { input = record engine.old.input { groups = engine.new.input.groups; lists = engine.new.input.lists } } }
 {
@@ -303,7 +303,7 @@ fn act_alone<S: Sink>(
         Did sizes (state_of engine.old book) (state_of engine.new book) (world_of f (S.told out.old) engine.old) (world_of f (S.told out.new) engine.new) (done_alone (page_of engine.old book) call effect)) }
     ensures err { IfErr result (λ b. IsSmall effect → (sizes : Sizes) (f : FilesTold) (book : Book) (more : List Move) → Stands sizes engine.old book →
         Cuts sizes (state_of engine.old book) engine.new book (world_of f (S.told out.old) engine.old) (world_of f (S.told out.new) engine.new) (done_alone (page_of engine.old book) call effect ++ more) b) }
-    ensures stands { OnOk result ((sizes : Sizes) (book : Book) → Stands sizes engine.old book → Stands sizes engine.new book) }
+    ensures stands { OnOk result (Still Stands engine.old engine.new) }
     ensures frames { SameFrames engine.old engine.new }
     ensures light { OnOk result (pending_weight engine.new.input.pending ≡ pending_weight engine.old.input.pending) }
     ensures idle { OnOk result (engine.new.input.making ≡ None) }
@@ -374,10 +374,8 @@ fn obey_behind<S: Sink>(
 ) -> Result<Ruled, Broken>
     requires idle { engine.old.input.making ≡ None }
     requires uncalled { engine.old.call ≡ None }
-    ensures rule { IfOk result (λ ruled. (sizes : Sizes) (f : FilesTold) (book : Book) (r : Reading) (rs : List Reading) → Stands sizes engine.old (with_work (r ∷ rs) book) →
-        DoesRuleIn sizes (state_of engine.old (with_work (r ∷ rs) book)) engine.new (world_of f (S.told out.old) engine.old) (world_of f (S.told out.new) engine.new) (acts (page_of engine.old book) call (effects.Obey x)) ruled) }
-    ensures err { IfErr result (λ b. (sizes : Sizes) (f : FilesTold) (book : Book) (r : Reading) (rs : List Reading) → Stands sizes engine.old (with_work (r ∷ rs) book) →
-        CutsIn sizes (state_of engine.old (with_work (r ∷ rs) book)) engine.new (world_of f (S.told out.old) engine.old) (world_of f (S.told out.new) engine.new) (acts (page_of engine.old book) call (effects.Obey x)) b) }
+    ensures rule { IfOk result (λ ruled. DoesRuleAtReading engine.old engine.new (S.told out.old) (S.told out.new) (λ page _. acts page call (effects.Obey x)) ruled) }
+    ensures err { IfErr result (λ b. CutsRuleAtReading engine.old engine.new (S.told out.old) (S.told out.new) (λ page _. acts page call (effects.Obey x)) b) }
     ensures step { IfOk result (λ ruled. IsStep ruled → ⊥) }
     ensures light { IfOk result (λ ruled. IsFree ruled → asks_in engine.old.readings.frames [] ≡ Some (Acts call (effects.Obey x)) → weight engine.new < weight engine.old) }
     ensures idle { OnOk result (engine.new.input.making ≡ None) }
@@ -402,10 +400,8 @@ fn expand_behind<S: Sink>(
 ) -> Result<Ruled, Broken>
     requires idle { engine.old.input.making ≡ None }
     requires uncalled { engine.old.call ≡ None }
-    ensures rule { IfOk result (λ ruled. (sizes : Sizes) (f : FilesTold) (book : Book) (r : Reading) (rs : List Reading) → Stands sizes engine.old (with_work (r ∷ rs) book) →
-        DoesRuleIn sizes (state_of engine.old (with_work (r ∷ rs) book)) engine.new (world_of f (S.told out.old) engine.old) (world_of f (S.told out.new) engine.new) (acts (page_of engine.old book) call (effects.ExpandBehind x y)) ruled) }
-    ensures err { IfErr result (λ b. (sizes : Sizes) (f : FilesTold) (book : Book) (r : Reading) (rs : List Reading) → Stands sizes engine.old (with_work (r ∷ rs) book) →
-        CutsIn sizes (state_of engine.old (with_work (r ∷ rs) book)) engine.new (world_of f (S.told out.old) engine.old) (world_of f (S.told out.new) engine.new) (acts (page_of engine.old book) call (effects.ExpandBehind x y)) b) }
+    ensures rule { IfOk result (λ ruled. DoesRuleAtReading engine.old engine.new (S.told out.old) (S.told out.new) (λ page _. acts page call (effects.ExpandBehind x y)) ruled) }
+    ensures err { IfErr result (λ b. CutsRuleAtReading engine.old engine.new (S.told out.old) (S.told out.new) (λ page _. acts page call (effects.ExpandBehind x y)) b) }
     ensures step { IfOk result (λ ruled. IsStep ruled → ⊥) }
     ensures light { IfOk result (λ ruled. IsFree ruled → asks_in engine.old.readings.frames [] ≡ Some (Acts call (effects.ExpandBehind x y)) → weight engine.new < weight engine.old) }
     ensures idle { OnOk result (engine.new.input.making ≡ None) }
@@ -437,8 +433,7 @@ fn end_alone<S: Sink>(
     requires uncalled { engine.old.call ≡ None }
     ensures rule { OnOk result (IsAlone effect → IsSmall effect → (sizes : Sizes) (f : FilesTold) (book : Book) (r : Reading) (rs : List Reading) → Stands sizes engine.old (with_work (r ∷ rs) book) →
         Went sizes (state_of engine.old (with_work (r ∷ rs) book)) engine.new (world_of f (S.told out.old) engine.old) (world_of f (S.told out.new) engine.new) (acts (page_of engine.old book) call effect) 0) }
-    ensures err { IfErr result (λ b. IsAlone effect → IsSmall effect → (sizes : Sizes) (f : FilesTold) (book : Book) (r : Reading) (rs : List Reading) → Stands sizes engine.old (with_work (r ∷ rs) book) →
-        CutsIn sizes (state_of engine.old (with_work (r ∷ rs) book)) engine.new (world_of f (S.told out.old) engine.old) (world_of f (S.told out.new) engine.new) (acts (page_of engine.old book) call effect) b) }
+    ensures err { IfErr result (λ b. IsAlone effect → IsSmall effect → CutsRuleAtReading engine.old engine.new (S.told out.old) (S.told out.new) (λ page _. acts page call effect) b) }
     ensures light { OnOk result ((a : Ask) → asks_in engine.old.readings.frames [] ≡ Some a → IsEnd a → weight engine.new < weight engine.old) }
     ensures idle { OnOk result (engine.new.input.making ≡ None) }
 {
@@ -483,10 +478,8 @@ fn compute<S: Sink>(
 ) -> Result<Ruled, Broken>
     requires idle { engine.old.input.making ≡ None }
     requires uncalled { engine.old.call ≡ None }
-    ensures rule { IfOk result (λ ruled. IsVariable loc → (sizes : Sizes) (f : FilesTold) (book : Book) (r : Reading) (rs : List Reading) → Stands sizes engine.old (with_work (r ∷ rs) book) →
-        DoesRuleIn sizes (state_of engine.old (with_work (r ∷ rs) book)) engine.new (world_of f (S.told out.old) engine.old) (world_of f (S.told out.new) engine.new) (acts (page_of engine.old book) call (effects.Compute operation loc datum)) ruled) }
-    ensures err { IfErr result (λ b. IsVariable loc → (sizes : Sizes) (f : FilesTold) (book : Book) (r : Reading) (rs : List Reading) → Stands sizes engine.old (with_work (r ∷ rs) book) →
-        CutsIn sizes (state_of engine.old (with_work (r ∷ rs) book)) engine.new (world_of f (S.told out.old) engine.old) (world_of f (S.told out.new) engine.new) (acts (page_of engine.old book) call (effects.Compute operation loc datum)) b) }
+    ensures rule { IfOk result (λ ruled. IsVariable loc → DoesRuleAtReading engine.old engine.new (S.told out.old) (S.told out.new) (λ page _. acts page call (effects.Compute operation loc datum)) ruled) }
+    ensures err { IfErr result (λ b. IsVariable loc → CutsRuleAtReading engine.old engine.new (S.told out.old) (S.told out.new) (λ page _. acts page call (effects.Compute operation loc datum)) b) }
     ensures step { IfOk result (λ ruled. IsStep ruled → ⊥) }
     ensures light { IfOk result (λ ruled. IsFree ruled → (a : Ask) → asks_in engine.old.readings.frames [] ≡ Some a → IsEnd a → weight engine.new < weight engine.old) }
     ensures idle { OnOk result (engine.new.input.making ≡ None) }

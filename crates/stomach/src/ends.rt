@@ -11,13 +11,12 @@ ghost use Rattle.reading_frames.specs.Stack.{asks_in};
 ghost use Rattle.reading_frames.specs.Weights.{IsReported};
 ghost use Rattle.plain_machine.specs.States.{Assigned, MagnificationSet};
 ghost use Rattle.plain_machine.specs.Plan.{inner_begun, done as plan_done, is_global as plain_global, is_magnification as plain_magnification, magnification_checked, magnification_set, noting, put_one, reported, told};
-ghost use Rattle.world_io.specs.Told.{FilesTold};
 ghost use Rattle.engine_state.specs.Book.{Book, with_work};
-ghost use Rattle.engine_state.specs.CutReadings.{CutsIn};
+ghost use Rattle.engine_state.specs.Clauses.{GoesAtReading, CutsAtReading};
 ghost use Rattle.engine_state.specs.Stands.{Stands, state_of, page_of};
-ghost use Rattle.engine_state.specs.Rules.{world_of, Went};
+ghost use Rattle.engine_state.specs.Rules.{Went};
 ghost use Rattle.engine_state.specs.Steps.{asked, weight, IsFree, IsStep};
-ghost use Rattle.stomach.specs.Halting.{DoesRuleIn};
+ghost use Rattle.stomach.specs.Halting.{DoesRuleAtReading, CutsRuleAtReading};
 
 use crate::effects::{give_meaning, is_global, set_number};
 use engine_state::{Broken, Engine, Ruled};
@@ -45,8 +44,7 @@ pub(crate) fn begin_inner(engine: &mut Engine, kind: Kind, begins: bool) -> Resu
     requires uncalled { engine.old.call ≡ None }
     ensures rule { OnOk result ((sizes : Sizes) (w : World) (book : Book) (r : Reading) (rs : List Reading) → Stands sizes engine.old (with_work (r ∷ rs) book) → asked engine.old ≡ Some (Inner kind begins) →
         Went sizes (state_of engine.old (with_work (r ∷ rs) book)) engine.new w w (inner_begun (Reads kind) begins) 0) }
-    ensures err { IfErr result (λ b. (sizes : Sizes) (w : World) (book : Book) (r : Reading) (rs : List Reading) → Stands sizes engine.old (with_work (r ∷ rs) book) →
-        CutsIn sizes (state_of engine.old (with_work (r ∷ rs) book)) engine.new w w (inner_begun (Reads kind) begins) b) }
+    ensures err { IfErr result (λ b. CutsAtReading engine.old engine.new (λ _ _. inner_begun (Reads kind) begins) b) }
     ensures light { OnOk result (asks_in engine.old.readings.frames [] ≡ Some (Inner kind begins) → weight engine.new < weight engine.old) }
     ensures column { engine.new.in_line ≡ engine.old.in_line }
     ensures idle { engine.new.input.making ≡ engine.old.input.making }
@@ -74,8 +72,7 @@ pub(crate) fn done(engine: &mut Engine, value: Value, back: bool) -> Result<(), 
     requires uncalled { engine.old.call ≡ None }
     ensures rule { OnOk result ((sizes : Sizes) (w : World) (book : Book) (r : Reading) (rs : List Reading) → Stands sizes engine.old (with_work (r ∷ rs) book) → asked engine.old ≡ Some (Done value back) →
         Went sizes (state_of engine.old (with_work (r ∷ rs) book)) engine.new w w (plan_done (page_of engine.old book) r value back) 0) }
-    ensures err { IfErr result (λ b. (sizes : Sizes) (w : World) (book : Book) (r : Reading) (rs : List Reading) → Stands sizes engine.old (with_work (r ∷ rs) book) →
-        CutsIn sizes (state_of engine.old (with_work (r ∷ rs) book)) engine.new w w (plan_done (page_of engine.old book) r value back) b) }
+    ensures err { IfErr result (λ b. CutsAtReading engine.old engine.new (λ page r. plan_done page r value back) b) }
     ensures light { OnOk result (asks_in engine.old.readings.frames [] ≡ Some (Done value back) → weight engine.new < weight engine.old) }
     ensures column { engine.new.in_line ≡ engine.old.in_line }
     ensures idle { OnOk result (engine.new.input.making ≡ None) }
@@ -98,10 +95,8 @@ pub(crate) fn tell<S: Sink>(
 ) -> Result<Ruled, Broken>
     requires idle { engine.old.input.making ≡ None }
     requires uncalled { engine.old.call ≡ None }
-    ensures rule { IfOk result (λ ruled. (sizes : Sizes) (f : FilesTold) (book : Book) (r : Reading) (rs : List Reading) → Stands sizes engine.old (with_work (r ∷ rs) book) →
-        DoesRuleIn sizes (state_of engine.old (with_work (r ∷ rs) book)) engine.new (world_of f (S.told out.old) engine.old) (world_of f (S.told out.new) engine.new) (told (page_of engine.old book) report inserted back r) ruled) }
-    ensures err { IfErr result (λ b. (sizes : Sizes) (f : FilesTold) (book : Book) (r : Reading) (rs : List Reading) → Stands sizes engine.old (with_work (r ∷ rs) book) →
-        CutsIn sizes (state_of engine.old (with_work (r ∷ rs) book)) engine.new (world_of f (S.told out.old) engine.old) (world_of f (S.told out.new) engine.new) (told (page_of engine.old book) report inserted back r) b) }
+    ensures rule { IfOk result (λ ruled. DoesRuleAtReading engine.old engine.new (S.told out.old) (S.told out.new) (λ page r. told page report inserted back r) ruled) }
+    ensures err { IfErr result (λ b. CutsRuleAtReading engine.old engine.new (S.told out.old) (S.told out.new) (λ page r. told page report inserted back r) b) }
     ensures step { IfOk result (λ ruled. IsStep ruled → ⊥) }
     ensures light { IfOk result (λ ruled. IsFree ruled → IsReported (asks_in engine.old.readings.frames []) → weight engine.new < weight engine.old) }
     ensures idle { OnOk result (engine.new.input.making ≡ None) }
@@ -122,10 +117,8 @@ pub(crate) fn tell<S: Sink>(
 pub(crate) fn put(engine: &mut Engine, token: Token) -> Result<(), Broken>
     requires idle { engine.old.input.making ≡ None }
     requires uncalled { engine.old.call ≡ None }
-    ensures rule { OnOk result ((sizes : Sizes) (w : World) (book : Book) (r : Reading) (rs : List Reading) → Stands sizes engine.old (with_work (r ∷ rs) book) →
-        Went sizes (state_of engine.old (with_work (r ∷ rs) book)) engine.new w w (put_one token ++ noting r) 0) }
-    ensures err { IfErr result (λ b. (sizes : Sizes) (w : World) (book : Book) (r : Reading) (rs : List Reading) → Stands sizes engine.old (with_work (r ∷ rs) book) →
-        CutsIn sizes (state_of engine.old (with_work (r ∷ rs) book)) engine.new w w (put_one token ++ noting r) b) }
+    ensures rule { OnOk result (GoesAtReading engine.old engine.new (λ _ r. put_one token ++ noting r)) }
+    ensures err { IfErr result (λ b. CutsAtReading engine.old engine.new (λ _ r. put_one token ++ noting r) b) }
     ensures light { OnOk result (IsReported (asks_in engine.old.readings.frames []) → weight engine.new < weight engine.old) }
     ensures column { engine.new.in_line ≡ engine.old.in_line }
     ensures idle { OnOk result (engine.new.input.making ≡ None) }
@@ -142,10 +135,8 @@ pub(crate) fn put(engine: &mut Engine, token: Token) -> Result<(), Broken>
 /// There is no room for what the name meant, or for what the note brings: the engine stands for the moment before.
 pub(crate) fn relax(engine: &mut Engine, call: Call, name: Name) -> Result<(), Broken>
     requires uncalled { engine.old.call ≡ None }
-    ensures rule { OnOk result ((sizes : Sizes) (w : World) (book : Book) (r : Reading) (rs : List Reading) → Stands sizes engine.old (with_work (r ∷ rs) book) →
-        Went sizes (state_of engine.old (with_work (r ∷ rs) book)) engine.new w w (Assigned (plain_global (page_of engine.old book) call) name (means.Prim relax_primitive) ∷ noting r) 0) }
-    ensures err { IfErr result (λ b. (sizes : Sizes) (w : World) (book : Book) (r : Reading) (rs : List Reading) → Stands sizes engine.old (with_work (r ∷ rs) book) →
-        CutsIn sizes (state_of engine.old (with_work (r ∷ rs) book)) engine.new w w (Assigned (plain_global (page_of engine.old book) call) name (means.Prim relax_primitive) ∷ noting r) b) }
+    ensures rule { OnOk result (GoesAtReading engine.old engine.new (λ page r. Assigned (plain_global page call) name (means.Prim relax_primitive) ∷ noting r)) }
+    ensures err { IfErr result (λ b. CutsAtReading engine.old engine.new (λ page r. Assigned (plain_global page call) name (means.Prim relax_primitive) ∷ noting r) b) }
     ensures light { OnOk result (IsReported (asks_in engine.old.readings.frames []) → weight engine.new < weight engine.old) }
     ensures column { engine.new.in_line ≡ engine.old.in_line }
     ensures idle { engine.new.input.making ≡ engine.old.input.making }
@@ -175,10 +166,8 @@ fn correct_magnification<S: Sink>(
 ) -> Result<Ruled, Broken>
     requires idle { engine.old.input.making ≡ None }
     requires uncalled { engine.old.call ≡ None }
-    ensures rule { IfOk result (λ ruled. (sizes : Sizes) (f : FilesTold) (book : Book) (r : Reading) (rs : List Reading) → Stands sizes engine.old (with_work (r ∷ rs) book) →
-        DoesRuleIn sizes (state_of engine.old (with_work (r ∷ rs) book)) engine.new (world_of f (S.told out.old) engine.old) (world_of f (S.told out.new) engine.new) (reported (page_of engine.old book) report (magnification_set mag (noting r))) ruled) }
-    ensures err { IfErr result (λ b. (sizes : Sizes) (f : FilesTold) (book : Book) (r : Reading) (rs : List Reading) → Stands sizes engine.old (with_work (r ∷ rs) book) →
-        CutsIn sizes (state_of engine.old (with_work (r ∷ rs) book)) engine.new (world_of f (S.told out.old) engine.old) (world_of f (S.told out.new) engine.new) (reported (page_of engine.old book) report (magnification_set mag (noting r))) b) }
+    ensures rule { IfOk result (λ ruled. DoesRuleAtReading engine.old engine.new (S.told out.old) (S.told out.new) (λ page r. reported page report (magnification_set mag (noting r))) ruled) }
+    ensures err { IfErr result (λ b. CutsRuleAtReading engine.old engine.new (S.told out.old) (S.told out.new) (λ page r. reported page report (magnification_set mag (noting r))) b) }
     ensures step { IfOk result (λ ruled. IsStep ruled → ⊥) }
     ensures light { IfOk result (λ ruled. IsFree ruled → IsReported (asks_in engine.old.readings.frames []) → weight engine.new < weight engine.old) }
     ensures idle { OnOk result (engine.new.input.making ≡ None) }
@@ -198,10 +187,8 @@ fn correct_magnification<S: Sink>(
 /// There is no room for what the note brings: the engine stands for the moment before.
 fn set_magnification(engine: &mut Engine, mag: u16) -> Result<(), Broken>
     requires uncalled { engine.old.call ≡ None }
-    ensures rule { OnOk result ((sizes : Sizes) (w : World) (book : Book) (r : Reading) (rs : List Reading) → Stands sizes engine.old (with_work (r ∷ rs) book) →
-        Went sizes (state_of engine.old (with_work (r ∷ rs) book)) engine.new w w (MagnificationSet mag ∷ noting r) 0) }
-    ensures err { IfErr result (λ b. (sizes : Sizes) (w : World) (book : Book) (r : Reading) (rs : List Reading) → Stands sizes engine.old (with_work (r ∷ rs) book) →
-        CutsIn sizes (state_of engine.old (with_work (r ∷ rs) book)) engine.new w w (MagnificationSet mag ∷ noting r) b) }
+    ensures rule { OnOk result (GoesAtReading engine.old engine.new (λ _ r. MagnificationSet mag ∷ noting r)) }
+    ensures err { IfErr result (λ b. CutsAtReading engine.old engine.new (λ _ r. MagnificationSet mag ∷ noting r) b) }
     ensures light { OnOk result (IsReported (asks_in engine.old.readings.frames []) → weight engine.new < weight engine.old) }
     ensures column { engine.new.in_line ≡ engine.old.in_line }
     ensures idle { engine.new.input.making ≡ engine.old.input.making }
@@ -217,10 +204,8 @@ fn set_magnification(engine: &mut Engine, mag: u16) -> Result<(), Broken>
 /// There is no room for what the note brings: the engine stands for the moment before.
 fn go_on(engine: &mut Engine) -> Result<(), Broken>
     requires uncalled { engine.old.call ≡ None }
-    ensures rule { OnOk result ((sizes : Sizes) (w : World) (book : Book) (r : Reading) (rs : List Reading) → Stands sizes engine.old (with_work (r ∷ rs) book) →
-        Went sizes (state_of engine.old (with_work (r ∷ rs) book)) engine.new w w (noting r) 0) }
-    ensures err { IfErr result (λ b. (sizes : Sizes) (w : World) (book : Book) (r : Reading) (rs : List Reading) → Stands sizes engine.old (with_work (r ∷ rs) book) →
-        CutsIn sizes (state_of engine.old (with_work (r ∷ rs) book)) engine.new w w (noting r) b) }
+    ensures rule { OnOk result (GoesAtReading engine.old engine.new (λ _ r. noting r)) }
+    ensures err { IfErr result (λ b. CutsAtReading engine.old engine.new (λ _ r. noting r) b) }
     ensures light { OnOk result (IsReported (asks_in engine.old.readings.frames []) → weight engine.new < weight engine.old) }
     ensures column { engine.new.in_line ≡ engine.old.in_line }
     ensures idle { engine.new.input.making ≡ engine.old.input.making }
@@ -237,10 +222,8 @@ fn go_on(engine: &mut Engine) -> Result<(), Broken>
 pub(crate) fn magnify<S: Sink>(engine: &mut Engine, out: &mut S) -> Result<Ruled, Broken>
     requires idle { engine.old.input.making ≡ None }
     requires uncalled { engine.old.call ≡ None }
-    ensures rule { IfOk result (λ ruled. (sizes : Sizes) (f : FilesTold) (book : Book) (r : Reading) (rs : List Reading) → Stands sizes engine.old (with_work (r ∷ rs) book) →
-        DoesRuleIn sizes (state_of engine.old (with_work (r ∷ rs) book)) engine.new (world_of f (S.told out.old) engine.old) (world_of f (S.told out.new) engine.new) (magnification_checked (page_of engine.old book) (noting r)) ruled) }
-    ensures err { IfErr result (λ b. (sizes : Sizes) (f : FilesTold) (book : Book) (r : Reading) (rs : List Reading) → Stands sizes engine.old (with_work (r ∷ rs) book) →
-        CutsIn sizes (state_of engine.old (with_work (r ∷ rs) book)) engine.new (world_of f (S.told out.old) engine.old) (world_of f (S.told out.new) engine.new) (magnification_checked (page_of engine.old book) (noting r)) b) }
+    ensures rule { IfOk result (λ ruled. DoesRuleAtReading engine.old engine.new (S.told out.old) (S.told out.new) (λ page r. magnification_checked page (noting r)) ruled) }
+    ensures err { IfErr result (λ b. CutsRuleAtReading engine.old engine.new (S.told out.old) (S.told out.new) (λ page r. magnification_checked page (noting r)) b) }
     ensures step { IfOk result (λ ruled. IsStep ruled → ⊥) }
     ensures light { IfOk result (λ ruled. IsFree ruled → IsReported (asks_in engine.old.readings.frames []) → weight engine.new < weight engine.old) }
     ensures idle { OnOk result (engine.new.input.making ≡ None) }

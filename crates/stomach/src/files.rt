@@ -12,14 +12,13 @@ ghost use Rattle.command_words.specs.Words.{file_name};
 ghost use Rattle.plain_readings.specs.Readings.{Reading};
 ghost use Rattle.reading_frames.specs.Sees.{kept_list_of};
 ghost use Rattle.plain_machine.specs.States.{Move, Spelt};
-ghost use Rattle.plain_machine.specs.Does.{Did};
 ghost use Rattle.world_io.specs.Told.{FilesTold};
 ghost use Rattle.world_io.specs.declared.traits.Fault.TheVariants.{Failed, NoMemory};
 ghost use Rattle.input_state.specs.Stored.{spelt as spelt_in};
 ghost use Rattle.engine_state.specs.Book.{Book, with_work};
+ghost use Rattle.engine_state.specs.Clauses.{HoldsMacros, MakesMoves, CutsMoves};
 ghost use Rattle.engine_state.specs.CutReadings.{CutsIn};
-ghost use Rattle.engine_state.specs.Stands.{Stands, IsSound, state_of, page_of};
-ghost use Rattle.engine_state.specs.Rules.{Cuts};
+ghost use Rattle.engine_state.specs.Stands.{Stands, state_of, page_of};
 ghost use Rattle.engine_state.specs.Steps.{all_start, asked, weight, IsStep, IsFree};
 ghost use Rattle.line_reader.specs.Readers.{AreOpen};
 ghost use Rattle.stomach.specs.declared.early.Early.TheVariants as early;
@@ -44,8 +43,8 @@ use world_io::{Files, Sink};
 /// # Errors
 /// There is no room for it; nothing but the bytes behind the open lines has changed.
 fn spell_file(engine: &mut Engine, listed: bool) -> Result<usize, Broken>
-    ensures did { OnOk result ((sizes : Sizes) (w : World) (book : Book) → IsSound sizes engine.old book.number book.macros → Did sizes (state_of engine.old book) (state_of engine.new book) w w (Spelt (file_name (character_codes (kept_list_of listed engine.old.input.builds))) ∷ [])) }
-    ensures err { IfErr result (λ b. (sizes : Sizes) (w : World) (book : Book) (more : List Move) → IsSound sizes engine.old book.number book.macros → Cuts sizes (state_of engine.old book) engine.new book w w (Spelt (file_name (character_codes (kept_list_of listed engine.old.input.builds))) ∷ more) b) }
+    ensures did { OnOk result (MakesMoves HoldsMacros engine.old engine.new (λ _. Spelt (file_name (character_codes (kept_list_of listed engine.old.input.builds))) ∷ [])) }
+    ensures err { IfErr result (λ b. CutsMoves HoldsMacros engine.old engine.new (λ _. Spelt (file_name (character_codes (kept_list_of listed engine.old.input.builds))) ∷ []) b) }
     ensures name { IfOk result (λ n. spelt_in engine.new.input n ≡ file_name (character_codes (kept_list_of listed engine.old.input.builds))) }
     ensures room { IfOk result (λ n. open_lines engine.old.input.pending + n ≤ engine.old.input.sizes.buffer_size) }
     ensures only { OnlySpelt engine.old engine.new }

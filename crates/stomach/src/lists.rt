@@ -11,14 +11,14 @@ ghost use Rattle.rows.specs.declared.command.Effect.TheVariants as effects;
 ghost use Rattle.reading_frames.specs.Sees.{top_list, kept_list_of};
 ghost use Rattle.reading_frames.specs.Stack.{asks_in, innermost_count};
 ghost use Rattle.reading_frames.specs.Weights.{IsEnd};
-ghost use Rattle.plain_machine.specs.States.{Move, Closed, ListSet, Set};
+ghost use Rattle.plain_machine.specs.States.{Closed, ListSet, Set};
 ghost use Rattle.plain_machine.specs.Plan.{acts_above, is_global as plain_global, list_set};
-ghost use Rattle.plain_machine.specs.Does.{Did};
 ghost use Rattle.engine_state.specs.declared.broken.Broken.TheVariants as broken;
 ghost use Rattle.engine_state.specs.Book.{Book, with_work};
+ghost use Rattle.engine_state.specs.Clauses.{Still, MakesMoves, CutsMoves, GoesAtReading, CutsAtReading};
 ghost use Rattle.engine_state.specs.CutReadings.{CutsIn};
 ghost use Rattle.engine_state.specs.Stands.{Stands, SameFrames, state_of, page_of};
-ghost use Rattle.engine_state.specs.Rules.{Cuts, Went};
+ghost use Rattle.engine_state.specs.Rules.{Went};
 ghost use Rattle.engine_state.specs.Steps.{asked, weight};
 ghost use Rattle.rows.specs.Suiting.{IsThere, TakesList};
 
@@ -46,9 +46,9 @@ pub(crate) fn share_list(
     from: Loc,
     global: bool,
 ) -> Result<(), Broken>
-    ensures did { OnOk result (TakesList loc → TakesList from → (sizes : Sizes) (w : World) (book : Book) → Stands sizes engine.old book → Did sizes (state_of engine.old book) (state_of engine.new book) w w (Set global loc (get (page_of engine.old book).now from) ∷ [])) }
-    ensures err { IfErr result (λ b. (sizes : Sizes) (w : World) (book : Book) (more : List Move) → Stands sizes engine.old book → Cuts sizes (state_of engine.old book) engine.new book w w (Set global loc (get (page_of engine.old book).now from) ∷ more) b) }
-    ensures stands { OnOk result ((sizes : Sizes) (book : Book) → Stands sizes engine.old book → Stands sizes engine.new book) }
+    ensures did { OnOk result (TakesList loc → TakesList from → MakesMoves Stands engine.old engine.new (λ page. Set global loc (get page.now from) ∷ [])) }
+    ensures err { IfErr result (λ b. CutsMoves Stands engine.old engine.new (λ page. Set global loc (get page.now from) ∷ []) b) }
+    ensures stands { OnOk result (Still Stands engine.old engine.new) }
     ensures frames { SameFrames engine.old engine.new }
     ensures only { engine.new ≡ record engine.old { input = record engine.old.input { groups = engine.new.input.groups; lists = engine.new.input.lists } } }
 {
@@ -98,8 +98,7 @@ fn pass_list(engine: &mut Engine, call: Call, loc: Loc) -> Result<(), Full>
     requires token { top_list engine.old.input.builds ≢ [] }
     ensures rule { OnOk result (TakesList loc → (sizes : Sizes) (w : World) (book : Book) (r : Reading) (rs : List Reading) → Stands sizes engine.old (with_work (r ∷ rs) book) → innermost_count engine.old.readings.frames ≡ 1 →
         Went sizes (state_of engine.old (with_work (r ∷ rs) book)) engine.new w w (ListSet (plain_global (page_of engine.old book) call) loc (top_list engine.old.input.builds) ∷ []) 0) }
-    ensures err { IfErr result (λ full. (sizes : Sizes) (w : World) (book : Book) (r : Reading) (rs : List Reading) → Stands sizes engine.old (with_work (r ∷ rs) book) →
-        CutsIn sizes (state_of engine.old (with_work (r ∷ rs) book)) engine.new w w (ListSet (plain_global (page_of engine.old book) call) loc (top_list engine.old.input.builds) ∷ []) (broken.Full full)) }
+    ensures err { IfErr result (λ full. CutsAtReading engine.old engine.new (λ page _. ListSet (plain_global page call) loc (top_list engine.old.input.builds) ∷ []) (broken.Full full)) }
     ensures light { OnOk result (engine.old.call ≡ None → (a : Ask) → asks_in engine.old.readings.frames [] ≡ Some a → IsEnd a → weight engine.new < weight engine.old) }
     ensures call { engine.new.call ≡ engine.old.call }
     ensures after { engine.new.after ≡ engine.old.after }
@@ -121,10 +120,8 @@ fn pass_list(engine: &mut Engine, call: Call, loc: Loc) -> Result<(), Full>
 /// # Errors
 /// The save stack is full: the command has ended.
 fn pass_nothing(engine: &mut Engine, call: Call, loc: Loc) -> Result<(), Full>
-    ensures rule { OnOk result (TakesList loc → (sizes : Sizes) (w : World) (book : Book) (r : Reading) (rs : List Reading) → Stands sizes engine.old (with_work (r ∷ rs) book) →
-        Went sizes (state_of engine.old (with_work (r ∷ rs) book)) engine.new w w (Closed ∷ Set (plain_global (page_of engine.old book) call) loc (val.Tokens None) ∷ []) 0) }
-    ensures err { IfErr result (λ full. (sizes : Sizes) (w : World) (book : Book) (r : Reading) (rs : List Reading) → Stands sizes engine.old (with_work (r ∷ rs) book) →
-        CutsIn sizes (state_of engine.old (with_work (r ∷ rs) book)) engine.new w w (Closed ∷ Set (plain_global (page_of engine.old book) call) loc (val.Tokens None) ∷ []) (broken.Full full)) }
+    ensures rule { OnOk result (TakesList loc → GoesAtReading engine.old engine.new (λ page _. Closed ∷ Set (plain_global page call) loc (val.Tokens None) ∷ [])) }
+    ensures err { IfErr result (λ full. CutsAtReading engine.old engine.new (λ page _. Closed ∷ Set (plain_global page call) loc (val.Tokens None) ∷ []) (broken.Full full)) }
     ensures light { OnOk result (engine.old.call ≡ None → (a : Ask) → asks_in engine.old.readings.frames [] ≡ Some a → IsEnd a → weight engine.new < weight engine.old) }
     ensures call { engine.new.call ≡ engine.old.call }
     ensures after { engine.new.after ≡ engine.old.after }

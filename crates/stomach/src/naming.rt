@@ -1,19 +1,17 @@
 // Names that are spelt. *The TeXbook*, chapter 7 (`\csname`); *TeX: The Program*, part 25.
-ghost use Rattle.std.specs.Prelude.{◌≡◌, ◌≤◌, ◌+◌, List, [], ◌∷◌, ◌++◌, length, IfOk, IfErr, OnOk, OnErr, None};
-ghost use Rattle.tex_defs.specs.Places.{World};
+ghost use Rattle.std.specs.Prelude.{◌≡◌, ◌≤◌, ◌+◌, [], ◌∷◌, length, IfOk, IfErr, OnOk, OnErr, None};
 ghost use Rattle.tex_defs.specs.declared.Sizes.{Sizes};
 ghost use Rattle.plain_tokens.specs.Meanings.{name_meaning, seen_as};
 ghost use Rattle.plain_tokens.specs.Tokens.{character_codes, is_undefined as plain_undefined};
 ghost use Rattle.reading_frames.specs.Sees.{kept_list_of};
 ghost use Rattle.plain_tokens.specs.Tables.{open_lines};
-ghost use Rattle.plain_machine.specs.States.{Move, Spelt};
+ghost use Rattle.plain_machine.specs.States.{Spelt};
 ghost use Rattle.plain_machine.specs.Plan.{spelt, newly_spelt, relax_if_undefined as made_relax, name_made};
-ghost use Rattle.plain_machine.specs.Does.{Did};
 ghost use Rattle.engine_state.specs.Book.{Book};
+ghost use Rattle.engine_state.specs.Clauses.{Still, HoldsMacros, MakesMoves, CutsMoves};
 ghost use Rattle.engine_state.specs.Entering.{joined, with_names, EntryFits, EntryRefused};
 ghost use Rattle.input_state.specs.Stored.{spelt as spelt_in};
-ghost use Rattle.engine_state.specs.Stands.{Stands, IsSound, SameFrames, state_of, page_of};
-ghost use Rattle.engine_state.specs.Rules.{Cuts};
+ghost use Rattle.engine_state.specs.Stands.{Stands, IsSound, SameFrames};
 ghost use Rattle.engine_state.specs.Steps.{pending_weight};
 ghost use Rattle.stomach.specs.Naming.{IsTooLong, OnlySpelt};
 
@@ -45,8 +43,8 @@ fn spelt_name(names: &mut NameTable, codes: &[u8]) -> Result<Name, Full>
 /// # Errors
 /// There is no room for them; nothing has changed.
 pub(crate) fn spell_list(engine: &mut Engine, listed: bool) -> Result<usize, Broken>
-    ensures did { OnOk result ((sizes : Sizes) (w : World) (book : Book) → IsSound sizes engine.old book.number book.macros → Did sizes (state_of engine.old book) (state_of engine.new book) w w (Spelt (character_codes (kept_list_of listed engine.old.input.builds)) ∷ [])) }
-    ensures err { IfErr result (λ b. (sizes : Sizes) (w : World) (book : Book) (more : List Move) → IsSound sizes engine.old book.number book.macros → Cuts sizes (state_of engine.old book) engine.new book w w (Spelt (character_codes (kept_list_of listed engine.old.input.builds)) ∷ more) b) }
+    ensures did { OnOk result (MakesMoves HoldsMacros engine.old engine.new (λ _. Spelt (character_codes (kept_list_of listed engine.old.input.builds)) ∷ [])) }
+    ensures err { IfErr result (λ b. CutsMoves HoldsMacros engine.old engine.new (λ _. Spelt (character_codes (kept_list_of listed engine.old.input.builds)) ∷ []) b) }
     ensures codes { IfOk result (λ n. spelt_in engine.new.input n ≡ character_codes (kept_list_of listed engine.old.input.builds)) }
     ensures length { IfOk result (λ n. n ≡ length (character_codes (kept_list_of listed engine.old.input.builds))) }
     ensures room { IfOk result (λ n. open_lines engine.old.input.pending + n ≤ engine.old.input.sizes.buffer_size) }
@@ -99,9 +97,9 @@ fn is_undefined(engine: &Engine, name: Name) -> bool
 /// # Errors
 /// The save stack is full; nothing has changed.
 fn relax_if_undefined(engine: &mut Engine, name: Name) -> Result<(), Broken>
-    ensures did { OnOk result ((sizes : Sizes) (w : World) (book : Book) → Stands sizes engine.old book → Did sizes (state_of engine.old book) (state_of engine.new book) w w (made_relax (page_of engine.old book).now.meanings name)) }
-    ensures err { IfErr result (λ b. (sizes : Sizes) (w : World) (book : Book) (more : List Move) → Stands sizes engine.old book → Cuts sizes (state_of engine.old book) engine.new book w w (made_relax (page_of engine.old book).now.meanings name ++ more) b) }
-    ensures stands { OnOk result ((sizes : Sizes) (book : Book) → Stands sizes engine.old book → Stands sizes engine.new book) }
+    ensures did { OnOk result (MakesMoves Stands engine.old engine.new (λ page. made_relax page.now.meanings name)) }
+    ensures err { IfErr result (λ b. CutsMoves Stands engine.old engine.new (λ page. made_relax page.now.meanings name) b) }
+    ensures stands { OnOk result (Still Stands engine.old engine.new) }
     ensures frames { SameFrames engine.old engine.new }
     ensures only { engine.new ≡ record engine.old { input = record engine.old.input { groups = engine.new.input.groups; lists = engine.new.input.lists } } }
 {
@@ -118,11 +116,9 @@ fn relax_if_undefined(engine: &mut Engine, name: Name) -> Result<(), Broken>
 /// There is no room for the name in the buffer, for a new name, in the save stack, in the main memory or on the input stack: what comes before is there.
 pub fn make_name(engine: &mut Engine, listed: bool) -> Result<(), Broken>
     requires idle { engine.old.input.making ≡ None }
-    ensures did { OnOk result ((sizes : Sizes) (w : World) (book : Book) → Stands sizes engine.old book →
-        Did sizes (state_of engine.old book) (state_of engine.new book) w w (name_made (page_of engine.old book) (character_codes (kept_list_of listed engine.old.input.builds)))) }
-    ensures err { IfErr result (λ b. (sizes : Sizes) (w : World) (book : Book) (more : List Move) → Stands sizes engine.old book →
-        Cuts sizes (state_of engine.old book) engine.new book w w (name_made (page_of engine.old book) (character_codes (kept_list_of listed engine.old.input.builds)) ++ more) b) }
-    ensures stands { OnOk result ((sizes : Sizes) (book : Book) → Stands sizes engine.old book → Stands sizes engine.new book) }
+    ensures did { OnOk result (MakesMoves Stands engine.old engine.new (λ page. name_made page (character_codes (kept_list_of listed engine.old.input.builds)))) }
+    ensures err { IfErr result (λ b. CutsMoves Stands engine.old engine.new (λ page. name_made page (character_codes (kept_list_of listed engine.old.input.builds))) b) }
+    ensures stands { OnOk result (Still Stands engine.old engine.new) }
     ensures frames { SameFrames engine.old engine.new }
     ensures column { engine.new.in_line ≡ engine.old.in_line }
     ensures light { OnOk result (pending_weight engine.new.input.pending ≡ pending_weight engine.old.input.pending) }

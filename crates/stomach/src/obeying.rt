@@ -6,6 +6,7 @@ ghost use Rattle.plain_machine.specs.States.{GroupOpened};
 ghost use Rattle.plain_machine.specs.Plan.{begun, brace_met, endgroup_met, character, command, primitive, register};
 ghost use Rattle.world_io.specs.Told.{FilesTold};
 ghost use Rattle.engine_state.specs.Book.{Book};
+ghost use Rattle.engine_state.specs.Clauses.{CutsFree, GoesOnward, CutsOnward};
 ghost use Rattle.engine_state.specs.CutReadings.{CutsIn};
 ghost use Rattle.engine_state.specs.Stands.{Stands, SameFrames, state_of, page_of};
 ghost use Rattle.engine_state.specs.Rules.{world_of, onward_of, Takes, DoesOnward};
@@ -55,8 +56,7 @@ fn open_group(engine: &mut Engine, kind: GroupKind) -> Result<Ruled, Broken>
     requires uncalled { engine.old.call ≡ None }
     ensures rule { IfOk result (λ ruled. (sizes : Sizes) (w : World) (book : Book) → Stands sizes engine.old book →
         DoesOnward sizes (state_of engine.old book) engine.new book w w (GroupOpened kind ∷ []) ruled) }
-    ensures err { IfErr result (λ b. (sizes : Sizes) (w : World) (book : Book) → Stands sizes engine.old book →
-        CutsIn sizes (state_of engine.old book) engine.new w w (GroupOpened kind ∷ []) b) }
+    ensures err { IfErr result (λ b. CutsFree engine.old engine.new (λ _. GroupOpened kind ∷ []) b) }
     ensures step { IfOk result (λ ruled. ruled ≡ Step) }
     ensures column { engine.new.in_line ≡ engine.old.in_line }
     ensures frames { SameFrames engine.old engine.new }
@@ -71,10 +71,8 @@ fn open_group(engine: &mut Engine, kind: GroupKind) -> Result<Ruled, Broken>
 fn meet_brace<S: Sink>(engine: &mut Engine, out: &mut S) -> Result<Ruled, Broken>
     requires idle { engine.old.input.making ≡ None }
     requires uncalled { engine.old.call ≡ None }
-    ensures rule { IfOk result (λ ruled. (sizes : Sizes) (f : FilesTold) (book : Book) → Stands sizes engine.old book →
-        DoesOnward sizes (state_of engine.old book) engine.new book (world_of f (S.told out.old) engine.old) (world_of f (S.told out.new) engine.new) (brace_met (page_of engine.old book) (page_of engine.old book).group) ruled) }
-    ensures err { IfErr result (λ b. (sizes : Sizes) (f : FilesTold) (book : Book) → Stands sizes engine.old book →
-        CutsIn sizes (state_of engine.old book) engine.new (world_of f (S.told out.old) engine.old) (world_of f (S.told out.new) engine.new) (brace_met (page_of engine.old book) (page_of engine.old book).group) b) }
+    ensures rule { IfOk result (λ ruled. GoesOnward engine.old engine.new (S.told out.old) (S.told out.new) (λ page. brace_met page page.group) ruled) }
+    ensures err { IfErr result (λ b. CutsOnward engine.old engine.new (S.told out.old) (S.told out.new) (λ page. brace_met page page.group) b) }
     ensures on { IfOk result (λ ruled. IsFree ruled → ⊥) }
     ensures frames { SameFrames engine.old engine.new }
     ensures light { OnOk result (pending_weight engine.new.input.pending ≡ pending_weight engine.old.input.pending) }
@@ -95,10 +93,8 @@ fn meet_brace<S: Sink>(engine: &mut Engine, out: &mut S) -> Result<Ruled, Broken
 fn meet_endgroup<S: Sink>(engine: &mut Engine, out: &mut S, token: Token) -> Result<Ruled, Broken>
     requires idle { engine.old.input.making ≡ None }
     requires uncalled { engine.old.call ≡ None }
-    ensures rule { IfOk result (λ ruled. (sizes : Sizes) (f : FilesTold) (book : Book) → Stands sizes engine.old book →
-        DoesOnward sizes (state_of engine.old book) engine.new book (world_of f (S.told out.old) engine.old) (world_of f (S.told out.new) engine.new) (endgroup_met (page_of engine.old book) token (page_of engine.old book).group) ruled) }
-    ensures err { IfErr result (λ b. (sizes : Sizes) (f : FilesTold) (book : Book) → Stands sizes engine.old book →
-        CutsIn sizes (state_of engine.old book) engine.new (world_of f (S.told out.old) engine.old) (world_of f (S.told out.new) engine.new) (endgroup_met (page_of engine.old book) token (page_of engine.old book).group) b) }
+    ensures rule { IfOk result (λ ruled. GoesOnward engine.old engine.new (S.told out.old) (S.told out.new) (λ page. endgroup_met page token page.group) ruled) }
+    ensures err { IfErr result (λ b. CutsOnward engine.old engine.new (S.told out.old) (S.told out.new) (λ page. endgroup_met page token page.group) b) }
     ensures on { IfOk result (λ ruled. IsFree ruled → ⊥) }
     ensures frames { SameFrames engine.old engine.new }
     ensures light { OnOk result (pending_weight engine.new.input.pending ≡ pending_weight engine.old.input.pending) }
@@ -124,8 +120,7 @@ fn begin_row(engine: &mut Engine, token: Token, head: Head) -> Result<Ruled, Bro
     requires uncalled { engine.old.call ≡ None }
     ensures rule { IfOk result (λ ruled. (sizes : Sizes) (w : World) (book : Book) → Stands sizes engine.old book →
         DoesOnward sizes (state_of engine.old book) engine.new book w w (begun token head) ruled) }
-    ensures err { IfErr result (λ b. (sizes : Sizes) (w : World) (book : Book) → Stands sizes engine.old book →
-        CutsIn sizes (state_of engine.old book) engine.new w w (begun token head) b) }
+    ensures err { IfErr result (λ b. CutsFree engine.old engine.new (λ _. begun token head) b) }
     ensures step { IfOk result (λ ruled. ruled ≡ Step) }
     ensures column { engine.new.in_line ≡ engine.old.in_line }
     ensures frames { OnOk result (Obeys engine.old engine.new) }
@@ -146,10 +141,8 @@ fn obey_primitive<S: Sink>(
 ) -> Result<Ruled, Broken>
     requires idle { engine.old.input.making ≡ None }
     requires uncalled { engine.old.call ≡ None }
-    ensures rule { IfOk result (λ ruled. (sizes : Sizes) (f : FilesTold) (book : Book) → Stands sizes engine.old book →
-        DoesOnward sizes (state_of engine.old book) engine.new book (world_of f (S.told out.old) engine.old) (world_of f (S.told out.new) engine.new) (primitive (page_of engine.old book) token number) ruled) }
-    ensures err { IfErr result (λ b. (sizes : Sizes) (f : FilesTold) (book : Book) → Stands sizes engine.old book →
-        CutsIn sizes (state_of engine.old book) engine.new (world_of f (S.told out.old) engine.old) (world_of f (S.told out.new) engine.new) (primitive (page_of engine.old book) token number) b) }
+    ensures rule { IfOk result (λ ruled. GoesOnward engine.old engine.new (S.told out.old) (S.told out.new) (λ page. primitive page token number) ruled) }
+    ensures err { IfErr result (λ b. CutsOnward engine.old engine.new (S.told out.old) (S.told out.new) (λ page. primitive page token number) b) }
     ensures halts { IfOk result (λ ruled. IsHalted ruled → SameFrames engine.old engine.new) }
     ensures on { IfOk result (λ ruled. IsFree ruled → ⊥) }
     ensures frames { OnOk result (Obeys engine.old engine.new) }
@@ -184,10 +177,8 @@ fn obey_register<S: Sink>(
 ) -> Result<Ruled, Broken>
     requires idle { engine.old.input.making ≡ None }
     requires uncalled { engine.old.call ≡ None }
-    ensures rule { IfOk result (λ ruled. (sizes : Sizes) (f : FilesTold) (book : Book) → Stands sizes engine.old book →
-        DoesOnward sizes (state_of engine.old book) engine.new book (world_of f (S.told out.old) engine.old) (world_of f (S.told out.new) engine.new) (register (page_of engine.old book) token kind no) ruled) }
-    ensures err { IfErr result (λ b. (sizes : Sizes) (f : FilesTold) (book : Book) → Stands sizes engine.old book →
-        CutsIn sizes (state_of engine.old book) engine.new (world_of f (S.told out.old) engine.old) (world_of f (S.told out.new) engine.new) (register (page_of engine.old book) token kind no) b) }
+    ensures rule { IfOk result (λ ruled. GoesOnward engine.old engine.new (S.told out.old) (S.told out.new) (λ page. register page token kind no) ruled) }
+    ensures err { IfErr result (λ b. CutsOnward engine.old engine.new (S.told out.old) (S.told out.new) (λ page. register page token kind no) b) }
     ensures step { IfOk result (λ ruled. ruled ≡ Step) }
     ensures frames { OnOk result (Obeys engine.old engine.new) }
     ensures light { OnOk result (pending_weight engine.new.input.pending ≡ pending_weight engine.old.input.pending) }
@@ -211,10 +202,8 @@ fn obey_character<S: Sink>(
 ) -> Result<Ruled, Broken>
     requires idle { engine.old.input.making ≡ None }
     requires uncalled { engine.old.call ≡ None }
-    ensures rule { IfOk result (λ ruled. (sizes : Sizes) (f : FilesTold) (book : Book) → Stands sizes engine.old book →
-        DoesOnward sizes (state_of engine.old book) engine.new book (world_of f (S.told out.old) engine.old) (world_of f (S.told out.new) engine.new) (character (page_of engine.old book) cat code) ruled) }
-    ensures err { IfErr result (λ b. (sizes : Sizes) (f : FilesTold) (book : Book) → Stands sizes engine.old book →
-        CutsIn sizes (state_of engine.old book) engine.new (world_of f (S.told out.old) engine.old) (world_of f (S.told out.new) engine.new) (character (page_of engine.old book) cat code) b) }
+    ensures rule { IfOk result (λ ruled. GoesOnward engine.old engine.new (S.told out.old) (S.told out.new) (λ page. character page cat code) ruled) }
+    ensures err { IfErr result (λ b. CutsOnward engine.old engine.new (S.told out.old) (S.told out.new) (λ page. character page cat code) b) }
     ensures on { IfOk result (λ ruled. IsFree ruled → ⊥) }
     ensures frames { SameFrames engine.old engine.new }
     ensures light { OnOk result (pending_weight engine.new.input.pending ≡ pending_weight engine.old.input.pending) }
@@ -237,10 +226,8 @@ fn obey_character<S: Sink>(
 pub(crate) fn obey<S: Sink>(engine: &mut Engine, out: &mut S, x: Seen) -> Result<Ruled, Broken>
     requires idle { engine.old.input.making ≡ None }
     requires uncalled { engine.old.call ≡ None }
-    ensures rule { IfOk result (λ ruled. (sizes : Sizes) (f : FilesTold) (book : Book) → Stands sizes engine.old book →
-        DoesOnward sizes (state_of engine.old book) engine.new book (world_of f (S.told out.old) engine.old) (world_of f (S.told out.new) engine.new) (command (page_of engine.old book) x.token x.meaning) ruled) }
-    ensures err { IfErr result (λ b. (sizes : Sizes) (f : FilesTold) (book : Book) → Stands sizes engine.old book →
-        CutsIn sizes (state_of engine.old book) engine.new (world_of f (S.told out.old) engine.old) (world_of f (S.told out.new) engine.new) (command (page_of engine.old book) x.token x.meaning) b) }
+    ensures rule { IfOk result (λ ruled. GoesOnward engine.old engine.new (S.told out.old) (S.told out.new) (λ page. command page x.token x.meaning) ruled) }
+    ensures err { IfErr result (λ b. CutsOnward engine.old engine.new (S.told out.old) (S.told out.new) (λ page. command page x.token x.meaning) b) }
     ensures halts { IfOk result (λ ruled. IsHalted ruled → SameFrames engine.old engine.new) }
     ensures on { IfOk result (λ ruled. IsFree ruled → ⊥) }
     ensures frames { OnOk result (Obeys engine.old engine.new) }
