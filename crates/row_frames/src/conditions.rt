@@ -97,6 +97,6 @@ pub fn tested(test: Test, read: &Data) -> Effect
         Test::Odd => Effect::Choose(Value::Truth(is_odd(number_in(first)))),
         Test::Meanings => Effect::Compare(token(first), token(second)),
         Test::Case => Effect::Choose(Value::Case(number_in(first))),
-        Test::Constant(value) => Effect::Choose(Value::Truth(value)),
+        Test::Always(value) => Effect::Choose(Value::Truth(value)),
     }
 }

@@ -61,4 +61,4 @@ tested test.Relation ds = effect.Choose (Truth (holds (relation_in (datum_at 1 d
 tested test.Odd ds = effect.Choose (Truth (is_odd (number 0 ds)))
 tested test.Meanings ds = effect.Compare (token_read 0 ds) (token_read 1 ds)
 tested test.Case ds = effect.Choose (Case (number 0 ds))
-tested (test.Constant value) ds = effect.Choose (Truth value)
+tested (test.Always value) ds = effect.Choose (Truth value)

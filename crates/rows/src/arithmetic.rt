@@ -66,13 +66,13 @@ const ZERO_GLUE: Glue = Glue {
 };
 
 /// The greatest dimension, in sp.
-const GREATEST: i32 = 1073741823;
+pub const GREATEST_DIMENSION: i32 = 1073741823;
 
 /// A value in sp, where it isn't too large for a dimension.
 pub fn measured(n: i32) -> Option<i32>
     ensures { result ≡ arithmetic.measured n }
 {
-    if n >= -GREATEST && n <= GREATEST {
+    if n >= -GREATEST_DIMENSION && n <= GREATEST_DIMENSION {
         Some(n)
     } else {
         None

@@ -83,8 +83,8 @@ pub enum Test {
     Meanings,
     /// The number of a case: `\ifcase`.
     Case,
-    /// It is always so.
-    Constant(bool),
+    /// It always has this value.
+    Always(bool),
 }
 
 /// A character, as `\if` and `\ifcat` see it; what is no character has category 0 and code 256.
@@ -394,9 +394,9 @@ pub const SYNTAX: &[(u16, Row, Action)] = &[
         Action::Test(Test::Relation),
     ),
     (69, One(Number), Action::Test(Test::Odd)),
-    (74, One(REGISTER), Action::Test(Test::Constant(true))),
-    (75, One(REGISTER), Action::Test(Test::Constant(false))),
-    (76, One(REGISTER), Action::Test(Test::Constant(false))),
+    (74, One(REGISTER), Action::Test(Test::Always(true))),
+    (75, One(REGISTER), Action::Test(Test::Always(false))),
+    (76, One(REGISTER), Action::Test(Test::Always(false))),
     (
         77,
         Two(UnenteredToken, UnenteredToken),

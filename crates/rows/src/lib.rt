@@ -12,8 +12,8 @@ mod stage;
 mod words;
 
 pub use arithmetic::{
-    Operation, computed, glue_in, glue_product, glue_quotient, glue_sum, integer_of, measured,
-    number_in, value_computed,
+    GREATEST_DIMENSION, Operation, computed, glue_in, glue_product, glue_quotient, glue_sum,
+    integer_of, measured, number_in, value_computed,
 };
 pub use command::{
     Action, Call, Character, Effect, Head, Prefix, Row, SYNTAX, Shorthand, Test, find_row, row_of,

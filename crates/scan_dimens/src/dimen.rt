@@ -7,12 +7,12 @@ ghost use Rattle.plain_readings.specs.Dimens.{Fed, Found, physical, by_unit, spa
 ghost use Rattle.scan_dimens.specs.DimenSees as sees;
 
 use crate::decimals::{Digits, is_integer_at, is_other, is_space};
-use crate::units::{GREATEST, in_units, magnified, physical_unit, points, scaled_points, times};
+use crate::units::{in_units, magnified, physical_unit, points, scaled_points, times};
 use equivalents::{Loc, Val as StoredValue};
 use plain_readings::Amount;
 use rows::{
-    Bank, Datum, DimenKind, Internal, Keyword, Value, byte_of, integer_of, internal_of, is_mu,
-    list_of, measured,
+    Bank, Datum, DimenKind, GREATEST_DIMENSION, Internal, Keyword, Value, byte_of, integer_of,
+    internal_of, is_mu, list_of, measured,
 };
 use scan_numbers::Radix;
 use tex_defs::Seen;
@@ -249,7 +249,11 @@ impl DimenScan {
             }
             DimenPlace::Illegal(_, value) => self.place = DimenPlace::Space(value, 0),
             DimenPlace::TooLarge(order, _) => {
-                self.place = DimenPlace::Ended(with_sign(self.negative, GREATEST), order, false);
+                self.place = DimenPlace::Ended(
+                    with_sign(self.negative, GREATEST_DIMENSION),
+                    order,
+                    false,
+                );
             }
             DimenPlace::Magnification(factor) => {
                 self.place = DimenPlace::MagnificationFetched(factor);

@@ -6,11 +6,8 @@ ghost use Rattle.plain_readings.specs.Dimens.{physical};
 ghost use Rattle.scan_dimens.specs.DimenSees.{IsRead, IsMagnified, IsUnit};
 
 use plain_readings::{Amount, Measure};
-use rows::Keyword;
+use rows::{GREATEST_DIMENSION, Keyword};
 use scaled_arith::{times_plus, units};
-
-/// The greatest dimension, in sp.
-pub(crate) const GREATEST: i32 = 1073741823;
 
 /// The physical unit at this place, of eight.
 pub fn physical_unit(place: u8) -> Option<Measure>
@@ -35,7 +32,7 @@ pub fn physical_unit(place: u8) -> Option<Measure>
 fn measured_up(n: u64) -> Option<i32>
     ensures { result ≡ arithmetic.measured (pos n) }
 {
-    if n <= GREATEST as u64 {
+    if n <= GREATEST_DIMENSION as u64 {
         Some(n as i32)
     } else {
         None
@@ -88,7 +85,12 @@ pub fn times(amount: Amount, value: i32) -> Option<i32>
 {
     let value = i64::from(value);
     let part = value * i64::from(amount.fraction) / 65536;
-    match times_plus(amount.whole as i64, value, part, i64::from(GREATEST)) {
+    match times_plus(
+        amount.whole as i64,
+        value,
+        part,
+        i64::from(GREATEST_DIMENSION),
+    ) {
         Some(n) => Some(n as i32),
         None => None,
     }

@@ -10,13 +10,11 @@ ghost use Rattle.scan_glue.specs.GlueSees as sees;
 
 use equivalents::{Glue, Loc, Val as StoredValue};
 use rows::{
-    Bank, Datum, DimenKind, Internal, Keyword, Value, byte_of, internal_of, is_glue, is_mu,
+    Bank, Datum, DimenKind, GREATEST_DIMENSION, Internal, Keyword, Value, byte_of, internal_of,
+    is_glue, is_mu,
 };
 use tex_defs::{Seen, Token};
 use tex_syntax::{Report, Want};
-
-/// The least that is no dimension, in sp.
-const TOO_LARGE: i32 = 1073741824;
 
 /// What is read within glue.
 #[derive(Clone, Copy)]
@@ -99,7 +97,7 @@ fn zero_glue() -> Glue
 fn is_part(value: i32, order: u8) -> bool
     ensures { result ≡ glues.is_part value order }
 {
-    -TOO_LARGE < value && value < TOO_LARGE && order <= 3
+    -GREATEST_DIMENSION <= value && value <= GREATEST_DIMENSION && order <= 3
 }
 
 /// Glue of this width, with the sign.
