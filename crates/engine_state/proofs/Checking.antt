@@ -11,7 +11,7 @@ use Rattle.tex_defs.specs.declared.Token.{Token}
 use Rattle.rows.specs.Readings.{Fed}
 use Rattle.rows.specs.Table.{reads_under_normal}
 use Rattle.plain_readings.specs.Readings.{Kind, Reading, lists}
-use Rattle.plain_readings.specs.Scanning.{Status, Scans as ScansAs, Ignores, Unguarded, Inherits, command_status, status, first_of, scanned_at, unless_unguarded, innermost_scanned, Scanning, Builds, scanning}
+use Rattle.plain_readings.specs.Scanning.{Status, Scans as ScansAs, SkipsText, Unguarded, Inherits, command_status, status, first_of, scanned_at, unless_unguarded, innermost_scanned, Scanning, Builds, scanning}
 use Rattle.reading_frames.specs.declared.ask.Found.{Found}
 use Rattle.reading_frames.specs.declared.ask.Found.TheVariants as found
 use Rattle.reading_frames.specs.declared.frame.Frame.{Frame}
@@ -42,7 +42,7 @@ use Rattle.engine_state.proofs.FramesHeld.{gathered_is}
 -- what is found among them is a text or a definition, or text that is skipped
 abbrev pub IsBuilt : Found → Type 0
 IsBuilt (found.Builds what name k) = what ≡ scanned.Use → ⊥
-IsBuilt (found.Skipped line) = Unit {0}
+IsBuilt (found.SkippedText line) = Unit {0}
 
 built_other : (b : Bool) → built_as b ≡ scanned.Use → ⊥
 built_other true = λ e. cc
@@ -71,7 +71,7 @@ all_built (f ∷ fs) n = frame_built f n (innermost_found fs (n + list_count f))
 
 guarded : (s : Status) (o : Option Found) (P : Found → Type 0) → IfSome o P → IfSome (unless_found s o) P
 guarded (ScansAs what name) o P h = h
-guarded (Ignores line) o P h = h
+guarded (SkipsText line) o P h = h
 guarded Unguarded o P h = tt
 guarded Inherits o P h = h
 
@@ -82,7 +82,7 @@ found_built (f ∷ fs) = guarded (frame_status f) (innermost_found (f ∷ fs) 0)
 -- and its list is held
 abbrev IsBelow : ℕ → Found → Type 0
 IsBelow m (found.Builds what name n) = n < m
-IsBelow m (found.Skipped line) = Unit {0}
+IsBelow m (found.SkippedText line) = Unit {0}
 
 frame_held : (f : Frame) (n m : ℕ) (o : Option Found) → n + list_count f ≤ m → IfSome o (IsBelow m) → IfSome (found_at (frame_status f) n o) (IsBelow m)
 frame_held (frame.Command scan head) n m o le h = command_passes (reads_under_normal head) n o (IsBelow m) h
@@ -130,7 +130,7 @@ module _ (e : Engine) where
 
   found_as : (x : Found) → IsBuilt x → IsListed x e → IsFound x e
   found_as (found.Builds what name k) other some = asked_as what k other some
-  found_as (found.Skipped line) other some = tt
+  found_as (found.SkippedText line) other some = tt
 
   -- what was found is built, and its list there
   pub frame_asked : (x : Found) → Some x ≡ found_in e.readings.frames → IsListed x e → IsFound x e
@@ -140,11 +140,11 @@ module _ (e : Engine) where
   scan_as (found.Builds scanned.Use name k) other = absurd (other refl)
   scan_as (found.Builds scanned.Text name k) other = ap (λ (ts : List Token). Some (Builds scanned.Text name ts)) (top_is (drop k e.input.builds))
   scan_as (found.Builds scanned.Definition name k) other = ap (λ (ts : List Token). Some (Builds scanned.Definition name ts)) (top_is (drop k e.input.builds))
-  scan_as (found.Skipped line) other = refl
+  scan_as (found.SkippedText line) other = refl
 
   below_listed : (x : Found) → IsBelow (length e.input.builds) x → IsListed x e
   below_listed (found.Builds what name k) h = h
-  below_listed (found.Skipped line) h = tt
+  below_listed (found.SkippedText line) h = tt
 
   -- without a call
   module _ (sizes : Sizes) (book : Book) (uncalled : e.call ≡ None) where

@@ -20,7 +20,7 @@ use Rattle.plain_tokens.specs.Meanings.{met as met_token, token_meaning, is_expa
 use Rattle.plain_state.specs.Reports.{report_bytes, runaway_bytes}
 use Rattle.rows.specs.Readings.{Cut}
 use Rattle.plain_readings.specs.Readings.{Reading, fed_with}
-use Rattle.plain_readings.specs.Scanning.{Scanning, Builds, Skipped}
+use Rattle.plain_readings.specs.Scanning.{Scanning, Builds, SkippedText}
 use Rattle.plain_machine.specs.States.{State, Move, Written, Reported, Feeds}
 use Rattle.plain_tokens.specs.Tokens.{space_token, is_outer}
 use Rattle.plain_machine.specs.Plan.{Page, style_of, wanted, reported, check_noted, put_one, page_behind, incomplete, checked, met, met_outer}
@@ -274,11 +274,11 @@ module _ (e e1 : Engine) (book : Book) (page : page_of e1 book ≡ page_of e boo
 
   pub check_same : (check : Check) (x : Found) (rest : List Move) → check_moves e (page_of e book) check x rest ≡ check_moves e1 (page_of e1 book) check x rest
   check_same check (found.Builds what name k) rest = away_same what k (check_report check what name) rest
-  check_same check (found.Skipped line) rest = ap (λ (p : Page). incomplete p line rest) (sym page)
+  check_same check (found.SkippedText line) rest = ap (λ (p : Page). incomplete p line rest) (sym page)
 
 pub found_still : (e e1 : Engine) (x : Found) → SameFrames e e1 → IsFound x e → IsFound x e1
 found_still e e1 (found.Builds what name k) same h = scanned_still what k e e1 same.calling same.lists h
-found_still e e1 (found.Skipped line) same h = tt
+found_still e e1 (found.SkippedText line) same h = tt
 
 -- so is the report of the innermost conditional
 pub incomplete_same : (e e1 : Engine) (book : Book) (line test : ℕ) (rest : List Move) → page_of e1 book ≡ page_of e book → test ≡ innermost_test e1.conditionals.items →
@@ -331,7 +331,7 @@ seen_outer e book t x result b is outer here = ap (λ (y : Seen). is_outer y.mea
 -- what comes of what is found where the file has ended
 pub breaks_off : (e : Engine) (book : Book) (x : Found) → Finds x e book → checked (page_of e book) (scanning_of e book.work) ≡ check_moves e (page_of e book) FileEnded x []
 breaks_off e book (found.Builds what name k) is = ap (checked (page_of e book)) is
-breaks_off e book (found.Skipped line) is = ap (checked (page_of e book)) is
+breaks_off e book (found.SkippedText line) is = ap (checked (page_of e book)) is
 
 -- and nothing does where nothing is scanned
 pub unchecked : (sizes : Sizes) (e : Engine) (book : Book) (w : World) → scanning_of e book.work ≡ None → AllStand sizes e book → Went sizes (state_of e book) e w w (checked (page_of e book) (scanning_of e book.work)) 0
@@ -343,9 +343,9 @@ pub meets_found : (e : Engine) (book : Book) (x : Found) (want : Want) (t : Toke
 meets_found e book (found.Builds what name k) want t outer is =
     ap (λ (o : Option Scanning). token_moves (page_of e book) o (onward_of (page_of e book) (Some want) book.work) t) is
     ∙ outer_meets (page_of e book) (Some (Builds what name (scanned_list what k e))) (onward_of (page_of e book) (Some want) book.work) t outer
-meets_found e book (found.Skipped line) want t outer is =
+meets_found e book (found.SkippedText line) want t outer is =
     ap (λ (o : Option Scanning). token_moves (page_of e book) o (onward_of (page_of e book) (Some want) book.work) t) is
-    ∙ outer_meets (page_of e book) (Some (Skipped line)) (onward_of (page_of e book) (Some want) book.work) t outer
+    ∙ outer_meets (page_of e book) (Some (SkippedText line)) (onward_of (page_of e book) (Some want) book.work) t outer
 
 -- where something is scanned, some reading wants the token
 pub by_some : (P : Option Want → Type 0) (want : Option Want) → IsSome want → ((w : Want) → P (Some w)) → P want

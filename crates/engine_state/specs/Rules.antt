@@ -144,17 +144,17 @@ IsScanned what k e = k < length e.input.builds
 -- what is found is such a thing, or text that is skipped
 abbrev pub IsFound : Found → Engine → Type 0
 IsFound (found.Builds what name k) e = IsScanned what k e
-IsFound (found.Skipped line) e = Unit {0}
+IsFound (found.SkippedText line) e = Unit {0}
 
 -- a list that it builds is held
 abbrev pub IsListed : Found → Engine → Type 0
 IsListed (found.Builds what name k) e = k < length e.input.builds
-IsListed (found.Skipped line) e = Unit {0}
+IsListed (found.SkippedText line) e = Unit {0}
 
 -- what is found is what the machine scans
 abbrev pub scanned_as : Found → Engine → Scanning
 scanned_as (found.Builds what name k) e = machine.Builds what name (scanned_list what k e)
-scanned_as (found.Skipped line) e = machine.Skipped line
+scanned_as (found.SkippedText line) e = machine.SkippedText line
 
 abbrev pub Finds : Found → Engine → Book → Type 0
 Finds x e book = scanning_of e book.work ≡ Some (scanned_as x e)
@@ -162,7 +162,7 @@ Finds x e book = scanning_of e book.work ≡ Some (scanned_as x e)
 -- what comes of it at a check: it runs away, or text that is skipped ends with a `\fi` that is inserted
 abbrev pub check_moves : Engine → Page → Check → Found → (rest : List Move) → List Move
 check_moves e page check (found.Builds what name k) rest = away_moves page what (away_text what k e) (check_report check what name) rest
-check_moves e page check (found.Skipped line) rest = incomplete page line rest
+check_moves e page check (found.SkippedText line) rest = incomplete page line rest
 
 -- such a token is wanted: by a call that takes tokens, as it stands, by the innermost frame, or where no reading is open
 abbrev pub WantsHere : Option Call → Option Want → Engine → Type 0

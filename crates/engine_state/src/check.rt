@@ -89,7 +89,7 @@ impl Engine {
     {
         match found {
             Found::Builds(_, _, number) => (number as usize) < self.input.list_count(),
-            Found::Skipped(_) => true,
+            Found::SkippedText(_) => true,
         }
     }
 
@@ -216,7 +216,7 @@ impl Engine {
             Found::Builds(what, name, number) => {
                 self.run_away(out, what, number, check.report(what, name))
             }
-            Found::Skipped(line) => self.insert_fi(out, line),
+            Found::SkippedText(line) => self.insert_fi(out, line),
         }
     }
 

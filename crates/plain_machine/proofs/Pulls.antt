@@ -24,7 +24,7 @@ use Rattle.rows.specs.declared.command.Call.{Call}
 use Rattle.rows.specs.declared.command.Effect.{Effect}
 use Rattle.rows.specs.Readings.{Fed, Ask}
 use Rattle.plain_readings.specs.Readings.{Kind, Skips, Reading}
-use Rattle.plain_readings.specs.Scanning.{Scanning, Builds, Skipped as Ignored}
+use Rattle.plain_readings.specs.Scanning.{Scanning, Builds, SkippedText}
 use Rattle.plain_machine.specs.States.{State, Files, Move, Handed, Taken, FirstTaken, Settled, Skipped, FileClosed, FileOpened, Spelt, NameInProgress, Begun, BegunWith, Closed, Written, Stopped}
 use Rattle.plain_machine.specs.Plan.{Page, style_of, met, met_outer, entered, checked, check_noted, ran_away, away_text, page_behind, reported, reports_room, put_text, put_characters, is_expandable_primitive, expansion, unless_expanded, called, stomach, wanted, expanded, expanded_as, feeding_kind, given_back, acts, list_given, unless_found, input_begun, answered}
 use Rattle.plain_machine.specs.Runs.{step_of, steps}
@@ -180,7 +180,7 @@ met_outer_none page None t onward h = h (met_token page.now.meanings t)
 met_outer_none page (Some (Builds what name list)) t onward h =
     let behind : List Move = onward (met_token page.now.meanings space_token) in
     omega (arith, away_none page (reports.Forbidden what name) what list behind (h (met_token page.now.meanings space_token)))
-met_outer_none page (Some (Ignored line)) t onward h =
+met_outer_none page (Some (SkippedText line)) t onward h =
     let report : Report = reports.IncompleteConditional (innermost_test page.conditionals) line in
     omega (arith, reported_none page report (onward (met_token page.now.meanings space_token)) (h (met_token page.now.meanings space_token)))
 

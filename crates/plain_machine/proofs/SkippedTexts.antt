@@ -30,7 +30,7 @@ use Rattle.rows.specs.declared.command.Effect.{Effect}
 use Rattle.rows.specs.declared.command.Effect.TheVariants as effect
 use Rattle.rows.specs.Readings.{Fed, Tok, Val, Ask, More, Acts, ActsOn, Ends as Closes}
 use Rattle.plain_readings.specs.Readings.{Kind, Skips, Reading, ask, fed_with}
-use Rattle.plain_readings.specs.Scanning.{Scanning, Skipped as Ignored, scanning}
+use Rattle.plain_readings.specs.Scanning.{Scanning, SkippedText, scanning}
 use Rattle.plain_readings.specs.Skips.{skipping, ended}
 use Rattle.plain_machine.specs.States.{State, Files, Move, Handed, Taken, FirstTaken, Settled, Skipped, FileClosed, FileOpened, Spelt, NameInProgress, Feeds, CalledWith, Defined, ListSet, Begun, BegunWith, Ended, Closed, Written, Stopped, made}
 use Rattle.plain_machine.specs.Plan.{Page, page_of, style_of, plan, planned, ruled, answered, handed, met, met_outer, entered, checked, at_line, reported, reports_room, behind_report, stomach, wanted, enters_names, feeding, given_back, reached, input_begun, unless_found, no_end, Ends, Goes, next, job_due, first_state}
@@ -316,22 +316,22 @@ module _ (page : Page) (line : ℕ) where
   feeds_behind : (x : Seen) → FeedsLast (behind_report (style_of page) page.reports (feeds x))
   feeds_behind x = one_of FeedsLast (nat_lt page.reports reports_room) (feeds x) (Written Transcript (hundred_line (style_of page)) ∷ Stopped (AtFatal HundredErrors) ∷ []) tt tt
 
-  met_feeds : (x : Seen) → FeedsLast (met page (Some (Ignored line)) feeds x)
+  met_feeds : (x : Seen) → FeedsLast (met page (Some (SkippedText line)) feeds x)
   met_feeds x =
-      one_of FeedsLast (is_outer x.meaning) (met_outer page (Some (Ignored line)) x.token feeds) (feeds x) (feeds_behind (met_token page.now.meanings space_token)) tt
+      one_of FeedsLast (is_outer x.meaning) (met_outer page (Some (SkippedText line)) x.token feeds) (feeds x) (feeds_behind (met_token page.now.meanings space_token)) tt
 
-  skips_handed : (n : ℕ) (s : State) → AreShort n s.work → (r : Pulled) → Safe n (handed page false (Some (Ignored line)) feeds r) s
+  skips_handed : (n : ℕ) (s : State) → AreShort n s.work → (r : Pulled) → Safe n (handed page false (Some (SkippedText line)) feeds r) s
   skips_handed n s i (TokenFrom t q) =
       let x : Seen = met_token page.now.meanings t in
-      (i, (short_later n (n + 0) s.work (omega arith) i, feeds_safe n (n + 0 + 1) (met page (Some (Ignored line)) feeds x) _ (omega arith) (met_feeds x) i))
+      (i, (short_later n (n + 0) s.work (omega arith) i, feeds_safe n (n + 0 + 1) (met page (Some (SkippedText line)) feeds x) _ (omega arith) (met_feeds x) i))
   skips_handed n s i (LexemeFrom x q) =
       let names : List (List ℕ) = new_name false page.names x in
-      let ms : List Move = met page (Some (Ignored line)) feeds (met_token page.now.meanings (token_of false page.names x)) in
+      let ms : List Move = met page (Some (SkippedText line)) feeds (met_token page.now.meanings (token_of false page.names x)) in
       (i, (short_later n (n + 0) s.work (omega arith) i, feeds_safe n (n + 0 + 1) (entered names ++ ms) _ (omega arith) (feeds_entered names ms (met_feeds (met_token page.now.meanings (token_of false page.names x)))) i))
   skips_handed n s i (LineTaken line q) = calm_safe n (Settled ∷ Taken line ∷ []) s tt i
   skips_handed n s i (InvalidMet q) = calm_safe n (Settled ∷ Skipped ∷ reported page InvalidCharacter []) s (calm_behind (style_of page) page.reports) i
   skips_handed n s i (FileOver q) =
-      calm_safe n (Settled ∷ FileClosed ∷ checked (at_line q.number page) (Some (Ignored line))) s (calm_behind (style_of page) page.reports) i
+      calm_safe n (Settled ∷ FileClosed ∷ checked (at_line q.number page) (Some (SkippedText line))) s (calm_behind (style_of page) page.reports) i
   skips_handed n s i NothingLeft = calm_safe n (Settled ∷ no_end page) s tt i
 
 -- THE RULE

@@ -12,7 +12,7 @@ use Rattle.plain_readings.specs.Readings.{Kind, Reads, Arguments, Skips, Reading
 -- it counts as what is read around it.
 pub data Status : Type 0 where
   Scans : Scanned → Name → Status
-  Ignores : (line : ℕ) → Status
+  SkipsText : (line : ℕ) → Status
   Unguarded : Status
   Inherits : Status
 
@@ -25,13 +25,13 @@ status (Reads (Command c)) = command_status (reads_under_normal c.head)
 status (Reads (Text name expanded)) = Scans scanned.Text name
 status (Reads (Definition name expanded)) = Scans scanned.Definition name
 status (Arguments name long number ts) = Scans scanned.Use name
-status (Skips c aim line) = Ignores line
+status (Skips c aim line) = SkipsText line
 status k = Inherits
 
 -- what is read, under its name, with its list as far as it is built; or what is skipped, from this line on
 pub data Scanning : Type 0 where
   Builds : Scanned → Name → (list : List Token) → Scanning
-  Skipped : (line : ℕ) → Scanning
+  SkippedText : (line : ℕ) → Scanning
 
 -- the first of so many lists; where there is none, that of no token
 abbrev pub first_of : (count : ℕ) → List (List Token) → List Token
@@ -41,7 +41,7 @@ first_of (suc n) (ts ∷ held) = ts
 
 abbrev pub scanned_at : Status → (list : List Token) → (around : Option Scanning) → Option Scanning
 scanned_at (Scans what name) list around = Some (Builds what name list)
-scanned_at (Ignores line) list around = Some (Skipped line)
+scanned_at (SkipsText line) list around = Some (SkippedText line)
 scanned_at s list around = around
 
 -- The innermost text, definition or call, or text that is skipped; of the lists of all readings, the innermost's first, each reading has as many as it

@@ -35,7 +35,7 @@ use Rattle.plain_readings.specs.Integers.{ends_with}
 use Rattle.plain_readings.specs.Keywords.{ends_found}
 use Rattle.plain_readings.specs.Calls.{par_token}
 use Rattle.plain_readings.specs.Readings.{Kind, Reads, Spelling, FileName, Behind, Skips, Arguments, Reading, ask, lists}
-use Rattle.plain_readings.specs.Scanning.{Scanning, Builds, Skipped, scanning}
+use Rattle.plain_readings.specs.Scanning.{Scanning, Builds, SkippedText, scanning}
 
 -- what a reading asks for before each item and behind the last, and the lists that it holds then
 abbrev pub steps : Kind → List Fed → List Ask
@@ -486,8 +486,8 @@ pub record WorkedChecks : Type 0 where
   pub argument :
       scanning (a_call (Tok b_letter ∷ []) ∷ a_text ∷ []) ([] ∷ (b_token ∷ []) ∷ (a_token ∷ []) ∷ []) ≡
       Some (Builds scanned.Use x_name [])
-  pub skipped : scanning (a_skip ∷ a_text ∷ []) ((a_token ∷ []) ∷ []) ≡ Some (Skipped 3)
-  pub within_skipped : scanning (an_integer ∷ a_skip ∷ a_text ∷ []) ((a_token ∷ []) ∷ []) ≡ Some (Skipped 3)
+  pub skipped : scanning (a_skip ∷ a_text ∷ []) ((a_token ∷ []) ∷ []) ≡ Some (SkippedText 3)
+  pub within_skipped : scanning (an_integer ∷ a_skip ∷ a_text ∷ []) ((a_token ∷ []) ∷ []) ≡ Some (SkippedText 3)
   pub command : scanning (a_command 9 ∷ []) [] ≡ None
   pub none : scanning [] [] ≡ None
 

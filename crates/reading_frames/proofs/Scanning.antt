@@ -5,7 +5,7 @@ use Rattle.std.proofs.lemmas.List.{drop-drop, reverse-append}
 use Rattle.tex_defs.specs.declared.Token.{Token}
 use Rattle.rows.specs.Table.{reads_under_normal}
 use Rattle.plain_readings.specs.Readings.{Reading, lists}
-use Rattle.plain_readings.specs.Scanning.{Status, Scans, Ignores, Unguarded, Inherits, command_status, status, Scanning, first_of, scanned_at, innermost_scanned, scanning}
+use Rattle.plain_readings.specs.Scanning.{Status, Scans, SkipsText, Unguarded, Inherits, command_status, status, Scanning, first_of, scanned_at, innermost_scanned, scanning}
 use Rattle.plain_readings.specs.Scanning as machine
 use Rattle.reading_frames.specs.Sees.{Lists, top_list}
 use Rattle.reading_frames.specs.Resumes.{list_count, frame_status, read_at, reads_unguarded}
@@ -42,7 +42,7 @@ on_top (Skips scan) held o = refl
 
 found_scanned : (s : Status) (n : ℕ) (held : Lists) (o : Option Found) → scanning_of held (found_at s n o) ≡ scanned_at s (top_list (drop n held)) (scanning_of held o)
 found_scanned (Scans what name) n held o = refl
-found_scanned (Ignores line) n held o = refl
+found_scanned (SkipsText line) n held o = refl
 found_scanned Unguarded n held o = refl
 found_scanned Inherits n held o = refl
 
@@ -63,7 +63,7 @@ among (f ∷ fs) n held (r ∷ rs) stands =
 
 guarded : (s : Status) (held : Lists) (o : Option Found) → machine.unless_unguarded s (scanning_of held o) ≡ scanning_of held (unless_unguarded s o)
 guarded (Scans what name) held o = refl
-guarded (Ignores line) held o = refl
+guarded (SkipsText line) held o = refl
 guarded Unguarded held o = refl
 guarded Inherits held o = refl
 
@@ -96,13 +96,13 @@ one_more fs i n f h = rw (take-suc fs i f h) (ap (λ (gs : List Frame). innermos
 -- one in which nothing is read
 around : (s : Status) (n : ℕ) (o : Option Found) → read_at s n ≡ None → found_at s n o ≡ o
 around (Scans what name) n o h = absurd cc
-around (Ignores line) n o h = absurd cc
+around (SkipsText line) n o h = absurd cc
 around Unguarded n o h = refl
 around Inherits n o h = refl
 
 read_here : (s : Status) (n : ℕ) (o : Option Found) (found : Found) → read_at s n ≡ Some found → found_at s n o ≡ Some found
 read_here (Scans what name) n o found h = h
-read_here (Ignores line) n o found h = h
+read_here (SkipsText line) n o found h = h
 read_here Unguarded n o found h = absurd cc
 read_here Inherits n o found h = absurd cc
 
@@ -129,13 +129,13 @@ unguarded_found f fs h = none (frame_status f) (innermost_found (f ∷ fs) 0) h
   where
     none : (s : Status) (o : Option Found) → reads_unguarded s ≡ true → unless_unguarded s o ≡ None
     none (Scans what name) o h = absurd cc
-    none (Ignores line) o h = absurd cc
+    none (SkipsText line) o h = absurd cc
     none Unguarded o h = refl
     none Inherits o h = absurd cc
 
 guarded_same : (s : Status) (o : Option Found) → reads_unguarded s ≡ false → unless_unguarded s o ≡ o
 guarded_same (Scans what name) o h = refl
-guarded_same (Ignores line) o h = refl
+guarded_same (SkipsText line) o h = refl
 guarded_same Unguarded o h = absurd cc
 guarded_same Inherits o h = refl
 

@@ -190,15 +190,6 @@ build_told s new list e h =
 
 -- `\csname`
 
-name_told_at : (c : Call) (p : SpellPlace) → IsNoted (name_at c p [] []) → ask_weight behind_weight (name_at c p [] (Told ∷ [])) < ask_weight behind_weight (name_at c p [] [])
-name_told_at c spell.Inside h = absurd h
-name_told_at c spell.NoEnd h = omega arith
-name_told_at c spell.Whole h = absurd h
-name_told_at c spell.Stopped h = absurd h
-
-pub name_told : (s : SpellScan) → IsNoted (resume_name s [] []) → ask_weight behind_weight (resume_name s [] (Told ∷ [])) < ask_weight behind_weight (resume_name s [] [])
-name_told s h = name_told_at s.call s.place h
-
 name_light_at : (c : Call) (p : SpellPlace) → ask_weight behind_weight (name_at c p [] []) ≤ 61
 name_light_at c spell.Inside = omega arith
 name_light_at c spell.NoEnd = omega arith
@@ -293,15 +284,6 @@ most_fed f e new = omega (arith, e, all_light new)
 pub command_fed : (f : Frame) (s : CommandScan) (h : Head) (new : Frame) → f ≡ Command s h → asks_weight new ≤ fed_weight f
 command_fed f s h new is = most_fed f (ap fed_weight is) new
 
-pub spelling_fed : (f : Frame) (s : SpellScan) (new : Frame) → f ≡ Spelling s → asks_weight new ≤ fed_weight f
-spelling_fed f s new is = most_fed f (ap fed_weight is) new
-
-pub file_fed : (f : Frame) (s : FileScan) (new : Frame) → f ≡ FileName s → asks_weight new ≤ fed_weight f
-file_fed f s new is = most_fed f (ap fed_weight is) new
-
-pub behind_fed : (f : Frame) (c : Call) (x : Seen) (new : Frame) → f ≡ Behind c x → asks_weight new ≤ fed_weight f
-behind_fed f c x new is = most_fed f (ap fed_weight is) new
-
 pub number_fed : (f : Frame) (s new : NumberScan) (x : Seen) → f ≡ Integer s → ((fed : List Fed) → number.resume s (Tok x ∷ fed) ≡ number.resume new fed) → asks_weight (Integer new) ≤ fed_weight f
 number_fed f s new x is e =
     let same = ap (λ (a : Ask). ask_weight value_weight a) (e []) in
@@ -322,9 +304,6 @@ glue_fed f s new is = omega (arith, ap fed_weight is, glue_light new)
 
 pub keyword_fed : (f : Frame) (s new : KeywordScan) → f ≡ Keyword s → keyword.kept_in new ≤ keyword.kept_in s + 1 → asks_weight (Keyword new) ≤ fed_weight f
 keyword_fed f s new is more = omega (arith, ap fed_weight is, more, keyword_light new)
-
-pub build_fed : (f : Frame) (s new : BuildScan) → f ≡ Build s → asks_weight (Build new) ≤ fed_weight f
-build_fed f s new is = omega (arith, ap fed_weight is, build_at_light new.manner new.place [])
 
 -- BEHIND A NOTE a frame that reported weighs less.
 

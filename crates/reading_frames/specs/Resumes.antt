@@ -18,7 +18,7 @@ use Rattle.rows.specs.Readings as reading
 use Rattle.row_frames.specs.Resumes as row
 use Rattle.rows.specs.Table.{reads_under_normal}
 use Rattle.plain_readings.specs.Readings.{kept_list}
-use Rattle.plain_readings.specs.Scanning.{Status, Scans, Ignores, Unguarded, Inherits, command_status}
+use Rattle.plain_readings.specs.Scanning.{Status, Scans, SkipsText, Unguarded, Inherits, command_status}
 use Rattle.plain_readings.specs.Lists.{build_fed, build_ask, built}
 use Rattle.plain_readings.specs.Spelling.{spelling, characters, endcsname_missing, makes}
 use Rattle.plain_readings.specs.FileNames.{file_naming, file_characters, opens}
@@ -32,7 +32,7 @@ use Rattle.scan_glue.specs.GlueResumes as glue
 use Rattle.reading_frames.specs.declared.ask.Ask.{Ask as Answer}
 use Rattle.reading_frames.specs.declared.ask.Ask.TheVariants as answer
 use Rattle.reading_frames.specs.declared.ask.Found.{Found}
-use Rattle.reading_frames.specs.declared.ask.Found.TheVariants.{Builds, Skipped}
+use Rattle.reading_frames.specs.declared.ask.Found.TheVariants.{Builds, SkippedText}
 use Rattle.reading_frames.specs.declared.ask.Grown.{Grown}
 use Rattle.reading_frames.specs.declared.command.CommandScan.{CommandScan}
 use Rattle.reading_frames.specs.declared.command.CommandScan.TheVariants as command
@@ -227,13 +227,13 @@ built_as false = scanned.Text
 abbrev pub frame_status : Frame → Status
 frame_status (Command scan head) = command_status (reads_under_normal head)
 frame_status (Build scan) = Scans (built_as scan.defines) scan.manner.name
-frame_status (Skips scan) = Ignores scan.line
+frame_status (Skips scan) = SkipsText scan.line
 frame_status f = Inherits
 
 -- what is read at a check, where a reading is of this status and its list has this number; and whether it reads its token under normal status
 abbrev pub read_at : Status → (number : ℕ) → Option Found
 read_at (Scans what name) n = Some (Builds what name n)
-read_at (Ignores line) n = Some (Skipped line)
+read_at (SkipsText line) n = Some (SkippedText line)
 read_at s n = None
 
 abbrev pub reads_unguarded : Status → Bool

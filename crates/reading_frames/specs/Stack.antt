@@ -8,14 +8,14 @@ use Rattle.plain_tokens.specs.Puts.{grow_first}
 use Rattle.rows.specs.Readings as reading
 use Rattle.rows.specs.Readings.{Fed, More, Entered}
 use Rattle.plain_readings.specs.Readings.{Reading, ask, fed_with}
-use Rattle.plain_readings.specs.Scanning.{Status, Scans, Ignores, Unguarded, Scanning}
+use Rattle.plain_readings.specs.Scanning.{Status, Scans, SkipsText, Unguarded, Scanning}
 use Rattle.plain_readings.specs.Scanning as machine
 use Rattle.reading_frames.specs.Sees.{Lists, top_list, ask_of}
 use Rattle.reading_frames.specs.Resumes.{resume, building, list_count, frame_status, groups}
 use Rattle.reading_frames.specs.Stands.{FramesStand, AreShallow}
 use Rattle.reading_frames.specs.declared.ask.Ask.{Ask}
 use Rattle.reading_frames.specs.declared.ask.Found.{Found}
-use Rattle.reading_frames.specs.declared.ask.Found.TheVariants.{Builds, Skipped}
+use Rattle.reading_frames.specs.declared.ask.Found.TheVariants.{Builds, SkippedText}
 use Rattle.reading_frames.specs.declared.frame.Frame.{Frame}
 
 pub record Stack : Type 0 where
@@ -85,7 +85,7 @@ with_innermost (Some f) fs = in_place f fs
 -- WHAT IS READ AT A CHECK. What is read itself has the list of this number among those that are held, the innermost being number 0.
 abbrev pub found_at : Status → ℕ → (around : Option Found) → Option Found
 found_at (Scans what name) n around = Some (Builds what name n)
-found_at (Ignores line) n around = Some (Skipped line)
+found_at (SkipsText line) n around = Some (SkippedText line)
 found_at s n around = around
 
 -- the innermost of these, over so many lists of those within
@@ -105,7 +105,7 @@ found_in (f ∷ fs) = unless_unguarded (frame_status f) (innermost_found (f ∷ 
 abbrev pub scanning_of : Lists → Option Found → Option Scanning
 scanning_of held None = None
 scanning_of held (Some (Builds what name n)) = Some (machine.Builds what name (top_list (drop n held)))
-scanning_of held (Some (Skipped line)) = Some (machine.Skipped line)
+scanning_of held (Some (SkippedText line)) = Some (machine.SkippedText line)
 
 -- A TOKEN OF A LIST enters an expanded text as it stands: the innermost frame, which asks for a token that is copied, stands as it is for its reading
 -- that is fed with that token too, whose list has it, and asks for another so.

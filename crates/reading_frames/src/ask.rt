@@ -14,7 +14,7 @@ pub enum Opening {
     FileName(Call),
     /// The command is `\expandafter`.
     Behind(Call, Seen),
-    /// The command is a conditional, which seeks this, from this line on, counted from 1.
+    /// The command is a conditional, which seeks this, and the number of the line where skipping begins.
     Skips(Call, Aim, u64),
 }
 
@@ -61,8 +61,8 @@ pub struct Grown {
 pub enum Found {
     /// This, under its name, with the number of its list among those that are held, the innermost being number 0.
     Builds(Scanned, Name, u32),
-    /// Text is skipped, from this line on, counted from 1.
-    Skipped(u64),
+    /// Text is skipped, and the number of the line where that began.
+    SkippedText(u64),
 }
 
 impl Grown {

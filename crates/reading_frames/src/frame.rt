@@ -420,7 +420,7 @@ impl Frame {
     {
         match self {
             Frame::Build(scan) => Some(Found::Builds(scan.what(), scan.manner.name, number)),
-            Frame::Skips(scan) => Some(Found::Skipped(scan.line)),
+            Frame::Skips(scan) => Some(Found::SkippedText(scan.line)),
             _ => None,
         }
     }

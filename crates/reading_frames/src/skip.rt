@@ -25,7 +25,7 @@ pub enum SkipPlace {
     Stopped,
 }
 
-/// The reading of text that a conditional skips, which seeks this, from this line on, counted from 1.
+/// The reading of text that a conditional skips, which seeks this, and the number of the line where skipping began.
 #[derive(Clone, Copy)]
 pub struct SkipScan {
     pub call: Call,

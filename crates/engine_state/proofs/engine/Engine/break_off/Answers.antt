@@ -10,11 +10,11 @@ returns-in-Builds-clause-last g c = rw (c.in-Builds.is, sym c.report.ensures) c.
 pub returns-in-Builds-clause-err : goal.returns-in-Builds-clause-err
 returns-in-Builds-clause-err g c = rw (c.in-Builds.is, sym c.report.ensures) c.run_away.ensures.err
 
-pub returns-in-Skipped-clause-on : goal.returns-in-Skipped-clause-on
-returns-in-Skipped-clause-on g c = rw c.in-Skipped.is c.insert_fi.ensures.on
+pub returns-in-SkippedText-clause-on : goal.returns-in-SkippedText-clause-on
+returns-in-SkippedText-clause-on g c = rw c.in-SkippedText.is c.insert_fi.ensures.on
 
-pub returns-in-Skipped-clause-last : goal.returns-in-Skipped-clause-last
-returns-in-Skipped-clause-last g c = rw c.in-Skipped.is c.insert_fi.ensures.last
+pub returns-in-SkippedText-clause-last : goal.returns-in-SkippedText-clause-last
+returns-in-SkippedText-clause-last g c = rw c.in-SkippedText.is c.insert_fi.ensures.last
 
-pub returns-in-Skipped-clause-err : goal.returns-in-Skipped-clause-err
-returns-in-Skipped-clause-err g c = rw c.in-Skipped.is c.insert_fi.ensures.err
+pub returns-in-SkippedText-clause-err : goal.returns-in-SkippedText-clause-err
+returns-in-SkippedText-clause-err g c = rw c.in-SkippedText.is c.insert_fi.ensures.err
