@@ -1,5 +1,5 @@
 -- The macros that the input holds keep their numbers.
-use Rattle.std.proofs.Common.{◌≡◌, ℕ, zero, suc, ◌+◌, ◌<◌, ◌≤◌, List, [], ◌∷◌, length, Option, None, inl, inr, refl, sym, ap, ◌∙◌, subst, true, arith}
+use Rattle.std.proofs.Common.{◌≡◌, ℕ, zero, suc, ◌+◌, ◌<◌, ◌≤◌, Bool, List, [], ◌∷◌, length, Option, None, inl, inr, refl, sym, ap, ◌∙◌, subst, true, arith}
 use Rattle.std.specs.Prelude.{slice_index_or}
 use Rattle.std.proofs.lemmas.Bool.{cases_lt}
 use Rattle.std.proofs.lemmas.List.{get_or_past}
@@ -130,6 +130,19 @@ sized_still sizes e e' own depth conditionals names reports store h = record {
   input = store.sizes ∙ h.input;
   names = ap (λ (n : Strings). n.sizes) names ∙ h.names;
   located = ap (λ (g : Groups). length g.now.meanings) store.groups ∙ h.located ∙ ap (λ (n : Strings). 514 + length n.names) (sym names);
+}
+
+-- others stand open, in as much room, and a name of a file is read or not
+pub sized_but : (sizes : Sizes) (e : Engine) (k : Conditions) (naming : Bool) → k.size ≡ e.conditionals.size → IsSized sizes e → IsSized sizes (record e { conditionals = k; naming = naming })
+sized_but sizes e k naming size h = record {
+  few_reports = h.few_reports;
+  small = h.small;
+  own = h.own;
+  readings = h.readings;
+  conditionals = size ∙ h.conditionals;
+  input = h.input;
+  names = h.names;
+  located = h.located;
 }
 
 -- the count of reports changed

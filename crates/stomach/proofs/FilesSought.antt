@@ -33,7 +33,7 @@ use Rattle.engine_state.specs.Stands.{Stands, SameFrames, SameBut, state_of, pag
 use Rattle.engine_state.specs.Steps.{weight, pending_weight, readings_weight}
 use Rattle.engine_state.proofs.CuttingReadings.{in_by, later_in}
 use Rattle.engine_state.proofs.Joining.{quiet_here}
-use Rattle.engine_state.proofs.Storing.{store_settled}
+use Rattle.engine_state.proofs.Storing.{sized_but, store_settled}
 use Rattle.gullet.proofs.JobName.{name_stands}
 use Rattle.stomach.specs.Files.{input_front, Sought}
 use Rattle.stomach.specs.Naming.{IsTooLong, OnlySpelt}
@@ -88,16 +88,7 @@ spelt_room e e1 n only h = subst (λ (x : Engine). open_lines x.input.pending + 
 pub unnamed_stands : (sizes : Sizes) (e : Engine) (book : Book) (b : Bool) → Stands sizes e book → Stands sizes (record e { naming = b }) book
 unnamed_stands sizes e book b st = record {
   sound = record {
-    sized = record {
-      few_reports = st.sound.sized.few_reports;
-      small = st.sound.sized.small;
-      own = st.sound.sized.own;
-      readings = st.sound.sized.readings;
-      conditionals = st.sound.sized.conditionals;
-      input = st.sound.sized.input;
-      names = st.sound.sized.names;
-      located = st.sound.sized.located;
-    };
+    sized = sized_but sizes e e.conditionals b refl st.sound.sized;
     tied = st.sound.tied;
     bodies = st.sound.bodies;
   };
