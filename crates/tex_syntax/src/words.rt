@@ -124,7 +124,7 @@ pub enum Report {
     MissingRightBrace,
     /// "Missing = inserted for \ifnum": the number of the conditional, which has no relation behind its first value.
     MissingRelation(u16),
-    /// "Extra \else" and its like: the number of a `\fi`, an `\else` or an `\or` that no open conditional allows.
+    /// "Extra \else" and its like: the number of a `\fi`, an `\else` or an `\or` that the innermost open conditional doesn't allow, or with none open.
     ExtraFiOrElse(u16),
     /// "Incomplete \ifx; all text was ignored after line n": the number of the innermost open conditional, and the line on which skipping began.
     IncompleteConditional(u16, u64),
