@@ -4,16 +4,17 @@ use Rattle.std.specs.Prelude.{◌==◌, if◌then◌else◌}
 use Rattle.std.proofs.lemmas.Bool.Decides.{nat_tests}
 use Rattle.std.proofs.lemmas.List.{append-nil, length_push}
 use Rattle.tex_defs.specs.declared.Seen.{Seen}
+use Rattle.plain_tokens.specs.Pending.{next_number}
 use Rattle.conditionals.specs.declared.skip.Ender.{Ender}
 use Rattle.conditionals.specs.declared.skip.Part.{Part}
 use Rattle.conditionals.specs.declared.skip.Part.TheVariants.{Conditional, Ends, Plain}
-use Rattle.conditionals.specs.Skipping.{part, ender, ender_at, IsSkipped, GoesOn, greatest_count, one_more, ends_at, open_behind, counted_from, counted}
+use Rattle.conditionals.specs.Skipping.{part, ender, ender_at, IsSkipped, GoesOn, greatest_count, ends_at, open_behind, counted_from, counted}
 use Rattle.conditionals.specs.Laws.{TextsEndOnce, TextsAreCounted}
 use Rattle.conditionals.proofs.Fronts.{conditional_met, plain_met, ender_met, ended, few, begun}
 use Rattle.conditionals.proofs.Passed.{texts_end_once}
 
-one_more_below : (n : ℕ) → n < greatest_count → one_more n ≡ n + 1
-one_more_below n h = grind (arith, nat_tests)
+next_below : (n : ℕ) → n < greatest_count → next_number n ≡ n + 1
+next_below n h = grind (arith, nat_tests)
 
 some_open : (n : ℕ) (e : Ender) → ends_at n (Ends e) ≡ None → 0 < n
 some_open n e h = by_test (n == 0) refl h
@@ -32,7 +33,7 @@ none_open n d e h = by_test (n == 0) refl h
 -- A TOKEN that doesn't end the text, and one that does
 goes_on : (n : ℕ) (read : List Seen) (x : Seen) (p : Part) → part x.meaning ≡ p → n < greatest_count → GoesOn n read → ends_at n p ≡ None → GoesOn (open_behind n p) (read ++ x ∷ [])
 goes_on n read x Conditional is small g none =
-    subst (λ (d : ℕ). GoesOn d (read ++ x ∷ [])) (sym (one_more_below n small)) (conditional_met n read x is g)
+    subst (λ (d : ℕ). GoesOn d (read ++ x ∷ [])) (sym (next_below n small)) (conditional_met n read x is g)
 goes_on n read x (Ends e) is small g none = ender_met n read x e is (some_open n e none) g
 goes_on n read x Plain is small g none = plain_met n read x is g
 

@@ -20,8 +20,8 @@ is_test Test = true
 is_test l = false
 
 -- one begins, on this line
-abbrev pub opened : (test line : ℕ) → List Conditional → List Conditional
-opened test line cs = record { test = test; line = line; limit = Test } ∷ cs
+abbrev pub opened : (number line : ℕ) → List Conditional → List Conditional
+opened number line cs = record { number = number; line = line; limit = Test } ∷ cs
 
 -- how far the innermost has come
 abbrev pub limit_of : List Conditional → Option Limit
@@ -31,7 +31,7 @@ limit_of (c ∷ cs) = Some c.limit
 -- the number of the innermost, or 0
 abbrev pub innermost_test : List Conditional → ℕ
 innermost_test [] = 0
-innermost_test (c ∷ cs) = c.test
+innermost_test (c ∷ cs) = c.number
 
 -- how many stand above the innermost whose test is under way: its test left them open
 abbrev pub above : List Conditional → ℕ

@@ -1,4 +1,4 @@
--- The comparison of `\ifx`. The TeXbook, chapter 20; TeX: The Program, part 28 ("Test if two tokens agree", "two macro texts match").
+-- The comparison of `\ifx`. The TeXbook, chapter 20; TeX: The Program, part 28 ("Test if two tokens match", "Test if two macro texts match").
 use Rattle.std.specs.Prelude.{◌==◌, ◌&&◌, Bool, true, false, not}
 use Rattle.tex_defs.specs.declared.Meaning.{Meaning}
 use Rattle.tex_defs.specs.declared.Meaning.TheVariants.{Undefined, RelaxMarked, Char, CharGiven, MathGiven, Register, Prim, Macro}

@@ -1,20 +1,41 @@
 -- Skipped text. The TeXbook, chapter 20; TeX: The Program, part 28 (`pass_text`).
-use Rattle.std.specs.Prelude.{ℕ, suc, ◌+◌, ◌-◌, ◌<◌, ◌==◌, ◌&&◌, nat_le, ◌≡◌, Bool, true, false, if◌then◌else◌, List, [], ◌∷◌, take, count_by, slice_get, Option, Some, None}
+use Rattle.std.specs.Prelude.{ℕ, suc, ◌+◌, ◌-◌, ◌<◌, ◌==◌, ◌≡◌, Bool, true, false, if◌then◌else◌, List, [], ◌∷◌, take, count_by, slice_get, Option, Some, None}
 use Rattle.tex_defs.specs.declared.Meaning.{Meaning}
 use Rattle.tex_defs.specs.declared.Meaning.TheVariants as means
 use Rattle.tex_defs.specs.declared.Seen.{Seen}
+use Rattle.plain_tokens.specs.Categories.{is_between}
+use Rattle.plain_tokens.specs.Meanings.{fi_primitive}
+use Rattle.plain_tokens.specs.Pending.{next_number}
 use Rattle.conditionals.specs.declared.skip.Ender.{Ender}
 use Rattle.conditionals.specs.declared.skip.Ender.TheVariants.{Fi, Else, Or}
 use Rattle.conditionals.specs.declared.skip.Part.{Part}
 use Rattle.conditionals.specs.declared.skip.Part.TheVariants.{Conditional, Ends, Plain}
 
--- TOKENS count by their meanings: the primitives 65 to 81 are the conditionals, 82 is `\fi`, 83 `\else` and 84 `\or`.
+-- THE PRIMITIVES, from `\if` to `\ifcase`, and behind them `\fi`, `\else` and `\or`
+abbrev pub first_conditional : ℕ
+first_conditional = 65
+
+abbrev pub last_conditional : ℕ
+last_conditional = 81
+
+abbrev pub else_primitive : ℕ
+else_primitive = 83
+
+abbrev pub or_primitive : ℕ
+or_primitive = 84
+
+abbrev pub ender_number : Ender → ℕ
+ender_number Fi = fi_primitive
+ender_number Else = else_primitive
+ender_number Or = or_primitive
+
+-- TOKENS count by their meanings
 abbrev pub part : Meaning Unit → Part
 part (means.Prim n) =
-    if nat_le 65 n && nat_le n 81 then Conditional
-    else if n == 82 then Ends Fi
-    else if n == 83 then Ends Else
-    else if n == 84 then Ends Or
+    if is_between first_conditional last_conditional n then Conditional
+    else if n == fi_primitive then Ends Fi
+    else if n == else_primitive then Ends Else
+    else if n == or_primitive then Ends Or
     else Plain
 part m = Plain
 
@@ -57,13 +78,10 @@ pub record GoesOn (depth : ℕ) (text : List Seen) : Type 0 where
   pub level : conditionals text ≡ fis text + depth
   pub none : (k : ℕ) → ender_at text k ≡ None
 
--- BY A COUNT, which stands still at 2^64 - 1. A text that is shorter has fewer conditionals.
+-- BY A COUNT, which stands still at 2^64 - 1, as a line's number does. A text that is shorter has fewer conditionals.
 
 abbrev pub greatest_count : ℕ
 greatest_count = 18446744073709551615
-
-abbrev pub one_more : ℕ → ℕ
-one_more n = if n == greatest_count then n else n + 1
 
 -- as what a token ends the text in which so many are open
 abbrev pub ends_at : (depth : ℕ) → Part → Option Ender
@@ -77,7 +95,7 @@ depth_behind e n = n
 
 -- behind a token that doesn't end it
 abbrev pub open_behind : (depth : ℕ) → Part → ℕ
-open_behind n Conditional = one_more n
+open_behind n Conditional = next_number n
 open_behind n (Ends e) = depth_behind e n
 open_behind n Plain = n
 

@@ -131,10 +131,10 @@ pub record WorkedSteps : Type 0 where
 
 -- in `\ifnum1=2\iftrue` on line 3, where the test of `\ifnum` left `\iftrue` open above its own conditional
 abbrev pub an_ifnum : Conditional
-an_ifnum = record { test = 67; line = 3; limit = limit.Test }
+an_ifnum = record { number = 67; line = 3; limit = limit.Test }
 
 abbrev pub an_iftrue : Conditional
-an_iftrue = record { test = 79; line = 3; limit = limit.Branch }
+an_iftrue = record { number = 79; line = 3; limit = limit.Branch }
 
 abbrev pub left_open : List Conditional
 left_open = an_iftrue ∷ an_ifnum ∷ []

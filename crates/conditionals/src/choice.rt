@@ -54,7 +54,7 @@ pub enum Step {
     Ends(End),
 }
 
-/// A conditional whose test has its value, and that skips text.
+/// What a conditional seeks: by the value of its test, or its `\fi` behind a branch that was read.
 #[derive(Clone, Copy)]
 pub struct Choice {
     pub aim: Aim,
@@ -63,7 +63,7 @@ pub struct Choice {
 }
 
 /// What a conditional with a test of this value skips to.
-fn aim_of(value: Value) -> Aim
+pub fn aim_of(value: Value) -> Aim
     ensures { result ≡ choices.aim value }
 {
     match value {
@@ -79,34 +79,25 @@ fn aim_of(value: Value) -> Aim
     }
 }
 
-impl Choice {
-    ghost use Rattle.std.specs.Prelude.{◌≡◌, ◌<◌, List, [], ◌∷◌};
-    ghost use Rattle.conditionals.specs.declared.skip.Ender.{Ender};
-    ghost use Rattle.conditionals.specs.Choices.{end, passing, start, step, end_behind, passing_behind, IsOpen};
-
-    /// The test has this value, and left so many conditionals open above its own.
-    pub fn new(value: Value, above: u32) -> Choice
-        ensures is { result.aim ≡ choices.aim value }
-        ensures above { result.above ≡ above }
-        ensures end { (es : List Ender) → end (choices.aim value) above es ≡ end result.aim result.above es }
-        ensures passing { (es : List Ender) (e : Ender) → passing (choices.aim value) above es e ≡ passing result.aim result.above es e }
-    {
-        Choice {
-            aim: aim_of(value),
-            above,
-        }
-    }
+impl Aim {
+    ghost use Rattle.std.specs.Prelude.{◌≡◌};
 
     /// The limit with which text is read, where none is skipped.
     pub fn start(self) -> Option<Limit>
-        ensures { result ≡ start self.aim }
+        ensures { result ≡ choices.start self }
     {
-        match self.aim {
+        match self {
             Aim::Branch => Some(Limit::Branch),
             Aim::Case(0) => Some(Limit::Case),
             Aim::Case(_) | Aim::Other(_) | Aim::Fi => None,
         }
     }
+}
+
+impl Choice {
+    ghost use Rattle.std.specs.Prelude.{◌≡◌, ◌<◌, List, [], ◌∷◌};
+    ghost use Rattle.conditionals.specs.declared.skip.Ender.{Ender};
+    ghost use Rattle.conditionals.specs.Choices.{end, passing, start, step, end_behind, passing_behind, IsOpen};
 
     /// Takes the ender to which text was skipped.
     pub fn feed(self, ender: Ender) -> Step
@@ -115,7 +106,7 @@ impl Choice {
         ensures passing { (es : List Ender) (e : Ender) → passing_behind result (passing self.aim self.above [] ender) (passing self.aim self.above (ender ∷ es) e) es e }
         ensures goes_on { IsOpen result }
     {
-        if let Some(limit) = self.start() {
+        if let Some(limit) = self.aim.start() {
             Step::Ends(End::Reads(limit))
         } else if self.above > 0 {
             self.feed_above(ender)

@@ -9,7 +9,7 @@ mod open;
 mod same;
 mod skip;
 
-pub use choice::{Aim, Choice, End, Passing, Step, Value};
+pub use choice::{Aim, Choice, End, Passing, Step, Value, aim_of};
 pub use laws::{
     conditionals_are_passed, meanings_are_compared, texts_are_counted, texts_end_once,
     worked_conditionals,
@@ -17,4 +17,4 @@ pub use laws::{
 pub use limits::{Limit, Met, on_fi_or_else};
 pub use open::{Conditional, Conditionals, constant_test};
 pub use same::same_meaning;
-pub use skip::{Ender, Part, Skip, part_of};
+pub use skip::{Ender, Part, Skip, ender_number, part_of};

@@ -13,8 +13,8 @@ use tex_defs::{Full, Table};
 #[derive(Clone, Copy)]
 pub struct Conditional {
     /// The number of its primitive.
-    pub test: u16,
-    /// The line on which it began, from 1; 0 where no file was open.
+    pub number: u16,
+    /// The number of the line on which it began; 0 where no file was open.
     pub line: u64,
     pub limit: Limit,
 }
@@ -74,13 +74,6 @@ impl Conditionals {
         Ok(Conditionals { stack, size })
     }
 
-    /// How many there may be.
-    pub fn size(&self) -> u32
-        ensures { result ≡ self.now.size }
-    {
-        self.size
-    }
-
     /// How many are open.
     pub fn count(&self) -> u32
         ensures is { result ≡ length self.now.items }
@@ -93,8 +86,8 @@ impl Conditionals {
     ///
     /// # Errors
     /// As many are open as there may be. Nothing has changed then.
-    pub fn begin(&mut self, test: u16, line: u64) -> Result<(), Full>
-        ensures begins { OnOk result (self.new ≡ record { items = opened test line self.old.items; size = self.old.size }) }
+    pub fn begin(&mut self, number: u16, line: u64) -> Result<(), Full>
+        ensures begins { OnOk result (self.new ≡ record { items = opened number line self.old.items; size = self.old.size }) }
         ensures room { OnOk result (length self.old.items < self.old.size) }
         ensures full { IfErr result (λ full. full ≡ stack_full self.old) }
         ensures refused { IfErr result (λ full. self.old.size ≤ length self.old.items) }
@@ -109,7 +102,7 @@ impl Conditionals {
             });
         }
         self.stack.push_reserved(Conditional {
-            test,
+            number,
             line,
             limit: Limit::Test,
         });
@@ -127,7 +120,7 @@ impl Conditionals {
     pub fn innermost_test(&self) -> u16
         ensures { result ≡ innermost_test self.now.items }
     {
-        self.stack.last().map_or(0, |c| c.test)
+        self.stack.last().map_or(0, |c| c.number)
     }
 
     /// How many stand above the one for which this is sought: above the innermost, where it is a `\fi` alone, and else above the innermost

@@ -1,4 +1,4 @@
-// The comparison of `\ifx`. *The TeXbook*, chapter 20; *TeX: The Program*, part 28 ("Test if two characters match" and its like).
+// The comparison of `\ifx`. *The TeXbook*, chapter 20; *TeX: The Program*, part 28 ("Test if two tokens match").
 ghost use Rattle.std.specs.Prelude.{◌≡◌};
 ghost use Rattle.conditionals.specs.Same as same;
 

@@ -4,6 +4,20 @@ ghost use Rattle.conditionals.specs.Skipping as skipping;
 
 use tex_defs::{Meaning, Seen};
 
+/// The number of `\if`.
+const FIRST: u16 = 65;
+/// The number of `\ifcase`.
+const LAST: u16 = 81;
+
+/// The number of `\fi`.
+const FI: u16 = 82;
+
+/// The number of `\else`.
+const ELSE: u16 = 83;
+
+/// The number of `\or`.
+const OR: u16 = 84;
+
 /// What ends skipped text or a part of a conditional.
 #[derive(Clone, Copy)]
 pub enum Ender {
@@ -25,7 +39,7 @@ pub enum Part {
 /// Skipped text, fed token by token: it counts the conditionals that are open in it.
 #[derive(Clone, Copy)]
 pub struct Skip {
-    /// How many conditionals of the text are open; it stays at the greatest `u64`, which no text shorter than 2^64 tokens has.
+    /// How many conditionals of the text are open; it stays at the greatest `u64`, which no text of fewer than 2^64 - 1 tokens reaches.
     pub depth: u64,
 }
 
@@ -35,19 +49,30 @@ pub fn part_of(meaning: Meaning<()>) -> Part
 {
     match meaning {
         Meaning::Prim(number) => {
-            if 65 <= number && number <= 81 {
+            if FIRST <= number && number <= LAST {
                 Part::Conditional
-            } else if number == 82 {
+            } else if number == FI {
                 Part::Ends(Ender::Fi)
-            } else if number == 83 {
+            } else if number == ELSE {
                 Part::Ends(Ender::Else)
-            } else if number == 84 {
+            } else if number == OR {
                 Part::Ends(Ender::Or)
             } else {
                 Part::Plain
             }
         }
         _ => Part::Plain,
+    }
+}
+
+/// The number of the primitive.
+pub fn ender_number(ender: Ender) -> u16
+    ensures { result ≡ skipping.ender_number ender }
+{
+    match ender {
+        Ender::Fi => FI,
+        Ender::Else => ELSE,
+        Ender::Or => OR,
     }
 }
 

@@ -38,6 +38,7 @@ use Rattle.engine_state.proofs.CallKept.{frames_kept}
 use Rattle.engine_state.proofs.Cutting.{full_cuts, later_cuts, cuts_by}
 use Rattle.engine_state.proofs.Joining.{on_both, quiet_here}
 use Rattle.engine_state.proofs.Standing.{column_on}
+use Rattle.engine_state.proofs.Storing.{sized_but}
 
 -- OTHERS STAND OPEN, in as much room
 
@@ -48,16 +49,7 @@ module _ (e : Engine) (k : Stack) where
   pub conditions_stand : k.size ≡ e.conditionals.size → (sizes : Sizes) (book : Book) → Stands sizes e book → Stands sizes (record e { conditionals = k }) book
   conditions_stand size sizes book st = record {
     sound = record {
-      sized = record {
-        few_reports = st.sound.sized.few_reports;
-        small = st.sound.sized.small;
-        own = st.sound.sized.own;
-        readings = st.sound.sized.readings;
-        conditionals = size ∙ st.sound.sized.conditionals;
-        input = st.sound.sized.input;
-        names = st.sound.sized.names;
-        located = st.sound.sized.located;
-      };
+      sized = sized_but sizes e k e.naming size st.sound.sized;
       tied = st.sound.tied;
       bodies = st.sound.bodies;
     };
@@ -67,20 +59,20 @@ module _ (e : Engine) (k : Stack) where
   }
 
   -- one more is open
-  module _ (test line : ℕ) (here : line ≡ e.input.pending.number) where
+  module _ (number line : ℕ) (here : line ≡ e.input.pending.number) where
     abbrev begun : Stack
-    begun = record { items = opened test line e.conditionals.items; size = e.conditionals.size }
+    begun = record { items = opened number line e.conditionals.items; size = e.conditionals.size }
 
     begins : k ≡ begun → (sizes : Sizes) (w : World) (book : Book) → length e.conditionals.items < e.conditionals.size → IsSized sizes e →
-        Did sizes (state_of e book) (state_of after book) w w (ConditionOpened test e.input.pending.number ∷ [])
+        Did sizes (state_of e book) (state_of after book) w w (ConditionOpened number e.input.pending.number ∷ [])
     begins is sizes w book room sized =
         let within : nat_le (length e.conditionals.items + 1) sizes.condition_stack_size ≡ true = grind (arith, nat_tests, sized.conditionals, room) in
-        did_one sizes (ConditionOpened test e.input.pending.number) (state_of e book) (state_of after book) w w (rw within refl)
-        (ap (λ (n : ℕ). record (state_of e book) { conditionals = opened test n e.conditionals.items }) (sym here) ∙ ap (λ (s : Stack). record (state_of e book) { conditionals = s.items }) (sym is))
-        (quiet_here (ConditionOpened test e.input.pending.number) w tt)
+        did_one sizes (ConditionOpened number e.input.pending.number) (state_of e book) (state_of after book) w w (rw within refl)
+        (ap (λ (n : ℕ). record (state_of e book) { conditionals = opened number n e.conditionals.items }) (sym here) ∙ ap (λ (s : Stack). record (state_of e book) { conditionals = s.items }) (sym is))
+        (quiet_here (ConditionOpened number e.input.pending.number) w tt)
 
     pub opened_did : (r : Result Unit Full) → OnOk r (k ≡ begun) → OnOk r (length e.conditionals.items < e.conditionals.size) →
-        OnOk r ((sizes : Sizes) (w : World) (book : Book) → IsSized sizes e → Did sizes (state_of e book) (state_of (record e { conditionals = k }) book) w w (ConditionOpened test e.input.pending.number ∷ []))
+        OnOk r ((sizes : Sizes) (w : World) (book : Book) → IsSized sizes e → Did sizes (state_of e book) (state_of (record e { conditionals = k }) book) w w (ConditionOpened number e.input.pending.number ∷ []))
     opened_did r is room = on_both r (λ is room sizes w book sized. begins is sizes w book room sized) is room
 
     pub opened_stands : (r : Result Unit Full) → OnOk r (k ≡ begun) → OnOk r ((sizes : Sizes) (book : Book) → Stands sizes e book → Stands sizes (record e { conditionals = k }) book)
@@ -88,17 +80,17 @@ module _ (e : Engine) (k : Stack) where
     opened_stands (Err full) is = tt
 
   -- or has no room
-  module _ (test : ℕ) where
+  module _ (number : ℕ) where
     unopened : (full : Full) → full ≡ stack_full e.conditionals → e.conditionals.size ≤ length e.conditionals.items → k ≡ e.conditionals → (sizes : Sizes) (w : World) (book : Book) (more : List Move) → IsSized sizes e →
-        Cuts sizes (state_of e book) after book w w (ConditionOpened test e.input.pending.number ∷ more) (broken.Full full)
+        Cuts sizes (state_of e book) after book w w (ConditionOpened number e.input.pending.number ∷ more) (broken.Full full)
     unopened full is past same sizes w book more sized =
         let beyond : nat_le (length e.conditionals.items + 1) sizes.condition_stack_size ≡ false = grind (arith, nat_tests, sized.conditionals, past) in
-        full_cuts sizes (state_of e book) after book w (ConditionOpened test e.input.pending.number) more full (broken.Full full) refl
+        full_cuts sizes (state_of e book) after book w (ConditionOpened number e.input.pending.number) more full (broken.Full full) refl
         (rw beyond (ap (λ (n : ℕ). Some (record (stack_full e.conditionals) { size = n })) (sym sized.conditionals) ∙ ap (λ (x : Full). Some x) (sym is)))
         (ap (λ (s : Stack). state_of (record e { conditionals = s }) book) (sym same))
 
     pub opened_cuts : (r : Result Unit Full) → IfErr r (λ full. full ≡ stack_full e.conditionals) → IfErr r (λ full. e.conditionals.size ≤ length e.conditionals.items) → IfErr r (λ full. k ≡ e.conditionals) →
-        IfErr r (λ full. (sizes : Sizes) (w : World) (book : Book) (more : List Move) → IsSized sizes e → Cuts sizes (state_of e book) (record e { conditionals = k }) book w w (ConditionOpened test e.input.pending.number ∷ more) (broken.Full full))
+        IfErr r (λ full. (sizes : Sizes) (w : World) (book : Book) (more : List Move) → IsSized sizes e → Cuts sizes (state_of e book) (record e { conditionals = k }) book w w (ConditionOpened number e.input.pending.number ∷ more) (broken.Full full))
     opened_cuts (Ok x) is past same = tt
     opened_cuts (Err full) is past same = unopened full is past same
 

@@ -27,15 +27,15 @@ impl Engine {
     ///
     /// # Errors
     /// As many conditionals are open as may be; nothing has changed.
-    pub fn begin_conditional(&mut self, test: u16) -> Result<(), Full>
-        ensures did { OnOk result (MakesMoves (λ sizes e _. IsSized sizes e) self.old self.new (λ _. ConditionOpened test self.old.input.pending.number ∷ [])) }
-        ensures err { IfErr result (λ full. CutsMoves (λ sizes e _. IsSized sizes e) self.old self.new (λ _. ConditionOpened test self.old.input.pending.number ∷ []) (broken.Full full)) }
+    pub fn begin_conditional(&mut self, number: u16) -> Result<(), Full>
+        ensures did { OnOk result (MakesMoves (λ sizes e _. IsSized sizes e) self.old self.new (λ _. ConditionOpened number self.old.input.pending.number ∷ [])) }
+        ensures err { IfErr result (λ full. CutsMoves (λ sizes e _. IsSized sizes e) self.old self.new (λ _. ConditionOpened number self.old.input.pending.number ∷ []) (broken.Full full)) }
         ensures unchanged { IfErr result (λ full. self.new ≡ self.old) }
         ensures stands { OnOk result (Still Stands self.old self.new) }
         ensures frames { SameFrames self.old self.new }
         ensures only { self.new ≡ record self.old { conditionals = self.new.conditionals } }
     {
-        self.conditionals.begin(test, self.input.line_number())
+        self.conditionals.begin(number, self.input.line_number())
     }
 
     /// The innermost conditional whose test is under way goes on with this limit. *TeX: The Program*, part 28 (`change_if_limit`).
@@ -72,7 +72,7 @@ impl Engine {
         self.conditionals.above_sought(aim)
     }
 
-    /// The number of the line that is read, from 1; 0 where no file is open.
+    /// The number of the line that is read; 0 where no file is open.
     pub fn line(&self) -> u64
         ensures { result ≡ self.now.input.pending.number }
     {
@@ -80,7 +80,7 @@ impl Engine {
     }
 
     /// Whether two tokens are the same to `\ifx`: by what they mean, and of macros by the tokens of their lists. *The TeXbook*, chapter 20;
-    /// *TeX: The Program*, part 28 ("Test if two tokens agree").
+    /// *TeX: The Program*, part 28 ("Test if two tokens match").
     pub fn is_same(&self, x: Seen, y: Seen) -> bool
         ensures { (sizes : Sizes) (book : Book) → IsSound sizes self.now book.number book.macros →
             result ≡ same.same_meaning x.meaning y.meaning (are_same (tokens_meant (page_of self.now book) x) (tokens_meant (page_of self.now book) y)) }
@@ -100,7 +100,7 @@ impl Engine {
             out,
             &mut self.in_line,
             view,
-            conditional.test,
+            conditional.number,
             conditional.line,
         )?;
         Ok(())

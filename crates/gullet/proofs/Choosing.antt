@@ -17,13 +17,13 @@ use Rattle.conditionals.specs.declared.skip.Part.TheVariants.{Ends}
 use Rattle.conditionals.specs.Choices as choices
 use Rattle.conditionals.specs.Limits as limits
 use Rattle.conditionals.specs.Open.{limit_of}
-use Rattle.conditionals.specs.Skipping.{part}
+use Rattle.conditionals.specs.Skipping.{part, ender_number}
 use Rattle.rows.specs.declared.command.Call.{Call}
 use Rattle.rows.specs.declared.words.Kind.TheVariants.{Command}
 use Rattle.plain_readings.specs.Readings.{Kind, Reads, Skips, opened}
 use Rattle.plain_machine.specs.Demands.{refusal}
 use Rattle.plain_machine.specs.Does.{Did}
-use Rattle.plain_machine.specs.Plan.{Page, chosen, conditional_begun, ender_comes, ender_met, ender_number, limited_or_skips, skips}
+use Rattle.plain_machine.specs.Plan.{Page, chosen, conditional_begun, ender_comes, ender_met, limited_or_skips, skips}
 use Rattle.plain_machine.specs.Runs.{steps}
 use Rattle.plain_machine.specs.States.{Move, Begun, Closed, ConditionOpened, made}
 use Rattle.plain_machine.proofs.Doing.{did_join, did_silent}

@@ -11,13 +11,14 @@ use Rattle.tex_defs.specs.declared.Sizes.{Sizes}
 use Rattle.tex_defs.specs.declared.Token.{Token}
 use Rattle.plain_tokens.specs.Categories.{is_between}
 use Rattle.conditionals.specs.Open.{constant_test}
+use Rattle.conditionals.specs.Skipping.{first_conditional, or_primitive}
 use Rattle.rows.specs.declared.words.Kind.TheVariants.{Command}
 use Rattle.rows.specs.declared.command.Call.{Call}
 use Rattle.plain_readings.specs.Readings.{Kind, Reads}
 use Rattle.reading_frames.specs.Sees.{kind_of}
 use Rattle.reading_frames.specs.Weights.{begun_weight}
 use Rattle.plain_machine.specs.States.{State, Move, Begun, Closed, FileEnds}
-use Rattle.plain_machine.specs.Plan.{Page, reported, called, input_met, is_expandable_primitive, job_in, put_characters, first_conditional, or_primitive, conditional_met, conditional_begun, ender_met}
+use Rattle.plain_machine.specs.Plan.{Page, reported, called, input_met, is_expandable_primitive, job_in, put_characters, conditional_met, conditional_begun, ender_met}
 use Rattle.engine_state.specs.declared.engine.Engine.{Engine}
 use Rattle.engine_state.specs.declared.outcome.Ruled.{Ruled}
 use Rattle.engine_state.specs.declared.outcome.Ruled.TheVariants as ruled

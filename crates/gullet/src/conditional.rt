@@ -4,13 +4,13 @@ ghost use Rattle.std.specs.Prelude.{◌≡◌, ◌≤◌, ◌+◌, ℕ, IfOk, If
 ghost use Rattle.conditionals.specs.Open.{constant_test as plain_constant};
 ghost use Rattle.plain_readings.specs.Weights.{act_frame, act_weight};
 ghost use Rattle.reading_frames.specs.Weights.{frames_weight, innermost_weight};
-ghost use Rattle.plain_machine.specs.Plan.{chosen, conditional_begun, ender_met, ender_number as plain_number, skips};
+ghost use Rattle.plain_machine.specs.Plan.{chosen, conditional_begun, ender_met, skips};
 ghost use Rattle.engine_state.specs.Clauses.{GoesFree, CutsFree, GoesOnward, CutsOnward};
 ghost use Rattle.engine_state.specs.Stands.{SameFrames};
-ghost use Rattle.engine_state.specs.Steps.{pending_weight, weight, IsFree, IsHalted};
+ghost use Rattle.engine_state.specs.Steps.{pending_weight, weight, IsHalted};
 
 use crate::relax::put_behind_relax;
-use conditionals::{Aim, Choice, Ender, Met, Value, constant_test, on_fi_or_else};
+use conditionals::{Aim, Ender, Met, Value, aim_of, constant_test, ender_number, on_fi_or_else};
 use engine_state::{Broken, Engine, Ruled};
 use reading_frames::Opening;
 use rows::{Call, Kind};
@@ -48,14 +48,13 @@ pub fn choose(engine: &mut Engine, call: Call, value: Value) -> Result<(), Broke
     ensures column { engine.new.in_line ≡ engine.old.in_line }
     ensures idle { engine.new.input.making ≡ engine.old.input.making }
 {
-    // What its test left open above it is counted where an ender comes.
-    let choice = Choice::new(value, 0);
-    match choice.start() {
+    let aim = aim_of(value);
+    match aim.start() {
         Some(limit) => {
             engine.set_limit(limit);
             Ok(())
         }
-        None => skip_on(engine, call, choice.aim),
+        None => skip_on(engine, call, aim),
     }
 }
 
@@ -78,17 +77,6 @@ pub(crate) fn begin_conditional(engine: &mut Engine, call: Call, number: u16) ->
             choose(engine, call, Value::Truth(truth))
         }
         None => Ok(()),
-    }
-}
-
-/// The number of its primitive.
-fn ender_number(ender: Ender) -> u16
-    ensures { result ≡ plain_number ender }
-{
-    match ender {
-        Ender::Fi => 82,
-        Ender::Else => 83,
-        Ender::Or => 84,
     }
 }
 

@@ -2,7 +2,7 @@
 
 use conditionals::{
     Aim, Choice, Conditional, Conditionals, End, Ender, Limit, Met, Passing, Skip, Step, Value,
-    constant_test, on_fi_or_else, same_meaning,
+    aim_of, constant_test, ender_number, on_fi_or_else, same_meaning,
 };
 use std::alloc::Global;
 use tex_defs::{Full, Meaning, Name, Seen, Table, Token};
@@ -23,16 +23,24 @@ fn is_skipped() -> bool {
     inner && fi && matches!(skip.feed(primitive(84)), Some(Ender::Or))
 }
 
+/// What a conditional with a test of this value seeks, where the test left none open above it.
+fn sought(value: Value) -> Choice {
+    Choice {
+        aim: aim_of(value),
+        above: 0,
+    }
+}
+
 /// Whether `\\ifcase 1` reads the text behind its `\\or`.
 fn is_chosen() -> bool {
-    let choice = Choice::new(Value::Case(1), 0);
-    let skips = choice.start().is_none();
+    let choice = sought(Value::Case(1));
+    let skips = choice.aim.start().is_none();
     skips && matches!(choice.feed(Ender::Or), Step::Ends(End::Reads(Limit::Case)))
 }
 
 /// Whether a false test reports its own `\\or`, and then closes at its `\\fi`.
 fn is_reported() -> bool {
-    match Choice::new(Value::Truth(false), 0).feed(Ender::Or) {
+    match sought(Value::Truth(false)).feed(Ender::Or) {
         Step::Skips(Passing::ExtraOr, choice) => {
             matches!(choice.feed(Ender::Fi), Step::Ends(End::Closes))
         }
@@ -64,6 +72,7 @@ fn text_is_skipped(rt: HostRuntime) {
 
 #[test]
 fn limits_are_asked(rt: HostRuntime) {
+    assert_eq!(rt; ender_number(Ender::Else), 83);
     assert!(rt; matches!(on_fi_or_else(None, Ender::Fi), Met::Extra));
     assert!(rt;
         matches!(
@@ -118,12 +127,12 @@ fn is_limited(conditionals: &mut Conditionals) -> bool {
     let told = matches!(
         first,
         Some(Conditional {
-            test: 67,
+            number: 67,
             line: 3,
             limit: Limit::AfterElse
         })
     );
-    told && conditionals.count() == 1 && conditionals.size() == 2
+    told && conditionals.count() == 1
 }
 
 fn are_stacked(alloc: Global) -> bool {

@@ -22,7 +22,7 @@ use Rattle.plain_tokens.specs.Categories.{begin_group, end_group, is_between}
 use Rattle.plain_tokens.specs.Names.{name_of, means_relax, relax_primitive, end_primitive}
 use Rattle.plain_tokens.specs.Tokens.{is_space, is_outer, is_undefined, space_token, made_text, character_codes}
 use Rattle.plain_tokens.specs.Numerals.{whole_number, roman}
-use Rattle.plain_tokens.specs.Meanings.{name_meaning, seen_as, met as met_token, meaning_to_let}
+use Rattle.plain_tokens.specs.Meanings.{fi_primitive, name_meaning, seen_as, met as met_token, meaning_to_let}
 use Rattle.plain_tokens.specs.Printed.{Style}
 use Rattle.plain_tokens.specs.Puts.{Item, Put as PutList, call_put, list_put}
 use Rattle.plain_tokens.specs.Arguments.{are_same, has_parameters, arguments_in, work_in}
@@ -45,6 +45,7 @@ use Rattle.conditionals.specs.declared.skip.Ender.TheVariants.{Fi, Else, Or}
 use Rattle.conditionals.specs.Choices as choices
 use Rattle.conditionals.specs.Limits as limits
 use Rattle.conditionals.specs.Open.{limit_of, innermost_test, above_sought, constant_test}
+use Rattle.conditionals.specs.Skipping.{first_conditional, else_primitive, or_primitive, ender_number}
 use Rattle.conditionals.specs.Same.{same_meaning}
 use Rattle.save_stack.specs.declared.GroupKind.{GroupKind}
 use Rattle.save_stack.specs.declared.GroupKind.TheVariants.{Simple, SemiSimple}
@@ -69,9 +70,9 @@ use Rattle.rows.specs.Readings.{Fed, Tok, Told, Ask, More, Inner, Done, Acts, Ac
 use Rattle.plain_readings.specs.Calls.{gathered}
 use Rattle.plain_readings.specs.Spelling.{endcsname_primitive}
 use Rattle.plain_readings.specs.Readings.{Kind, Reads, Spelling, FileName, Skips, Arguments, Reading, lists}
-use Rattle.plain_readings.specs.Scanning.{Scanning, Builds, Skipped as Ignored, scanning}
+use Rattle.plain_readings.specs.Scanning.{Scanning, Builds, SkippedText, scanning}
 use Rattle.plain_machine.specs.States.{State, Move, Handed, Taken, FirstTaken, Skipped, FileClosed, FileEnds, FileOpened, NameInProgress, Grows, Feeds, Completed, ListGrown, Set, Assigned, Defined, ListSet, GroupOpened, Begun, BegunWith, Ended, Closed, Written, Stopped}
-use Rattle.plain_machine.specs.Plan.{Page, page_of, style_of, met, met_outer, entered, checked, check_noted, ran_away, incomplete, away_text, page_behind, reported, reported_as, behind_report, reports_room, told, put_inserted, put_one, put_made, put_text, put_characters, noting, noting_kind, token_line, conditionals_left, finish, command, register, primitive, call_of, begun, csname_primitive, jobname_primitive, input_primitive, endinput_primitive, input_met, frozen_relax, first_conditional, fi_primitive, else_primitive, or_primitive, ender_number, skips, limited_or_skips, chosen, conditional_begun, ender_comes, ender_met, conditional_met, is_expandable_primitive, job_in, expansion, begingroup_primitive, endgroup_primitive, put_each, group_ended, brace_met, endgroup_met, character, unless_expanded, called, called_meaning, called_list, put_body, body_put, stomach, wanted, expanded, expanded_as, feeding_kind, grown_and_fed, first_list, grown_to, opened, in_place, argument_fed, call_fed, inner_begun, given_back, value_tokens, done, arguments_put, called_with, failed, failed_away, is_global, behind_assignment, assigned, kept_for_group, computed_to, short_meaning, passed, ended_by, reached, acts, tokens_entered, list_given, is_copying, list_number, acts_above, list_set, acts_on, acts_in, and_closed, meaning_characters, tokens_meant, macro_defined, name_made, relax_if_undefined, spelt, newly_spelt, answered, number_or_glue, is_magnification, magnification_set, legal_or_not, compared}
+use Rattle.plain_machine.specs.Plan.{Page, page_of, style_of, met, met_outer, entered, checked, check_noted, ran_away, incomplete, away_text, page_behind, reported, reported_as, behind_report, reports_room, told, put_inserted, put_one, put_made, put_text, put_characters, noting, noting_kind, token_line, conditionals_left, finish, command, register, primitive, call_of, begun, csname_primitive, jobname_primitive, input_primitive, endinput_primitive, input_met, frozen_relax, skips, limited_or_skips, chosen, conditional_begun, ender_comes, ender_met, conditional_met, is_expandable_primitive, job_in, expansion, begingroup_primitive, endgroup_primitive, put_each, group_ended, brace_met, endgroup_met, character, unless_expanded, called, called_meaning, called_list, put_body, body_put, stomach, wanted, expanded, expanded_as, feeding_kind, grown_and_fed, first_list, grown_to, opened, in_place, argument_fed, call_fed, inner_begun, given_back, value_tokens, done, arguments_put, called_with, failed, failed_away, is_global, behind_assignment, assigned, kept_for_group, computed_to, short_meaning, passed, ended_by, reached, acts, tokens_entered, list_given, is_copying, list_number, acts_above, list_set, acts_on, acts_in, and_closed, meaning_characters, tokens_meant, macro_defined, name_made, relax_if_undefined, spelt, newly_spelt, answered, number_or_glue, is_magnification, magnification_set, legal_or_not, compared}
 
 -- MOVES OF A RULE BEHIND ITS PULL: they pull nothing, and text begins to be skipped by their last move, if by any.
 abbrev pub Tame : List Move → Type 0
@@ -413,14 +414,14 @@ incomplete_tame page line rest h = reported_tame page (reports.IncompleteConditi
 pub checked_tame : (page : Page) (o : Option Scanning) → Tame (checked page o)
 checked_tame page None = tt
 checked_tame page (Some (Builds what name list)) = away_tame page (reports.FileEnded what name) what list [] tt
-checked_tame page (Some (Ignored line)) = incomplete_tame page line [] tt
+checked_tame page (Some (SkippedText line)) = incomplete_tame page line [] tt
 
 met_outer_tame : (page : Page) (o : Option Scanning) (t : Token) (onward : Seen → List Move) → ((x : Seen) → Tame (onward x)) → Tame (met_outer page o t onward)
 met_outer_tame page None t onward h = h (met_token page.now.meanings t)
 met_outer_tame page (Some (Builds what name list)) t onward h =
     let x : Seen = met_token page.now.meanings space_token in
     away_tame page (reports.Forbidden what name) what list (onward x) (h x)
-met_outer_tame page (Some (Ignored line)) t onward h =
+met_outer_tame page (Some (SkippedText line)) t onward h =
     let x : Seen = met_token page.now.meanings space_token in
     incomplete_tame page line (onward x) (h x)
 
@@ -459,7 +460,7 @@ failed_tame page report = reported_tame page report (Closed ∷ []) tt
 failed_away_tame : (page : Page) (report : Report) (o : Option Scanning) → Tame (failed_away page report o)
 failed_away_tame page report None = failed_tame page report
 failed_away_tame page report (Some (Builds what name list)) = failed_tame (page_behind page (away_text page what list)) report
-failed_away_tame page report (Some (Ignored line)) = failed_tame page report
+failed_away_tame page report (Some (SkippedText line)) = failed_tame page report
 
 -- what a command does
 and_closed_tame : (moves : List Move) → Flat moves → Tame (and_closed moves)

@@ -26,7 +26,7 @@ use Rattle.prim_table.specs.Primitives.{primitive_names}
 use Rattle.plain_tokens.specs.Categories.{begin_group, end_group, is_between}
 use Rattle.plain_tokens.specs.Names.{name_of, means_relax, relax_primitive, par_primitive, end_primitive}
 use Rattle.plain_tokens.specs.Tokens.{is_space, is_outer, is_undefined, space_token, made_text, character_codes}
-use Rattle.plain_tokens.specs.Meanings.{name_meaning, met as met_token, meaning_to_let, seen_as}
+use Rattle.plain_tokens.specs.Meanings.{fi_primitive, name_meaning, met as met_token, meaning_to_let, seen_as}
 use Rattle.equivalents.specs.declared.values.Val.TheVariants as val
 use Rattle.equivalents.specs.First.{global_definitions, magnification}
 use Rattle.save_stack.specs.declared.GroupKind.{GroupKind}
@@ -64,6 +64,7 @@ use Rattle.conditionals.specs.declared.skip.Ender.TheVariants.{Fi, Else, Or}
 use Rattle.conditionals.specs.Choices as choices
 use Rattle.conditionals.specs.Limits as limits
 use Rattle.conditionals.specs.Open.{limit_of, innermost_test, above_sought, constant_test}
+use Rattle.conditionals.specs.Skipping.{first_conditional, else_primitive, or_primitive, ender_number}
 use Rattle.conditionals.specs.Same.{same_meaning}
 use Rattle.rows.specs.declared.words.Value.{Value}
 use Rattle.rows.specs.declared.words.Value.TheVariants as value
@@ -82,7 +83,7 @@ use Rattle.rows.specs.Readings.{Fed, Tok, Told, Cut, Fetched, Entered, Ask, More
 use Rattle.plain_readings.specs.Calls.{gathered, par_token}
 use Rattle.plain_readings.specs.Spelling.{endcsname_primitive}
 use Rattle.plain_readings.specs.Readings.{Kind, Reads, Spelling, FileName, Arguments, Behind, Skips, Reading, ask, lists}
-use Rattle.plain_readings.specs.Scanning.{Scanning, Builds, Skipped as Ignored, scanning}
+use Rattle.plain_readings.specs.Scanning.{Scanning, Builds, SkippedText, scanning}
 use Rattle.equivalents.specs.Parameters.{integer_in, style_in}
 use Rattle.plain_machine.specs.States.{Move, Handed, Taken, FirstTaken, Settled, Skipped, FileClosed, FileEnds, FileOpened, Spelt, NameInProgress, Files, Entered, Kept, Grows, Feeds, Completed, Opened, ListBegun, ListGrown, Put, ListDropped, Called, CalledWith, Set, Assigned, Defined, ListSet, GroupOpened, GroupClosed, KeptForGroup, KeptForAssignment, MagnificationSet, ConditionOpened, LimitSet, ConditionClosed, Written, Begun, BegunWith, Ended, Closed, Reported, Flawed, Stopped, State, no_token, made}
 
@@ -139,7 +140,7 @@ groups_left page = if page.depth == 0 then [] else end_in_group (style_of page) 
 -- the line that says where it came, for each open conditional
 abbrev pub conditionals_left : Style → List Conditional → List Move
 conditionals_left style [] = []
-conditionals_left style (c ∷ cs) = Written Transcript (end_in_conditional style c.test c.line) ∷ conditionals_left style cs
+conditionals_left style (c ∷ cs) = Written Transcript (end_in_conditional style c.number c.line) ∷ conditionals_left style cs
 
 -- `\end`: the run ends on a fresh line
 abbrev pub finish : Page → List Move
@@ -278,23 +279,6 @@ chosen page c v = limited_or_skips page c (choices.aim v) (choices.start (choice
 abbrev pub conditional_begun : Page → Call → ℕ → Option Bool → List Move
 conditional_begun page c number None = Begun (Reads (Row c)) ∷ ConditionOpened number page.line ∷ []
 conditional_begun page c number (Some truth) = Begun (Reads (Row c)) ∷ ConditionOpened number page.line ∷ Closed ∷ chosen page c (Truth truth)
-
-abbrev pub first_conditional : ℕ
-first_conditional = 65
-
-abbrev pub fi_primitive : ℕ
-fi_primitive = 82
-
-abbrev pub else_primitive : ℕ
-else_primitive = 83
-
-abbrev pub or_primitive : ℕ
-or_primitive = 84
-
-abbrev pub ender_number : Ender → ℕ
-ender_number Fi = fi_primitive
-ender_number Else = else_primitive
-ender_number Or = or_primitive
 
 -- a `\fi`, an `\else` or an `\or` in text that is read, by how far the innermost conditional has come
 abbrev pub ender_comes : Page → Token → Call → Ender → Met → List Move
@@ -506,14 +490,14 @@ incomplete page line rest = put_one frozen_fi ++ reported page (IncompleteCondit
 abbrev pub checked : Page → Option Scanning → List Move
 checked page None = []
 checked page (Some (Builds what name list)) = ran_away page (FileEnded what name) what list []
-checked page (Some (Ignored line)) = incomplete page line []
+checked page (Some (SkippedText line)) = incomplete page line []
 
 -- The name of an \outer macro is put back where a reading goes on, and a space takes its place.
 abbrev pub met_outer : Page → Option Scanning → Token → (onward : Seen → List Move) → List Move
 met_outer page None t onward = onward (met_token page.now.meanings t)
 met_outer page (Some (Builds what name list)) t onward =
     put_one t ++ ran_away page (Forbidden what name) what list (onward (met_token page.now.meanings space_token))
-met_outer page (Some (Ignored line)) t onward = put_one t ++ incomplete page line (onward (met_token page.now.meanings space_token))
+met_outer page (Some (SkippedText line)) t onward = put_one t ++ incomplete page line (onward (met_token page.now.meanings space_token))
 
 abbrev pub met : Page → Option Scanning → (onward : Seen → List Move) → Seen → List Move
 met page s onward x = if is_outer x.meaning then met_outer page s x.token onward else onward x

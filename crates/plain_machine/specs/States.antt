@@ -78,7 +78,7 @@ pub data Move : Type 0 where
   -- the magnification is set for good: TeX's `mag_set`
   MagnificationSet : ℕ → Move
   -- a conditional opened, which is this primitive, on this line; the innermost one whose test is under way given another limit; the innermost closed
-  ConditionOpened : (test line : ℕ) → Move
+  ConditionOpened : (number line : ℕ) → Move
   LimitSet : Limit → Move
   ConditionClosed : Move
   Written : Place → List ℕ → Move
@@ -226,7 +226,7 @@ made GroupClosed s = record s { groups = group_closed s.groups }
 made (KeptForGroup t) s = record s { groups = with_token s.groups t }
 made (KeptForAssignment after) s = record s { after = after }
 made (MagnificationSet n) s = record s { mag_set = n }
-made (ConditionOpened test line) s = record s { conditionals = conditional.opened test line s.conditionals }
+made (ConditionOpened number line) s = record s { conditionals = conditional.opened number line s.conditionals }
 made (LimitSet l) s = record s { conditionals = with_limit l s.conditionals }
 made ConditionClosed s = record s { conditionals = drop 1 s.conditionals }
 made (Written p bs) s = record s { in_line = column_after p s.in_line bs }

@@ -9,6 +9,7 @@ use Rattle.conditionals.specs.declared.choice.End.TheVariants as ending
 use Rattle.conditionals.specs.declared.choice.Passing.{Passing}
 use Rattle.conditionals.specs.declared.choice.Passing.TheVariants as passing
 use Rattle.conditionals.specs.declared.choice.Step.TheVariants as step
+use Rattle.conditionals.specs.Skipping.{or_primitive}
 use Rattle.plain_state.specs.Reports.{report_bytes}
 use Rattle.rows.specs.declared.command.Call.{Call}
 use Rattle.rows.specs.Readings.{Ask}
@@ -18,7 +19,7 @@ use Rattle.reading_frames.specs.Stack.{asks_in}
 use Rattle.reading_frames.specs.Weights.{frames_weight, innermost_weight, IsEnd}
 use Rattle.reading_frames.proofs.Rules.{ends_frame, ends_heavy}
 use Rattle.plain_machine.specs.States.{State, Move, Begun, Closed, ConditionClosed, Reported, Written, made}
-use Rattle.plain_machine.specs.Plan.{Page, ended_by, or_primitive, reached, skips, style_of}
+use Rattle.plain_machine.specs.Plan.{Page, ended_by, reached, skips, style_of}
 use Rattle.plain_machine.specs.Runs.{steps}
 use Rattle.plain_machine.specs.Does.{Did}
 use Rattle.plain_machine.proofs.Doing.{did_none, did_one}

@@ -21,16 +21,13 @@ ghost use Rattle.stomach.specs.Halting.{DoesRuleAtReading, CutsRuleAtReading};
 ghost use Rattle.stomach.specs.Skipping.{Passes};
 
 use crate::effects::free;
-use conditionals::{Aim, Choice, End, Ender, Passing, Step, Value};
+use conditionals::{Aim, Choice, End, Ender, Passing, Step, Value, ender_number};
 use engine_state::{Broken, Engine, Ruled};
 use gullet::{choose, skip_on};
 use rows::Call;
 use tex_defs::{Fatal, Seen};
 use tex_syntax::{Outcome, Report};
 use world_io::Sink;
-
-/// The number of `\or`.
-const OR: u16 = 84;
 
 /// The test has this value: its reading ends, and the conditional reads on or skips text.
 ///
@@ -90,7 +87,7 @@ fn pass<S: Sink>(engine: &mut Engine, out: &mut S, passing: Passing) -> Result<b
             engine.close_conditional();
             Ok(true)
         }
-        Passing::ExtraOr => engine.report(out, Report::ExtraFiOrElse(OR)),
+        Passing::ExtraOr => engine.report(out, Report::ExtraFiOrElse(ender_number(Ender::Or))),
     }
 }
 

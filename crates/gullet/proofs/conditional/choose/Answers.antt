@@ -12,23 +12,23 @@ use Rattle.gullet.proofs.ExpandingWeighs.{reads_within}
 use Rattle.gullet.proofs.conditional.choose.Goals as goal
 
 pub returns-in-Some-clause-rule : goal.returns-in-Some-clause-rule
-returns-in-Some-clause-rule c = let e = c.args.engine.now in let e1 = c.set_limit.new.self in let v = c.args.value in let a = c.new-choice.result.aim in let l = c.in-Some.limit in
+returns-in-Some-clause-rule c = let e = c.args.engine.now in let e1 = c.set_limit.new.self in let v = c.args.value in let a = c.aim_of-aim.result in let l = c.in-Some.limit in
     λ sizes w book st.
-    went_by sizes (state_of e book) e1 w w (LimitSet l ∷ []) (chosen (page_of e book) c.args.call v) 0 (chosen_by (page_of e book) c.args.call v a (Some l) c.new-choice.ensures.is (sym c.in-Some.is ∙ c.start.ensures))
+    went_by sizes (state_of e book) e1 w w (LimitSet l ∷ []) (chosen (page_of e book) c.args.call v) 0 (chosen_by (page_of e book) c.args.call v a (Some l) c.aim_of-aim.ensures (sym c.in-Some.is ∙ c.start.ensures))
     (went_here sizes e e1 book w (LimitSet l) (c.set_limit.ensures.did sizes w book) refl (c.set_limit.ensures.stands sizes book st))
 
 pub returns-in-None-clause-rule : goal.returns-in-None-clause-rule
-returns-in-None-clause-rule c = let e = c.args.engine.now in let e1 = c.skip_on.new.engine in let v = c.args.value in let a = c.new-choice.result.aim in
+returns-in-None-clause-rule c = let e = c.args.engine.now in let e1 = c.skip_on.new.engine in let v = c.args.value in let a = c.aim_of-aim.result in
     on_ok c.skip_on.result
     (λ h sizes w book st.
-    went_by sizes (state_of e book) e1 w w (skips (page_of e book) c.args.call a) (chosen (page_of e book) c.args.call v) 0 (chosen_by (page_of e book) c.args.call v a None c.new-choice.ensures.is (sym c.in-None.is ∙ c.start.ensures)) (h sizes w book st))
+    went_by sizes (state_of e book) e1 w w (skips (page_of e book) c.args.call a) (chosen (page_of e book) c.args.call v) 0 (chosen_by (page_of e book) c.args.call v a None c.aim_of-aim.ensures (sym c.in-None.is ∙ c.start.ensures)) (h sizes w book st))
     c.skip_on.ensures.rule
 
 pub returns-in-None-clause-err : goal.returns-in-None-clause-err
-returns-in-None-clause-err c = let e = c.args.engine.now in let e1 = c.skip_on.new.engine in let v = c.args.value in let a = c.new-choice.result.aim in
+returns-in-None-clause-err c = let e = c.args.engine.now in let e1 = c.skip_on.new.engine in let v = c.args.value in let a = c.aim_of-aim.result in
     err_to c.skip_on.result
     (λ b h sizes w book st.
-    in_by sizes (state_of e book) e1 w w (skips (page_of e book) c.args.call a) (chosen (page_of e book) c.args.call v) b (chosen_by (page_of e book) c.args.call v a None c.new-choice.ensures.is (sym c.in-None.is ∙ c.start.ensures)) (h sizes w book st))
+    in_by sizes (state_of e book) e1 w w (skips (page_of e book) c.args.call a) (chosen (page_of e book) c.args.call v) b (chosen_by (page_of e book) c.args.call v a None c.aim_of-aim.ensures (sym c.in-None.is ∙ c.start.ensures)) (h sizes w book st))
     c.skip_on.ensures.err
 
 pub returns-in-Some-clause-light : goal.returns-in-Some-clause-light

@@ -9,12 +9,11 @@ use Rattle.plain_machine.specs.Plan.{reached, skips}
 use Rattle.engine_state.specs.CutReadings.{CutsIn}
 use Rattle.engine_state.specs.Rules.{world_of, Cuts, Halts, Went}
 use Rattle.engine_state.specs.Stands.{state_of, page_of}
-use Rattle.engine_state.specs.Steps.{pending_weight, weight}
+use Rattle.engine_state.specs.Steps.{pending_weight}
 use Rattle.engine_state.specs.declared.engine.Engine.{Engine}
 use Rattle.engine_state.proofs.CuttingReadings.{column_in, stands_in}
 use Rattle.engine_state.proofs.Joining.{column_went, same_err}
 use Rattle.stomach.proofs.GoingOn.{ended_went, passed_in, passed_went}
-use Rattle.stomach.proofs.Lighter.{weight_none}
 use Rattle.stomach.proofs.conditional.follow.Goals as goal
 
 -- MORE IS SKIPPED

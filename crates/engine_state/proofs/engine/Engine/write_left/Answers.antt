@@ -10,10 +10,10 @@ pub returns-in_err-write_end_in_conditional-clause-err : goal.returns-in_err-wri
 returns-in_err-write_end_in_conditional-clause-err g c =
     let e = c.args.self.now in let view = c.view_of-view in let n = c.in_err-write_end_in_conditional in
     let style : style_of view.result ≡ own_style e = view.ensures.style in
-    err_out _ _ e c.write_end_in_conditional.new.in_line _ _ (ap (λ (x : Style). end_in_conditional x c.args.conditional.test c.args.conditional.line) style) c.from_residual.result n.field-0.0 c.from_residual.ensures.1 n.ensures.err
+    err_out _ _ e c.write_end_in_conditional.new.in_line _ _ (ap (λ (x : Style). end_in_conditional x c.args.conditional.number c.args.conditional.line) style) c.from_residual.result n.field-0.0 c.from_residual.ensures.1 n.ensures.err
 
 pub returns-clause-did : goal.returns-clause-did
 returns-clause-did g c =
     let e = c.args.self.now in let view = c.view_of-view in
     let style : style_of view.result ≡ own_style e = view.ensures.style in
-    took_out _ _ e c.write_end_in_conditional.new.in_line _ _ (ap (λ (x : Style). end_in_conditional x c.args.conditional.test c.args.conditional.line) style) c.in_ok-write_end_in_conditional.ensures.ok
+    took_out _ _ e c.write_end_in_conditional.new.in_line _ _ (ap (λ (x : Style). end_in_conditional x c.args.conditional.number c.args.conditional.line) style) c.in_ok-write_end_in_conditional.ensures.ok
