@@ -5,7 +5,7 @@ use Rattle.std.proofs.lemmas.List.{drop-drop, reverse-append}
 use Rattle.tex_defs.specs.declared.Token.{Token}
 use Rattle.rows.specs.Table.{reads_under_normal}
 use Rattle.plain_readings.specs.Readings.{Reading, lists}
-use Rattle.plain_readings.specs.Scanning.{Status, Scans, SkipsText, Unguarded, Inherits, command_status, status, Scanning, first_of, scanned_at, innermost_scanned, scanning}
+use Rattle.plain_readings.specs.Scanning.{Status, Scans, SkipsText, Unguarded, Inherits, command_status, Scanning, first_of, scanned_at, innermost_scanned, scanning}
 use Rattle.plain_readings.specs.Scanning as machine
 use Rattle.reading_frames.specs.Sees.{Lists, top_list}
 use Rattle.reading_frames.specs.Resumes.{list_count, frame_status, read_at, reads_unguarded}

@@ -41,7 +41,7 @@ use Rattle.scan_numbers.specs.FactorResumes as factor
 use Rattle.scan_numbers.specs.declared.number.NumberScan.{NumberScan}
 use Rattle.scan_numbers.specs.declared.factor.FactorScan.{FactorScan}
 use Rattle.reading_frames.specs.Sees.{Lists, has_no_token}
-use Rattle.reading_frames.specs.Resumes.{resume, resume_command, resume_name, name_at, file_at, skip_at, resume_build, build_at}
+use Rattle.reading_frames.specs.Resumes.{resume, resume_command, name_at, file_at, skip_at, resume_build, build_at}
 use Rattle.reading_frames.specs.Stack.{asks_in, frames_of}
 use Rattle.reading_frames.specs.Weights.{frame_end, own_weight, asks_weight, innermost_weight, begun_weight, fed_weight, IsReported, IsEnd}
 use Rattle.reading_frames.specs.declared.ask.Opening.{Opening}
@@ -53,12 +53,10 @@ use Rattle.reading_frames.specs.declared.command.CommandScan.{CommandScan}
 use Rattle.reading_frames.specs.declared.command.CommandScan.TheVariants as command
 use Rattle.reading_frames.specs.declared.spelling.SpellPlace.{SpellPlace}
 use Rattle.reading_frames.specs.declared.spelling.SpellPlace.TheVariants as spell
-use Rattle.reading_frames.specs.declared.spelling.SpellScan.{SpellScan}
 use Rattle.reading_frames.specs.declared.skip.SkipPlace.{SkipPlace}
 use Rattle.reading_frames.specs.declared.skip.SkipPlace.TheVariants as skip
 use Rattle.reading_frames.specs.declared.file_name.FilePlace.{FilePlace}
 use Rattle.reading_frames.specs.declared.file_name.FilePlace.TheVariants as file
-use Rattle.reading_frames.specs.declared.file_name.FileScan.{FileScan}
 use Rattle.reading_frames.specs.declared.text.BuildPlace.{BuildPlace}
 use Rattle.reading_frames.specs.declared.text.BuildPlace.TheVariants as at
 use Rattle.reading_frames.specs.declared.text.BuildScan.{BuildScan}
