@@ -8,7 +8,7 @@ use Rattle.clap.specs.declared.parser.matches.Found.{Found}
 use Rattle.clap.specs.declared.builder.value_parser.ValueParser.TheVariants.{Unsigned}
 use Rattle.clap.proofs.ValueTestLemmas.{accepts-Accepts}
 use Rattle.clap.proofs.WalkLemmas.{first_value-rows, one_text-rows}
-use Rattle.command_words.specs.Words.{is_given, number_of, text_of}
+use Rattle.command_words.specs.Words.{is_given, option_number, text_of}
 use Rattle.command_words.specs.Taken.{HasValue, is_flag_text}
 
 text_number : {E : Type 0} (G : List ℕ → Result ℕ E → Type 0) (low high : ℕ) (t : Text) (r : Option ℕ) → ReadsOne G t r
@@ -28,7 +28,7 @@ text_is name rows t e = ap (λ (o : Option Text). unwrap_or o []) e
 pub number_read : {E : Type 0} (G : List ℕ → Result ℕ E → Type 0) (low high : ℕ) (f : Found) (name : Text) (r : Option ℕ) (n : ℕ)
     → ((t : Text) → one_text f name ≡ Some t → ReadsOne G t r) → ((u : Text) (x : Result ℕ E) → G u x → ParsesUnsigned 64 10 u x)
     → HasValue (is_unsigned_in low high) name (rows_of f) → n ≡ unwrap_or r 0
-    → (n ≡ number_of name (rows_of f)) × (low ≤ n) × (n ≤ high)
+    → (n ≡ option_number name (rows_of f)) × (low ≤ n) × (n ≤ high)
 number_read G low high f name r n read only v is =
     let got = text_number G low high v.0 r (read v.0 (one_text-rows f name ∙ v.2)) only v.3 in
     let n_is : n ≡ digits_value 10 (without_leading_plus v.0) = is ∙ ap (λ (o : Option ℕ). unwrap_or o 0) got.0 in

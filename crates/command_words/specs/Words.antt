@@ -86,14 +86,14 @@ abbrev pub text_of : Text → List Row → Text
 text_of name rows = unwrap_or (first_of name rows) []
 
 -- decimal digits, before which a `+` may stand
-abbrev pub number_of : Text → List Row → ℕ
-number_of name rows = digits_value 10 (without_leading_plus (text_of name rows))
+abbrev pub option_number : Text → List Row → ℕ
+option_number name rows = digits_value 10 (without_leading_plus (text_of name rows))
 
 abbrev pub is_given : Text → List Row → Bool
 is_given name rows = bytes_eq (text_of name rows) (codes "true")
 
 abbrev pub options_of : List Row → Options
-options_of rows = record { steps = number_of (codes "steps") rows; main_memory_size = number_of (codes "mem") rows; quiet = is_given (codes "quiet") rows }
+options_of rows = record { steps = option_number (codes "steps") rows; main_memory_size = option_number (codes "mem") rows; quiet = is_given (codes "quiet") rows }
 
 abbrev pub command_in : List Row → Command
 command_in rows = Init (file_name (text_of (codes "file") rows)) (options_of rows)

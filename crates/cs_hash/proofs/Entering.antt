@@ -5,7 +5,7 @@ use Rattle.std.proofs.lemmas.List.{length-append, get_or_append_left, get_or_pus
 use Rattle.tex_defs.specs.declared.Full.{Full}
 use Rattle.tex_defs.specs.declared.Table.TheVariants.{PoolSize, NumberOfStrings, HashSize}
 use Rattle.string_pool.specs.Pool.{Pool, kept_bytes}
-use Rattle.cs_hash.specs.Names.{Names, string_at, entered, number_of, Knows}
+use Rattle.cs_hash.specs.Names.{Names, string_at, entered, name_number, Knows}
 use Rattle.cs_hash.specs.Index.{Leads}
 use Rattle.cs_hash.specs.Entry.{IsEntered, IsVacant, Enters, hash_refusal, entry_refusal, with_string}
 use Rattle.cs_hash.proofs.Paths.{Leads-set, Leads-new, not_there, absent, present}
@@ -30,7 +30,7 @@ same_full f g e = cc
 
 pub enters_there : (hash : Names) (pool : Pool) (name : List ℕ) (number : ℕ) → Knows hash pool.kept → IsEntered hash pool.kept name number → Enters hash hash pool pool name (Ok number)
 enters_there hash pool name number knows found =
-    let is : number_of (entered hash pool.kept) name ≡ Some number = present hash pool.kept name number knows found in
+    let is : name_number (entered hash pool.kept) name ≡ Some number = present hash pool.kept name number knows found in
     record {
       there = λ k at. (ap (λ (n : ℕ). as_ok n) (same_some number k (sym is ∙ at)), record { hash_same = refl; pool_same = refl });
       refused = λ full none why. absurd (some_none number (sym is ∙ none));
@@ -39,7 +39,7 @@ enters_there hash pool name number knows found =
 
 pub enters_refused : (hash : Names) (pool pool' : Pool) (name : List ℕ) (slot : ℕ) (full : Full) → Knows hash pool.kept → IsVacant hash pool.kept name slot → pool' ≡ pool → entry_refusal hash pool name ≡ Some full → Enters hash hash pool pool' name (Err full)
 enters_refused hash pool pool' name slot full knows free same why =
-    let is : number_of (entered hash pool.kept) name ≡ None = absent hash pool.kept name slot knows free in
+    let is : name_number (entered hash pool.kept) name ≡ None = absent hash pool.kept name slot knows free in
     record {
       there = λ k at. absurd (some_none k (sym at ∙ is));
       refused = λ other none cause. (ap (λ (f : Full). as_err f) (same_full full other (sym why ∙ cause)), record { hash_same = refl; pool_same = same });
@@ -76,7 +76,7 @@ entered_gains hash strings' kept kept' name string knows last gained more =
 
 pub enters_fresh : (hash hash' : Names) (pool pool' : Pool) (name : List ℕ) (slot number string : ℕ) → Knows hash pool.kept → IsVacant hash pool.kept name slot → pool' ≡ with_string pool name → entry_refusal hash pool name ≡ None → number ≡ length hash.strings + 1 → string ≡ length pool.kept → hash'.strings ≡ hash.strings ++ string ∷ [] → hash'.hash_size ≡ hash.hash_size → Enters hash hash' pool pool' name (Ok number)
 enters_fresh hash hash' pool pool' name slot number string knows free kept room next last strings size =
-    let is : number_of (entered hash pool.kept) name ≡ None = absent hash pool.kept name slot knows free in
+    let is : name_number (entered hash pool.kept) name ≡ None = absent hash pool.kept name slot knows free in
     record {
       there = λ k at. absurd (some_none k (sym at ∙ is));
       refused = λ other none cause. absurd (full_none other (sym cause ∙ room));

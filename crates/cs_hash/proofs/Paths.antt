@@ -3,7 +3,7 @@ use Rattle.std.proofs.Common.{◌≡◌, ◌≢◌, ℕ, zero, suc, ◌+◌, ◌
 use Rattle.std.proofs.lemmas.List.{get_or-set_other, get_or-set_same, get_or-map, length-map}
 use Rattle.std.proofs.lemmas.Slice.Eq.{bytes_eq-Decides}
 use Rattle.std.proofs.lemmas.Bool.{cases_lt, false≢true}
-use Rattle.cs_hash.specs.Names.{Names, string_at, entered, number_from, number_of, Knows}
+use Rattle.cs_hash.specs.Names.{Names, string_at, entered, number_from, name_number, Knows}
 use Rattle.cs_hash.specs.Entry.{IsVacant, IsEntered}
 use Rattle.cs_hash.specs.Index.{slot_at, turn_of, Leads}
 
@@ -106,14 +106,14 @@ not_there hash kept name slot knows free j inside named =
     met hash.hash_size hash.index name (suc j) free.depth (subst Led named leads) (λ nothing. absurd (omega (arith, nothing))) (ap (λ (k : ℕ). get_or hash.index k 0) (sym free.at.slot_is) ∙ free.vacant)
     (λ i lower is_j. free.at.others i lower (ap (λ (k : ℕ). string_at kept (get_or hash.strings (k - 1) 0)) is_j ∙ ap (λ (k : ℕ). string_at kept (get_or hash.strings k 0)) same ∙ named))
 
-pub absent : (hash : Names) (kept : List (List ℕ)) (name : List ℕ) (slot : ℕ) → Knows hash kept → IsVacant hash kept name slot → number_of (entered hash kept) name ≡ None
+pub absent : (hash : Names) (kept : List (List ℕ)) (name : List ℕ) (slot : ℕ) → Knows hash kept → IsVacant hash kept name slot → name_number (entered hash kept) name ≡ None
 absent hash kept name slot knows free =
     number_from-absent 1 (entered hash kept) name (λ j below is.
     let inside : j < length hash.strings = omega (arith, below, length-map hash.strings (string_at kept)) in
     not_there hash kept name slot knows free j inside (sym (get_or-map (string_at kept) hash.strings j 0 [] inside) ∙ is))
 
 -- and a name that was found has this number, and no other
-pub present : (hash : Names) (kept : List (List ℕ)) (name : List ℕ) (number : ℕ) → Knows hash kept → IsEntered hash kept name number → number_of (entered hash kept) name ≡ Some number
+pub present : (hash : Names) (kept : List (List ℕ)) (name : List ℕ) (number : ℕ) → Knows hash kept → IsEntered hash kept name number → name_number (entered hash kept) name ≡ Some number
 present hash kept name number knows found =
     let below : number - 1 < length hash.strings = omega (arith, found.first, found.last) in
     let inside : number - 1 < length (entered hash kept) = omega (arith, below, length-map hash.strings (string_at kept)) in

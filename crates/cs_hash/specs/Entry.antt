@@ -3,7 +3,7 @@ use Rattle.std.specs.Prelude.{◌≡◌, ◌≢◌, ℕ, ◌+◌, ◌-◌, ◌*�
 use Rattle.tex_defs.specs.declared.Full.{Full}
 use Rattle.tex_defs.specs.declared.Table.TheVariants.{PoolSize, NumberOfStrings, HashSize}
 use Rattle.string_pool.specs.Pool.{Pool, kept_bytes}
-use Rattle.cs_hash.specs.Names.{Names, string_at, entered, number_of}
+use Rattle.cs_hash.specs.Names.{Names, string_at, entered, name_number}
 use Rattle.cs_hash.specs.Index.{slot_at}
 use Rattle.cs_hash.specs.declared.Search.{Search}
 use Rattle.cs_hash.specs.declared.Search.TheVariants.{Entered, Vacant}
@@ -40,9 +40,9 @@ pub record Gains (hash hash' : Names) (pool pool' : Pool) (name : List ℕ) : Ty
 
 -- a name that is there keeps its number; a new one is refused, and then nothing has changed, or gets the next
 pub record Enters (hash hash' : Names) (pool pool' : Pool) (name : List ℕ) (result : Result ℕ Full) : Type 0 where
-  pub there : (no : ℕ) → number_of (entered hash pool.kept) name ≡ Some no → (result ≡ Ok no) × Stays hash hash' pool pool'
-  pub refused : (full : Full) → number_of (entered hash pool.kept) name ≡ None → entry_refusal hash pool name ≡ Some full → (result ≡ Err full) × Stays hash hash' pool pool'
-  pub fresh : number_of (entered hash pool.kept) name ≡ None → entry_refusal hash pool name ≡ None → (result ≡ Ok (length hash.strings + 1)) × Gains hash hash' pool pool' name
+  pub there : (no : ℕ) → name_number (entered hash pool.kept) name ≡ Some no → (result ≡ Ok no) × Stays hash hash' pool pool'
+  pub refused : (full : Full) → name_number (entered hash pool.kept) name ≡ None → entry_refusal hash pool name ≡ Some full → (result ≡ Err full) × Stays hash hash' pool pool'
+  pub fresh : name_number (entered hash pool.kept) name ≡ None → entry_refusal hash pool name ≡ None → (result ≡ Ok (length hash.strings + 1)) × Gains hash hash' pool pool' name
 
 -- a search has come to this slot past slots that hold other names
 pub record IsAt (hash : Names) (kept : List (List ℕ)) (name : List ℕ) (slot depth : ℕ) : Type 0 where

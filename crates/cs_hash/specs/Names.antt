@@ -22,8 +22,8 @@ number_from k [] name = None
 number_from k (first ∷ names) name = if bytes_eq first name then Some k else number_from (suc k) names name
 
 -- the number of a name among these, from 1, if it is one of them
-abbrev pub number_of : List (List ℕ) → List ℕ → Option ℕ
-number_of names name = number_from 1 names name
+abbrev pub name_number : List (List ℕ) → List ℕ → Option ℕ
+name_number names name = number_from 1 names name
 
 -- The names are strings of this pool, distinct, and the table finds each: what a hash and its pool keep
 -- between calls. The pool may keep other strings too.

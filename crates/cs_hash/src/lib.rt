@@ -6,7 +6,7 @@
 #![tactic(auto)]
 
 ghost use Rattle.std.specs.Prelude.{◌≡◌, ℕ, ◌+◌, ◌-◌, ◌*◌, ◌<◌, ◌≤◌, ◌++◌, List, length, [], ◌∷◌, None, Some, IfOk, is_ok, MatchResult, slice_get, slice_set, if◌then◌else◌};
-ghost use Rattle.cs_hash.specs.Names.{Names, entered, number_of, Knows};
+ghost use Rattle.cs_hash.specs.Names.{Names, entered, name_number, Knows};
 ghost use Rattle.cs_hash.specs.Index.{bucket_of, turn_of};
 ghost use Rattle.cs_hash.specs.Entry.{Finds, Enters, hash_refusal, string_refusal, with_string};
 
@@ -76,7 +76,7 @@ impl CsHash {
     /// The number of a name, if it was entered.
     pub fn find(&self, pool: &StringPool, name: &[u8]) -> Option<NameNo>
         requires { Knows self.now pool.now.kept }
-        ensures { result ≡ number_of (entered self.now pool.now.kept) name.now }
+        ensures { result ≡ name_number (entered self.now pool.now.kept) name.now }
     {
         match self.search(pool, name) {
             Search::Entered(no) => Some(no),

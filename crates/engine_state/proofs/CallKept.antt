@@ -77,7 +77,7 @@ all_by e e' number None work same store h = (frames_kept e e' work same h.0, sam
 all_by e e' number (Some c) [] same store h = h
 all_by e e' number (Some c) (r ∷ rs) same store h = (call_still e e' number c r same.calling store h.0, frames_kept e e' rs same h.1)
 
-pub all_still : (sizes : Sizes) (e e' : Engine) (book : Book) → SameFrames e e' → SameStore e.input e'.input → IsSound sizes e' book.number book.macros → e'.input.making ≡ None → AllStand sizes e book → AllStand sizes e' book
+pub all_still : (sizes : Sizes) (e e' : Engine) (book : Book) → SameFrames e e' → SameStore e.input e'.input → IsSound sizes e' book.number book.all_lists → e'.input.making ≡ None → AllStand sizes e book → AllStand sizes e' book
 all_still sizes e e' book same store sound idle st = record {
   sound = sound;
   idle = idle;

@@ -12,7 +12,7 @@ use Rattle.tex_defs.specs.declared.Meaning.TheVariants as means
 use Rattle.prim_table.specs.Primitives.{primitive_names, command_names, assignment_names, expandable_names, conditional_names, integer_names, dimension_names, glue_names, token_names}
 use Rattle.plain_tokens.specs.Tokens.{is_outer}
 use Rattle.plain_tokens.specs.Lex.{Lexeme, Character, ActiveName, SingleName, WordName, EmptyName, ParName}
-use Rattle.plain_tokens.specs.Lookup.{token_of, name_among, number_of, numbered, joins, new_among, new_name}
+use Rattle.plain_tokens.specs.Lookup.{token_of, name_among, name_number, numbered_name, joins, new_among, new_name}
 use Rattle.plain_tokens.specs.Meanings.{fixed_locations, location, fixed_meaning, looked_up, name_meaning, seen_as, seen}
 use Rattle.equivalents.specs.First.{first_tables}
 use Rattle.equivalents.specs.Groups.{Groups, entered, first_groups}
@@ -90,12 +90,12 @@ module _ (cells : List Cell) (names : List (List ℕ)) (located : length cells �
   new_undefined : name_meaning cells (name.Word (length names + 1)) ≡ means.Undefined
   new_undefined = ap (λ (o : Option ℕ). looked_up cells o means.Undefined) word_at ∙ past_end cells (514 + length names) (omega (arith, located))
 
-  inner_word : (bytes : List ℕ) (o : Option ℕ) → (joins bytes o ≡ [] → ⊥) → is_outer (seen cells (token.Named (numbered true (length names) o))).meaning ≡ false
+  inner_word : (bytes : List ℕ) (o : Option ℕ) → (joins bytes o ≡ [] → ⊥) → is_outer (seen cells (token.Named (numbered_name true (length names) o))).meaning ≡ false
   inner_word bytes (Some n) some = absurd (some refl)
   inner_word bytes None some = ap (λ (m : Cell). is_outer (seen_as m)) new_undefined
 
   inner_among : (enters : Bool) (bytes : List ℕ) → (new_among enters names bytes ≡ [] → ⊥) → is_outer (seen cells (token.Named (name_among enters names bytes))).meaning ≡ false
-  inner_among true bytes some = inner_word bytes (number_of names bytes) some
+  inner_among true bytes some = inner_word bytes (name_number names bytes) some
   inner_among false bytes some = absurd (some refl)
 
   -- so it is not that of an \outer macro

@@ -6,7 +6,7 @@ use Rattle.equivalents.specs.Cases.{case_codes, case_changed}
 use Rattle.equivalents.specs.Groups.{Groups}
 use Rattle.equivalents.specs.Tables.{Tables}
 use Rattle.plain_machine.specs.Numbers.{tables_of}
-use Rattle.reading_frames.specs.Sees.{kept_list_of}
+use Rattle.reading_frames.specs.Views.{kept_list_of}
 use Rattle.input_state.specs.HeldLists.{first_list, is_empty, made as made_list}
 use Rattle.input_state.specs.Stored.{Stored}
 use Rattle.engine_state.specs.declared.engine.Engine.{Engine}

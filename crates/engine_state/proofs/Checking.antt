@@ -11,13 +11,13 @@ use Rattle.tex_defs.specs.declared.Token.{Token}
 use Rattle.rows.specs.Readings.{Fed}
 use Rattle.rows.specs.Table.{reads_under_normal}
 use Rattle.plain_readings.specs.Readings.{Kind, Reading, lists}
-use Rattle.plain_readings.specs.Scanning.{Status, Scans as ScansAs, SkipsText, Unguarded, Inherits, command_status, status, first_of, scanned_at, unless_unguarded, innermost_scanned, Scanning, Builds, scanning}
+use Rattle.plain_readings.specs.Scanning.{Status, Scans as ScansAs, SkipsText, Unguarded, Inherits, command_status, status, list_on_top, scanned_at, unless_unguarded, innermost_scanned, Scanning, Builds, scanning}
 use Rattle.reading_frames.specs.declared.ask.Found.{Found}
 use Rattle.reading_frames.specs.declared.ask.Found.TheVariants as found
 use Rattle.reading_frames.specs.declared.frame.Frame.{Frame}
 use Rattle.reading_frames.specs.declared.frame.Frame.TheVariants as frame
 use Rattle.reading_frames.specs.Resumes.{list_count, frame_status, built_as}
-use Rattle.reading_frames.specs.Sees.{Lists, top_list}
+use Rattle.reading_frames.specs.Views.{Lists, top_list}
 use Rattle.reading_frames.specs.Stack.{found_at, innermost_found, found_in, asks_in, scanning_of as scanning_found, unless_unguarded as unless_found}
 use Rattle.reading_frames.specs.Stands as frames
 use Rattle.reading_frames.proofs.Scanning.{scans}
@@ -178,14 +178,14 @@ module _ (e : Engine) where
 -- A CALL
 
 -- its present argument is the first of its lists
-first_work : (o : Option (List Token)) (rest builds : List (List Token)) (n : ℕ) → n ≡ length (option_to_list o ++ rest) → (o ≡ None → rest ≡ []) → first_of n ((option_to_list o ++ rest) ++ builds) ≡ work_or_none o
-first_work (Some work) rest builds n is none = ap (λ (k : ℕ). first_of k (work ∷ (rest ++ builds))) is
-first_work None rest builds n is none = ap (λ (k : ℕ). first_of k (rest ++ builds)) (is ∙ ap (length {A = List Token}) (none refl))
+first_work : (o : Option (List Token)) (rest builds : List (List Token)) (n : ℕ) → n ≡ length (option_to_list o ++ rest) → (o ≡ None → rest ≡ []) → list_on_top n ((option_to_list o ++ rest) ++ builds) ≡ work_or_none o
+first_work (Some work) rest builds n is none = ap (λ (k : ℕ). list_on_top k (work ∷ (rest ++ builds))) is
+first_work None rest builds n is none = ap (λ (k : ℕ). list_on_top k (rest ++ builds)) (is ∙ ap (length {A = List Token}) (none refl))
 
 no_args : (scan : Scan) → HasWork scan → scan_work scan ≡ None → last_first scan.args [] ≡ []
 no_args scan h none = ap (λ (args : List (List Token)). last_first args []) (h none)
 
-taking_list : (name : Name) (long : Bool) (text : List Token) (k : Calling) (fed : List Fed) (builds : List (List Token)) (n : ℕ) → IsTaking name long text k fed → n ≡ length (call_lists k) → first_of n (call_lists k ++ builds) ≡ work_or_none (call_work k)
+taking_list : (name : Name) (long : Bool) (text : List Token) (k : Calling) (fed : List Fed) (builds : List (List Token)) (n : ℕ) → IsTaking name long text k fed → n ≡ length (call_lists k) → list_on_top n (call_lists k ++ builds) ≡ work_or_none (call_work k)
 taking_list name long text calls.NotCalling fed builds n h is = absurd h
 taking_list name long text (calls.Gathering m scan) fed builds n h is = first_work (scan_work scan) (last_first scan.args []) builds n is (no_args scan h.1.0)
 taking_list name long text (calls.Stopped m scan) fed builds n h is = absurd h
@@ -230,7 +230,7 @@ module _ (sizes : Sizes) (e : Engine) (c : Call) (want : Option Want) (book : Bo
   h = u.readings.0
 
   abbrev scans_at : Kind → ℕ → Option Scanning
-  scans_at k n = unless_unguarded (status k) (scanned_at (status k) (first_of n (gathered e.input)) (innermost_scanned u.rs (drop n (gathered e.input))))
+  scans_at k n = unless_unguarded (status k) (scanned_at (status k) (list_on_top n (gathered e.input)) (innermost_scanned u.rs (drop n (gathered e.input))))
 
   pub use_scans : Finds (found.Builds scanned.Use c.name 0) e book × IsSome want
   use_scans = (

@@ -27,7 +27,7 @@ use Rattle.plain_machine.specs.Plan.{Page, style_of, wanted, reported, check_not
 use Rattle.plain_machine.specs.Does.{Did}
 use Rattle.plain_machine.proofs.Doing.{did_join, did_none}
 use Rattle.plain_machine.proofs.Renumbering.{met_of}
-use Rattle.world_io.specs.Told.{FilesTold, SinkTold, world}
+use Rattle.world_io.specs.Contents.{FilesTold, SinkTold, world}
 use Rattle.macro_call.specs.PlainScans.{cut_scan}
 use Rattle.input_state.specs.CallFeeds.{IsTaking, call_work, with_scan}
 use Rattle.input_state.specs.Callings.{Calling}
@@ -48,7 +48,7 @@ use Rattle.engine_state.specs.Calls.{AllStand, work_or_none}
 use Rattle.engine_state.specs.CutReadings.{CutsIn}
 use Rattle.engine_state.specs.Stands.{IsSized, SameFrames, SameOthers, SameStore, OnlyColumn, state_of, page_of, own_style}
 use Rattle.engine_state.specs.Steps.{asked}
-use Rattle.engine_state.specs.Rules.{world_of, onward_of, feeds_of, space_moves, token_moves, scanning_of, list_number, scanned_list, away_text, check_moves, IsScanned, IsFound, Finds, Takes, WantsHere, Behind, Comes, Went, Reports, DoesOnward}
+use Rattle.engine_state.specs.Rules.{world_of, onward_of, feeds_of, space_moves, token_moves, scanning_of, nth_list, scanned_list, away_text, check_moves, IsScanned, IsFound, Finds, Takes, WantsHere, Behind, Comes, Went, Reports, DoesOnward}
 use Rattle.engine_state.proofs.Uncalled.{framed}
 use Rattle.engine_state.proofs.CallKept.{all_still}
 use Rattle.engine_state.proofs.Checking.{Using, using}
@@ -80,11 +80,11 @@ scanned_still scanned.Definition k e e' call lists h = subst (λ (l : List (List
 
 list_still : (what : Scanned) (k : ℕ) (e e' : Engine) → e'.input.call ≡ e.input.call → e'.input.builds ≡ e.input.builds → scanned_list what k e' ≡ scanned_list what k e
 list_still scanned.Use k e e' call lists = ap (λ (c : Calling). work_or_none (call_work c)) call
-list_still scanned.Text k e e' call lists = ap (list_number k) lists
-list_still scanned.Definition k e e' call lists = ap (list_number k) lists
+list_still scanned.Text k e e' call lists = ap (nth_list k) lists
+list_still scanned.Definition k e e' call lists = ap (nth_list k) lists
 
 -- one that frames hold, where no call is what is scanned
-pub frame_list : (what : Scanned) (k : ℕ) (e : Engine) → (what ≡ scanned.Use → ⊥) → scanned_list what k e ≡ list_number k e.input.builds
+pub frame_list : (what : Scanned) (k : ℕ) (e : Engine) → (what ≡ scanned.Use → ⊥) → scanned_list what k e ≡ nth_list k e.input.builds
 frame_list scanned.Use k e other = absurd (other refl)
 frame_list scanned.Text k e other = refl
 frame_list scanned.Definition k e other = refl

@@ -17,7 +17,7 @@ use Rattle.plain_machine.specs.States.{Feeds, made}
 use Rattle.plain_machine.specs.Plan.{feeding, feeding_kind, argument_fed}
 use Rattle.plain_machine.specs.Does.{Did}
 use Rattle.plain_machine.proofs.Doing.{did_one}
-use Rattle.world_io.specs.Told.{FilesTold, SinkTold}
+use Rattle.world_io.specs.Contents.{FilesTold, SinkTold}
 use Rattle.macro_call.specs.PlainScans.{Scan, resume_scan, resume_at, cut_scan}
 use Rattle.macro_call.specs.Stages.{Stage}
 use Rattle.macro_call.proofs.Checks.{checks_show}
@@ -151,7 +151,7 @@ module _ (sizes : Sizes) (e e2 : Engine) (book : Book) (name : Name) (r : Readin
 
   pub noted_stands : AllStand sizes e2 (with_work now book)
   noted_stands = record {
-    sound = sound_still sizes e e2 book.number book.macros (ap (λ (y : Engine). y.sizes) after) (ap (λ (y : Engine). y.readings.size) after) (ap (λ (y : Engine). y.conditionals) after) (ap (λ (y : Engine). y.names) after) (ap (λ (y : Engine). y.reports) after)
+    sound = sound_still sizes e e2 book.number book.all_lists (ap (λ (y : Engine). y.sizes) after) (ap (λ (y : Engine). y.readings.size) after) (ap (λ (y : Engine). y.conditionals) after) (ap (λ (y : Engine). y.names) after) (ap (λ (y : Engine). y.reports) after)
         (store_scan e.input e2.input (with_scan cut_scan e.input.call) (ap (λ (y : Engine). y.input) after)) st.sound;
     idle = ap (λ (y : Engine). y.input.making) after ∙ st.idle;
     all = subst (λ (y : Engine). ReadingsStand y.call y book.number now) (sym after)

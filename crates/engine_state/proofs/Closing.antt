@@ -9,7 +9,7 @@ use Rattle.plain_machine.specs.States.{State, Move}
 use Rattle.plain_machine.specs.Plan.{put_one, put_each}
 use Rattle.plain_machine.specs.Does.{Did}
 use Rattle.plain_machine.proofs.Doing.{did_join, did_none}
-use Rattle.input_state.specs.Stored.{Stored, KeepsMacros}
+use Rattle.input_state.specs.Stored.{Stored, KeepsShared}
 use Rattle.reading_frames.specs.Stack.{Stack}
 use Rattle.engine_state.specs.declared.broken.Broken.{Broken}
 use Rattle.engine_state.specs.declared.engine.Engine.{Engine}
@@ -31,7 +31,7 @@ each_join (x ∷ xs) ys = ap (λ (ms : List Move). put_one x ++ ms) (each_join x
 pub record IsKept (e e1 : Engine) : Type 0 where
   pub frames : SameFrames e e1
   pub others : SameOthers e e1
-  pub sound : (sizes : Sizes) (book : Book) → IsSound sizes e book.number book.macros → IsSound sizes e1 book.number book.macros
+  pub sound : (sizes : Sizes) (book : Book) → IsSound sizes e book.number book.all_lists → IsSound sizes e1 book.number book.all_lists
   pub light : pending_weight e1.input.pending ≡ pending_weight e.input.pending
 
 others_same : (e : Engine) (i : Stored) → SameOthers e (record e { input = i })
@@ -72,7 +72,7 @@ kept_put : (e e1 : Engine) → SameFrames e e1 → SameOthers e e1 → SameStore
 kept_put e e1 frames others store light = record {
   frames = frames;
   others = others;
-  sound = λ sizes book h. sound_still sizes e e1 book.number book.macros others.sizes (ap (λ (s : Stack). s.size) frames.readings) others.conditionals others.names others.reports store h;
+  sound = λ sizes book h. sound_still sizes e e1 book.number book.all_lists others.sizes (ap (λ (s : Stack). s.size) frames.readings) others.conditionals others.names others.reports store h;
   light = light;
 }
 
@@ -82,14 +82,14 @@ module _ (e : Engine) (i : Stored) (is : i ≡ record e.input { closing = i.clos
   abbrev pub given : Engine
   given = record e { input = i }
 
-  keeps : KeepsMacros e.input i
-  keeps = subst (KeepsMacros e.input) (sym is) (record { tokens = λ n h. refl })
+  keeps : KeepsShared e.input i
+  keeps = subst (KeepsShared e.input) (sym is) (record { tokens = λ n h. refl })
 
   pub kept_given : IsKept e given
   kept_given = record {
     frames = grouped_frames e e.input.groups i.closing i.ending e.input.lists i is;
     others = others_same e i;
-    sound = λ sizes book h. grouped_sound e e.input.groups i.closing i.ending e.input.lists i is refl (λ n h. h) keeps sizes book.number book.macros h;
+    sound = λ sizes book h. grouped_sound e e.input.groups i.closing i.ending e.input.lists i is refl (λ n h. h) keeps sizes book.number book.all_lists h;
     light = ap (λ (j : Stored). pending_weight j.pending) is;
   }
 

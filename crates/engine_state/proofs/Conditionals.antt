@@ -20,11 +20,11 @@ use Rattle.plain_tokens.specs.Meanings.{meaning_to_let}
 use Rattle.plain_tokens.specs.Pending.{all_puts}
 use Rattle.plain_tokens.specs.Printed.{Style, meaning_tokens}
 use Rattle.plain_machine.specs.States.{Move, Written, ConditionOpened, LimitSet, ConditionClosed}
-use Rattle.plain_machine.specs.Plan.{conditionals_left, macro_tokens, tokens_meant}
+use Rattle.plain_machine.specs.Plan.{conditionals_left, shared_tokens, tokens_meant}
 use Rattle.plain_machine.specs.Does.{Did}
 use Rattle.plain_machine.proofs.Doing.{did_one, did_none, did_join}
 use Rattle.plain_machine.proofs.Ties.{tokens_let}
-use Rattle.world_io.specs.Told.{FilesTold, SinkTold}
+use Rattle.world_io.specs.Contents.{FilesTold, SinkTold}
 use Rattle.input_state.specs.Calls.{macro_text, list_to_let}
 use Rattle.engine_state.specs.declared.broken.Broken.{Broken}
 use Rattle.engine_state.specs.declared.broken.Broken.TheVariants as broken
@@ -197,7 +197,7 @@ module _ (sizes : Sizes) (e e1 e2 : Engine) (book : Book) (w w1 w2 : World) (onl
 
 -- THE COMPARISON OF `\ifx`
 
-macro_is : (lists : List (List Token)) (m : Meaning (Option ℕ)) → macro_text lists m ≡ meaning_tokens (macro_tokens lists) m
+macro_is : (lists : List (List Token)) (m : Meaning (Option ℕ)) → macro_text lists m ≡ meaning_tokens (shared_tokens lists) m
 macro_is lists (means.Macro long outer (Some id)) = refl
 macro_is lists (means.Macro long outer None) = refl
 macro_is lists means.Undefined = refl
@@ -208,9 +208,9 @@ macro_is lists (means.MathGiven code) = refl
 macro_is lists (means.Register kind number) = refl
 macro_is lists (means.Prim number) = refl
 
-module _ (sizes : Sizes) (e : Engine) (book : Book) (sound : IsSound sizes e book.number book.macros) where
+module _ (sizes : Sizes) (e : Engine) (book : Book) (sound : IsSound sizes e book.number book.all_lists) where
   meant : (x : Seen) → list_to_let e.input.lists e.input.groups.now.meanings x ≡ tokens_meant (page_of e book) x
-  meant x = macro_is e.input.lists (meaning_to_let e.input.groups.now.meanings x) ∙ sym (tokens_let book.number book.macros e.input.groups (all_puts e.input.pending) e.input.lists sound.tied x)
+  meant x = macro_is e.input.lists (meaning_to_let e.input.groups.now.meanings x) ∙ sym (tokens_let book.number book.all_lists e.input.groups (all_puts e.input.pending) e.input.lists sound.tied x)
 
   -- by the lists of the memory it is by those of the machine
   pub same_as : (x y : Seen) (listed result : Bool) → listed ≡ are_same (list_to_let e.input.lists e.input.groups.now.meanings x) (list_to_let e.input.lists e.input.groups.now.meanings y) →

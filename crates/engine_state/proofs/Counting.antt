@@ -13,7 +13,7 @@ use Rattle.plain_readings.specs.Readings.{Kind, Reading, lists}
 use Rattle.plain_tokens.specs.Tables.{memory, lists_words, refused}
 use Rattle.reading_frames.specs.declared.frame.Frame.{Frame}
 use Rattle.reading_frames.specs.Resumes.{below}
-use Rattle.reading_frames.specs.Sees.{Lists}
+use Rattle.reading_frames.specs.Views.{Lists}
 use Rattle.reading_frames.specs.Stands as frames
 use Rattle.plain_machine.specs.States.{Begun, BegunWith}
 use Rattle.plain_machine.specs.Demands.{refusal}

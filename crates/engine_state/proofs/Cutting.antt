@@ -9,7 +9,7 @@ use Rattle.plain_machine.specs.Demands.{refusal}
 use Rattle.plain_machine.specs.Runs.{Wrote, after}
 use Rattle.plain_machine.specs.Does.{Did, IsFault, IsWant}
 use Rattle.plain_machine.proofs.Doing.{did_one, cut_first, cut_later, cut_in, cut_full}
-use Rattle.world_io.specs.Told.{FilesTold, SinkTold, world}
+use Rattle.world_io.specs.Contents.{FilesTold, SinkTold, world}
 use Rattle.world_io.specs.declared.traits.Fault.{Fault}
 use Rattle.world_io.specs.declared.traits.Fault.TheVariants.{Failed, NoMemory}
 use Rattle.transcript.specs.Taken.{Took, TookFront}

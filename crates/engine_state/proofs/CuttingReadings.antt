@@ -7,7 +7,7 @@ use Rattle.tex_defs.specs.Places.{World}
 use Rattle.plain_readings.specs.Readings.{Reading}
 use Rattle.plain_machine.specs.States.{State, Move}
 use Rattle.plain_machine.specs.Does.{Did}
-use Rattle.world_io.specs.Told.{FilesTold, SinkTold, world}
+use Rattle.world_io.specs.Contents.{FilesTold, SinkTold, world}
 use Rattle.input_state.specs.Callings.{Calling}
 use Rattle.reading_frames.specs.Stack.{Stack}
 use Rattle.reading_frames.specs.Stands as frames

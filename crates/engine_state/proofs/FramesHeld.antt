@@ -12,7 +12,7 @@ use Rattle.reading_frames.specs.declared.frame.Frame.{Frame}
 use Rattle.reading_frames.proofs.Held.{are_held, lists_counted, listed_now}
 use Rattle.reading_frames.proofs.Whole.{taken_and_left}
 use Rattle.input_state.specs.Callings.{Calling, NotCalling, call_lists}
-use Rattle.input_state.specs.Stored.{Stored, KeepsMacros, gathered}
+use Rattle.input_state.specs.Stored.{Stored, KeepsShared, gathered}
 use Rattle.engine_state.specs.declared.engine.Engine.{Engine}
 use Rattle.engine_state.specs.Book.{Book, with_work}
 use Rattle.engine_state.specs.Stands.{Stands, SameBut, state_of}
@@ -65,7 +65,7 @@ stands_gathered sizes e book st = gathered_is e.input st.uncalled.input
 pub stands_new : (sizes : Sizes) (e e' : Engine) (book : Book) (work : List Reading) (fs : List Frame) (held : List (List Token)) → SameBut e e' → e'.readings.frames ≡ fs → e'.input.builds ≡ held → Stands sizes e book →
     frames.FramesStand fs held work → AreShallow fs held → Stands sizes e' (with_work work book)
 stands_new sizes e e' book work fs held same fs_are held_are st stand shallow = record {
-  sound = sound_still sizes e e' book.number book.macros same.others.sizes same.others.depth same.others.conditionals same.others.names same.others.reports same.store st.sound;
+  sound = sound_still sizes e e' book.number book.all_lists same.others.sizes same.others.depth same.others.conditionals same.others.names same.others.reports same.store st.sound;
   idle = same.making ∙ st.idle;
   readings = record {
     frames = subst (λ (l : List (List Token)). frames.FramesStand e'.readings.frames l work) (sym held_are) (subst (λ (x : List Frame). frames.FramesStand x held work) (sym fs_are) stand);
@@ -81,7 +81,7 @@ state_new e e' book work held same last lists = cc (same.pending, same.others.na
 abbrev pub framed_with : Engine → Stack → (held lists : List (List Token)) → Engine
 framed_with e stack held lists = record e { readings = stack; input = record e.input { builds = held; lists = lists } }
 
-pub same_with : (e e' : Engine) (stack : Stack) (held : List (List Token)) → e' ≡ framed_with e stack held e'.input.lists → stack.size ≡ e.readings.size → KeepsMacros e.input e'.input → SameBut e e'
+pub same_with : (e e' : Engine) (stack : Stack) (held : List (List Token)) → e' ≡ framed_with e stack held e'.input.lists → stack.size ≡ e.readings.size → KeepsShared e.input e'.input → SameBut e e'
 same_with e e' stack held is size kept = record {
   others = record {
     depth = ap (λ (x : Engine). x.readings.size) is ∙ size;
@@ -103,5 +103,5 @@ same_with e e' stack held is size kept = record {
   store = store_gathered e.input e'.input held (ap (λ (x : Engine). x.input) is) kept;
 }
 
-pub keeps_all : (i : Stored) → KeepsMacros i i
+pub keeps_all : (i : Stored) → KeepsShared i i
 keeps_all i = record { tokens = λ n h. refl }

@@ -13,7 +13,7 @@ use Rattle.plain_machine.specs.Does.{Did}
 use Rattle.plain_machine.proofs.Doing.{did_join}
 use Rattle.plain_machine.proofs.GroupNumbers.{closed_of}
 use Rattle.plain_machine.proofs.Holders.{OutsideIsHeld, closed_held}
-use Rattle.input_state.specs.Stored.{Stored, KeepsMacros}
+use Rattle.input_state.specs.Stored.{Stored, KeepsShared}
 use Rattle.engine_state.specs.declared.broken.Broken.{Broken}
 use Rattle.engine_state.specs.declared.engine.Engine.{Engine}
 use Rattle.engine_state.specs.Book.{Book}
@@ -41,7 +41,7 @@ module _ (e : Engine) (i : Stored) (is : i ≡ record e.input { groups = closed 
   ended_is : (book : Book) → group_ended (page_of e book) ≡ GroupClosed ∷ put_each i.closing
   ended_is book = ap (λ (ts : List Token). GroupClosed ∷ put_each ts) (sym (ap (λ (j : Stored). j.closing) is))
 
-  module _ (outside : OutsideIsHeld e.input.groups) (alike : AreAlike e.input.groups) (kept : KeepsMacros e.input i) where
+  module _ (outside : OutsideIsHeld e.input.groups) (alike : AreAlike e.input.groups) (kept : KeepsShared e.input i) where
     gone_stands : (sizes : Sizes) (book : Book) → Stands sizes e book → Stands sizes gone book
     gone_stands sizes book st =
         grouped_stands e (closed e.input.groups) (tokens_after e.input.groups) (kind_of e.input.groups) i.lists i is (outer_length e.input.groups.now e.input.groups.outer alike)
@@ -59,7 +59,7 @@ module _ (e : Engine) (i : Stored) (is : i ≡ record e.input { groups = closed 
         cuts_by sizes (state_of e book) e2 book w w _ _ b (ended_is book)
         (later_cuts sizes (state_of e book) (state_of gone book) e2 book w w w (GroupClosed ∷ []) (put_each i.closing) b (gone_did sizes w book) (cuts sizes w book (counts_of sizes gone book (gone_stands sizes book st))))
 
-    pub ended_stands : (e2 : Engine) → SameFrames gone e2 → ((sizes : Sizes) (book : Book) → IsSound sizes gone book.number book.macros → IsSound sizes e2 book.number book.macros) → e2.input.making ≡ None →
+    pub ended_stands : (e2 : Engine) → SameFrames gone e2 → ((sizes : Sizes) (book : Book) → IsSound sizes gone book.number book.all_lists → IsSound sizes e2 book.number book.all_lists) → e2.input.making ≡ None →
         (sizes : Sizes) (book : Book) → Stands sizes e book → Stands sizes e2 book
     ended_stands e2 same sound idle sizes book st = let now = gone_stands sizes book st in record {
       sound = sound sizes book now.sound;

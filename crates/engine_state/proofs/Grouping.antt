@@ -20,7 +20,7 @@ use Rattle.plain_machine.specs.Numbers.{groups_of}
 use Rattle.plain_machine.proofs.Doing.{did_join, did_one}
 use Rattle.plain_machine.proofs.GroupNumbers.{opened_of, with_token_of, group_demands_of, token_demands_of}
 use Rattle.plain_machine.proofs.Ties.{held_more, tied_fewer, tied_stayed}
-use Rattle.input_state.specs.Stored.{Stored, KeepsMacros}
+use Rattle.input_state.specs.Stored.{Stored, KeepsShared}
 use Rattle.engine_state.specs.declared.broken.Broken.{Broken}
 use Rattle.engine_state.specs.declared.broken.Broken.TheVariants as broken
 use Rattle.engine_state.specs.declared.engine.Engine.{Engine}
@@ -47,12 +47,12 @@ module _ (e : Engine) (g : Groups) (closing : List Token) (ending : Option Group
       did_one sizes m (state_of e book) (state_of (record e { input = i }) book) w w fits (makes ∙ ap (λ (j : Stored). state_of (record e { input = j }) book) (sym is)) (quiet_here m w quiet)
 
   -- no list more is held
-  module _ (same : length g.now.meanings ≡ length e.input.groups.now.meanings) (fewer : (n : ℕ) → is_listed (lists_held g) n ≡ true → is_listed (lists_held e.input.groups) n ≡ true) (kept : KeepsMacros e.input i) where
-    kept_after : KeepsMacros e.input after
-    kept_after = subst (KeepsMacros e.input) is kept
+  module _ (same : length g.now.meanings ≡ length e.input.groups.now.meanings) (fewer : (n : ℕ) → is_listed (lists_held g) n ≡ true → is_listed (lists_held e.input.groups) n ≡ true) (kept : KeepsShared e.input i) where
+    kept_after : KeepsShared e.input after
+    kept_after = subst (KeepsShared e.input) is kept
 
-    sound_after : (sizes : Sizes) (number : ℕ → ℕ) (macros : List (List Token)) → IsSound sizes e number macros → IsSound sizes (record e { input = after }) number macros
-    sound_after sizes number macros h = record {
+    sound_after : (sizes : Sizes) (number : ℕ → ℕ) (all_lists : List (List Token)) → IsSound sizes e number all_lists → IsSound sizes (record e { input = after }) number all_lists
+    sound_after sizes number all_lists h = record {
       sized = record {
         few_reports = h.sized.few_reports;
         small = h.sized.small;
@@ -63,26 +63,26 @@ module _ (e : Engine) (g : Groups) (closing : List Token) (ending : Option Group
         names = h.sized.names;
         located = same ∙ h.sized.located;
       };
-      tied = tied_stayed number macros (lists_held g) (all_puts e.input.pending) e.input.lists
-          (tied_fewer number macros (lists_held e.input.groups) (all_puts e.input.pending) e.input.lists h.tied (lists_held g) (all_puts e.input.pending)
+      tied = tied_stayed number all_lists (lists_held g) (all_puts e.input.pending) e.input.lists
+          (tied_fewer number all_lists (lists_held e.input.groups) (all_puts e.input.pending) e.input.lists h.tied (lists_held g) (all_puts e.input.pending)
           (λ n held. held_more n (lists_held g) (lists_held e.input.groups) (all_puts e.input.pending) (all_puts e.input.pending) (fewer n) (λ put. put) held)) lists
-          (λ k below none. body_at macros k h.bodies below none) kept_after.tokens;
+          (λ k below none. body_at all_lists k h.bodies below none) kept_after.tokens;
       bodies = h.bodies;
     }
 
-    pub grouped_sound : (sizes : Sizes) (number : ℕ → ℕ) (macros : List (List Token)) → IsSound sizes e number macros → IsSound sizes (record e { input = i }) number macros
-    grouped_sound sizes number macros h = subst (λ (j : Stored). IsSound sizes (record e { input = j }) number macros) (sym is) (sound_after sizes number macros h)
+    pub grouped_sound : (sizes : Sizes) (number : ℕ → ℕ) (all_lists : List (List Token)) → IsSound sizes e number all_lists → IsSound sizes (record e { input = i }) number all_lists
+    grouped_sound sizes number all_lists h = subst (λ (j : Stored). IsSound sizes (record e { input = j }) number all_lists) (sym is) (sound_after sizes number all_lists h)
 
     pub grouped_stands : (sizes : Sizes) (book : Book) → Stands sizes e book → Stands sizes (record e { input = i }) book
     grouped_stands sizes book st = record {
-      sound = grouped_sound sizes book.number book.macros st.sound;
+      sound = grouped_sound sizes book.number book.all_lists st.sound;
       idle = ap (λ (j : Stored). j.making) is ∙ st.idle;
       readings = frames_kept e (record e { input = i }) book.work grouped_frames st.readings;
       uncalled = record { none = st.uncalled.none; input = ap (λ (j : Stored). j.call) is ∙ st.uncalled.input };
     }
 
 -- what is asked for, by the machine and by the input
-module _ (sizes : Sizes) (e : Engine) (book : Book) (o : Option Full) (sound : IsSound sizes e book.number book.macros) where
+module _ (sizes : Sizes) (e : Engine) (book : Book) (o : Option Full) (sound : IsSound sizes e book.number book.all_lists) where
   pub asks_same : (ds es : List Demand) → ds ≡ es → refused e.input.sizes es ≡ o → refused sizes ds ≡ o
   asks_same ds es same h = ap (refused sizes) same ∙ (ap (λ (s : Sizes). refused s es) (sym sound.sized.input) ∙ h)
 
@@ -105,16 +105,16 @@ module _ (e : Engine) (kind : GroupKind) (i : Stored) where
     pub opened_frames : SameFrames e (record e { input = i })
     opened_frames = grouped_frames e (opened e.input.groups kind) e.input.closing e.input.ending e.input.lists i is
 
-    pub opened_did : (sizes : Sizes) (w : World) (book : Book) → IsSound sizes e book.number book.macros → refused e.input.sizes (group_demands e.input.groups) ≡ None →
+    pub opened_did : (sizes : Sizes) (w : World) (book : Book) → IsSound sizes e book.number book.all_lists → refused e.input.sizes (group_demands e.input.groups) ≡ None →
         Did sizes (state_of e book) (state_of (record e { input = i }) book) w w (GroupOpened kind ∷ [])
     opened_did sizes w book sound fits =
         grouped_did e (opened e.input.groups kind) e.input.closing e.input.ending e.input.lists i is sizes w book (GroupOpened kind) tt (group_asks sizes e book None sound fits)
         (ap (λ (g : Groups). record (state_of e book) { groups = g }) (opened_of book.number e.input.groups kind))
 
-    pub opened_stands : KeepsMacros e.input i → (sizes : Sizes) (book : Book) → Stands sizes e book → Stands sizes (record e { input = i }) book
+    pub opened_stands : KeepsShared e.input i → (sizes : Sizes) (book : Book) → Stands sizes e book → Stands sizes (record e { input = i }) book
     opened_stands kept sizes book st = grouped_stands e (opened e.input.groups kind) e.input.closing e.input.ending e.input.lists i is refl (λ n h. h) kept sizes book st
 
-  pub unopened_cuts : (sizes : Sizes) (w : World) (book : Book) (full : Full) → i ≡ e.input → IsSound sizes e book.number book.macros → refused e.input.sizes (group_demands e.input.groups) ≡ Some full →
+  pub unopened_cuts : (sizes : Sizes) (w : World) (book : Book) (full : Full) → i ≡ e.input → IsSound sizes e book.number book.all_lists → refused e.input.sizes (group_demands e.input.groups) ≡ Some full →
       Cuts sizes (state_of e book) (record e { input = i }) book w w (GroupOpened kind ∷ []) (broken.Full full)
   unopened_cuts sizes w book full same sound refuses = unchanged_cuts sizes e i book w (GroupOpened kind) [] full same (group_asks sizes e book (Some full) sound refuses)
 
@@ -146,17 +146,17 @@ module _ (e : Engine) (t : Token) where
 
   module _ (i : Stored) (inside : 0 < depth e.input.groups) where
     module _ (is : i ≡ record e.input { groups = with_token e.input.groups t }) where
-      pub kept_did : (sizes : Sizes) (w : World) (book : Book) → IsSound sizes e book.number book.macros → refused e.input.sizes (token_demands e.input.groups) ≡ None →
+      pub kept_did : (sizes : Sizes) (w : World) (book : Book) → IsSound sizes e book.number book.all_lists → refused e.input.sizes (token_demands e.input.groups) ≡ None →
           Did sizes (state_of e book) (state_of (record e { input = i }) book) w w keeps
       kept_did sizes w book sound fits =
           subst (λ (ms : List Move). Did sizes (state_of e book) (state_of (record e { input = i }) book) w w ms) (sym (kept_by e.input.groups.kinds t inside))
           (grouped_did e (with_token e.input.groups t) e.input.closing e.input.ending e.input.lists i is sizes w book (KeptForGroup t) tt (token_asks sizes e book None sound fits)
           (ap (λ (g : Groups). record (state_of e book) { groups = g }) (with_token_of book.number e.input.groups t)))
 
-      pub kept_stands : KeepsMacros e.input i → (sizes : Sizes) (book : Book) → Stands sizes e book → Stands sizes (record e { input = i }) book
+      pub kept_stands : KeepsShared e.input i → (sizes : Sizes) (book : Book) → Stands sizes e book → Stands sizes (record e { input = i }) book
       kept_stands kept sizes book st = grouped_stands e (with_token e.input.groups t) e.input.closing e.input.ending e.input.lists i is refl (λ n h. h) kept sizes book st
 
-    pub unkept_cuts : (sizes : Sizes) (w : World) (book : Book) (more : List Move) (full : Full) → i ≡ e.input → IsSound sizes e book.number book.macros → refused e.input.sizes (token_demands e.input.groups) ≡ Some full →
+    pub unkept_cuts : (sizes : Sizes) (w : World) (book : Book) (more : List Move) (full : Full) → i ≡ e.input → IsSound sizes e book.number book.all_lists → refused e.input.sizes (token_demands e.input.groups) ≡ Some full →
         Cuts sizes (state_of e book) (record e { input = i }) book w w (keeps ++ more) (broken.Full full)
     unkept_cuts sizes w book more full same sound refuses =
         cuts_by sizes (state_of e book) (record e { input = i }) book w w _ _ (broken.Full full) (ap (λ (ms : List Move). ms ++ more) (kept_by e.input.groups.kinds t inside))

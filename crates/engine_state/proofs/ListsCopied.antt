@@ -12,7 +12,7 @@ use Rattle.tex_defs.specs.Places.{World}
 use Rattle.plain_tokens.specs.Puts.{grow_first}
 use Rattle.plain_tokens.specs.Tables.{list_words, lists_words}
 use Rattle.equivalents.specs.declared.values.Loc.{Loc}
-use Rattle.rows.specs.Readings.{More, Entered}
+use Rattle.rows.specs.Readings.{More, Verbatim}
 use Rattle.plain_readings.specs.Readings.{Reading, ask, fed_with}
 use Rattle.plain_readings.proofs.Entering as readings
 use Rattle.plain_machine.specs.States.{Move, Grows, Feeds}
@@ -26,13 +26,13 @@ use Rattle.reading_frames.specs.declared.frame.Frame.{Frame}
 use Rattle.reading_frames.proofs.Entering.{enters}
 use Rattle.input_state.specs.Callings.{call_lists}
 use Rattle.input_state.specs.Standing.{appended, AppendsShort, with_appended}
-use Rattle.input_state.specs.Stored.{Stored, KeepsMacros, words as stored_words}
+use Rattle.input_state.specs.Stored.{Stored, KeepsShared, words as stored_words}
 use Rattle.input_state.proofs.Refusing.{memory_room}
 use Rattle.engine_state.specs.declared.broken.Broken.TheVariants as broken
 use Rattle.engine_state.specs.declared.engine.Engine.{Engine}
 use Rattle.engine_state.specs.Book.{Book, with_work}
 use Rattle.engine_state.specs.CutReadings.{CutsIn}
-use Rattle.engine_state.specs.Lists.{Copies, fed_list, list_at, with_list}
+use Rattle.engine_state.specs.Lists.{Copies, fed_list, location_list, with_list}
 use Rattle.engine_state.specs.Stands.{IsSound, Stands, FramesStand, state_of, page_of}
 use Rattle.engine_state.proofs.Cutting.{cuts_by, later_cuts, full_cuts}
 use Rattle.engine_state.proofs.CuttingReadings.{near_none}
@@ -70,7 +70,7 @@ grow_words i t some =
 
 entered_join : (ts us : List Token) → tokens_entered (ts ++ us) ≡ tokens_entered ts ++ tokens_entered us
 entered_join [] us = refl
-entered_join (t ∷ ts) us = ap (λ (ms : List Move). Grows t ∷ Feeds (Entered t) ∷ ms) (entered_join ts us)
+entered_join (t ∷ ts) us = ap (λ (ms : List Move). Grows t ∷ Feeds (Verbatim t) ∷ ms) (entered_join ts us)
 
 -- THE FRAMES
 
@@ -111,19 +111,19 @@ module _ (sizes : Sizes) where
     entry : Enters e.readings.frames e.input.builds book.work t
     entry = enters e.readings.frames e.input.builds book.work t st.readings.frames copies
 
-    one_stands : Stands sizes (one e t) (with_work (fed_with (Entered t) book.work) book)
+    one_stands : Stands sizes (one e t) (with_work (fed_with (Verbatim t) book.work) book)
     one_stands = record {
-      sound = listed_sound sizes e (one e t) (grow_first t e.input.builds) book.number book.macros refl (keeps_all e.input) st.sound;
+      sound = listed_sound sizes e (one e t) (grow_first t e.input.builds) book.number book.all_lists refl (keeps_all e.input) st.sound;
       idle = st.idle;
       readings = record { frames = entry.stands; shallow = entry.shallow st.readings.shallow };
       uncalled = record { none = st.uncalled.none; input = st.uncalled.input };
     }
 
-    one_did : (w : World) → stored_words e.input + 1 ≤ e.input.sizes.main_memory_size → Did sizes (state_of e book) (state_of (one e t) (with_work (fed_with (Entered t) book.work) book)) w w (tokens_entered (t ∷ []))
+    one_did : (w : World) → stored_words e.input + 1 ≤ e.input.sizes.main_memory_size → Did sizes (state_of e book) (state_of (one e t) (with_work (fed_with (Verbatim t) book.work) book)) w w (tokens_entered (t ∷ []))
     one_did w fits =
-        did_join sizes (state_of e book) (state_of (one e t) book) (state_of (one e t) (with_work (fed_with (Entered t) book.work) book)) w w w (Grows t ∷ []) (Feeds (Entered t) ∷ [])
+        did_join sizes (state_of e book) (state_of (one e t) book) (state_of (one e t) (with_work (fed_with (Verbatim t) book.work) book)) w w w (Grows t ∷ []) (Feeds (Verbatim t) ∷ [])
         (grow_did sizes book w e (one e t) t refl some st.uncalled.input st.sound (memory_room e.input.sizes (stored_words e.input) 1 fits))
-        (did_one sizes (Feeds (Entered t)) (state_of (one e t) book) (state_of (one e t) (with_work (fed_with (Entered t) book.work) book)) w w refl refl (quiet_here (Feeds (Entered t)) w tt))
+        (did_one sizes (Feeds (Verbatim t)) (state_of (one e t) book) (state_of (one e t) (with_work (fed_with (Verbatim t) book.work) book)) w w refl refl (quiet_here (Feeds (Verbatim t)) w tt))
 
   entered_all : (ts : List Token) (e : Engine) (book : Book) → Stands sizes e book → AsksCopied (asks_in e.readings.frames e.input.builds) → stored_words e.input + length ts ≤ e.input.sizes.main_memory_size → HasEntered sizes e ts book
   entered_all [] e book st copies fits = record {
@@ -131,7 +131,7 @@ module _ (sizes : Sizes) where
     did = λ w. subst (λ (x : Engine). Did sizes (state_of e book) (state_of x book) w w []) (sym (none_then e)) (did_none sizes (state_of e book) w);
   }
   entered_all (t ∷ ts) e book st copies fits =
-      let next : Book = with_work (fed_with (Entered t) book.work) book in
+      let next : Book = with_work (fed_with (Verbatim t) book.work) book in
       let more : HasEntered sizes (one e t) ts next = entered_all ts (one e t) next (one_stands e book t st copies) (entry e book t st copies).copies (omega (arith, fits, grow_words e.input t (some e book t st copies))) in
       record {
         stands = subst (λ (x : Engine). Stands sizes x (with_work (fed_list ts next.work) book)) (one_then e t ts) more.stands;
@@ -140,13 +140,13 @@ module _ (sizes : Sizes) where
       }
 
   -- the lists of the memory are others then
-  module _ (e e' : Engine) (book : Book) (ts : List Token) (st : Stands sizes e book) (copies : AsksCopied (asks_in e.readings.frames e.input.builds)) (is : e' ≡ listed e (appended ts e.input.builds) e'.input.lists) (kept : KeepsMacros e.input e'.input)
+  module _ (e e' : Engine) (book : Book) (ts : List Token) (st : Stands sizes e book) (copies : AsksCopied (asks_in e.readings.frames e.input.builds)) (is : e' ≡ listed e (appended ts e.input.builds) e'.input.lists) (kept : KeepsShared e.input e'.input)
       (fits : stored_words e.input + length ts ≤ e.input.sizes.main_memory_size) where
     all : HasEntered sizes e ts book
     all = entered_all ts e book st copies fits
 
-    entered_sound : IsSound sizes e' book.number book.macros
-    entered_sound = listed_sound sizes e e' (appended ts e.input.builds) book.number book.macros is kept st.sound
+    entered_sound : IsSound sizes e' book.number book.all_lists
+    entered_sound = listed_sound sizes e e' (appended ts e.input.builds) book.number book.all_lists is kept st.sound
 
     entered_frames : FramesStand e' (fed_list ts book.work)
     entered_frames = subst (λ (x : Engine). FramesStand x (fed_list ts book.work)) (sym is) (record { frames = all.stands.readings.frames; shallow = all.stands.readings.shallow })
@@ -164,24 +164,24 @@ module _ (sizes : Sizes) where
 
 -- THE LIST OF A LOCATION
 
-module _ (sizes : Sizes) (e e' : Engine) (book : Book) (l : Loc) (st : Stands sizes e book) (copies : Copies e) (kept : KeepsMacros e.input e'.input) where
-  moves_are : list_given (page_of e book) true (list_number (page_of e book) l) ≡ tokens_entered (list_at e l)
+module _ (sizes : Sizes) (e e' : Engine) (book : Book) (l : Loc) (st : Stands sizes e book) (copies : Copies e) (kept : KeepsShared e.input e'.input) where
+  moves_are : list_given (page_of e book) true (list_number (page_of e book) l) ≡ tokens_entered (location_list e l)
   moves_are = copied_is sizes e book st.sound l
 
-  module _ (is : e' ≡ listed e (appended (list_at e l) e.input.builds) e'.input.lists) (fits : stored_words e.input + length (list_at e l) ≤ e.input.sizes.main_memory_size) where
+  module _ (is : e' ≡ listed e (appended (location_list e l) e.input.builds) e'.input.lists) (fits : stored_words e.input + length (location_list e l) ≤ e.input.sizes.main_memory_size) where
     pub copied_stands : Stands sizes e' (with_list e l book)
-    copied_stands = entered_stands sizes e e' book (list_at e l) st copies is kept fits
+    copied_stands = entered_stands sizes e e' book (location_list e l) st copies is kept fits
 
     pub copied_did : (w : World) → Did sizes (state_of e book) (state_of e' (with_list e l book)) w w (list_given (page_of e book) true (list_number (page_of e book) l))
-    copied_did w = subst (λ (ms : List Move). Did sizes (state_of e book) (state_of e' (with_list e l book)) w w ms) (sym moves_are) (entered_did sizes e e' book (list_at e l) st copies is kept fits w)
+    copied_did w = subst (λ (ms : List Move). Did sizes (state_of e book) (state_of e' (with_list e l book)) w w ms) (sym moves_are) (entered_did sizes e e' book (location_list e l) st copies is kept fits w)
 
   -- one of its tokens has no room: those in front of it have entered
-  pub copied_cut : (full : Full) (w : World) → e' ≡ record e { input = e'.input } → AppendsShort with_appended (list_at e l) e.input e'.input full → CutsIn sizes (state_of e book) e' w w (list_given (page_of e book) true (list_number (page_of e book) l)) (broken.Full full)
+  pub copied_cut : (full : Full) (w : World) → e' ≡ record e { input = e'.input } → AppendsShort with_appended (location_list e l) e.input e'.input full → CutsIn sizes (state_of e book) e' w w (list_given (page_of e book) true (list_number (page_of e book) l)) (broken.Full full)
   copied_cut full w same h =
       let is : e' ≡ listed e (appended h.front e.input.builds) e'.input.lists = same ∙ ap (λ (i : Stored). record e { input = i }) h.after in
       let here : Book = with_work (fed_list h.front book.work) book in
       let stands : Stands sizes e' here = entered_stands sizes e e' book h.front st copies is kept h.fits in
-      let rest : List Move = Feeds (Entered h.next) ∷ tokens_entered h.rest in
+      let rest : List Move = Feeds (Verbatim h.next) ∷ tokens_entered h.rest in
       record {
         book' = here;
         cuts = cuts_by sizes (state_of e book) e' here w w (tokens_entered h.front ++ (Grows h.next ∷ rest)) _ (broken.Full full) (moves_are ∙ (ap tokens_entered h.split ∙ entered_join h.front (h.next ∷ h.rest)))

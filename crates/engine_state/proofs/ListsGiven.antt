@@ -7,7 +7,7 @@ use Rattle.tex_defs.specs.declared.Sizes.{Sizes}
 use Rattle.tex_defs.specs.declared.Token.{Token}
 use Rattle.tex_defs.specs.Places.{World}
 use Rattle.plain_tokens.specs.Meanings.{is_listed}
-use Rattle.plain_tokens.specs.Pending.{settle, all_puts}
+use Rattle.plain_tokens.specs.Pending.{end_token_lists, all_puts}
 use Rattle.plain_tokens.specs.Puts.{Put, list_put}
 use Rattle.plain_tokens.specs.Tables.{is_put}
 use Rattle.equivalents.specs.declared.values.Loc.{Loc}
@@ -15,8 +15,8 @@ use Rattle.equivalents.specs.Holding.{lists_held}
 use Rattle.equivalents.specs.Locations.{tokens_of}
 use Rattle.equivalents.specs.Tables.{get}
 use Rattle.plain_machine.specs.States.{Move}
-use Rattle.plain_machine.specs.Numbers.{number_of, put_of as numbered}
-use Rattle.plain_machine.specs.Plan.{Page, list_given, list_number, macro_tokens, put_body, tokens_entered}
+use Rattle.plain_machine.specs.Numbers.{number_of_list, put_of as numbered}
+use Rattle.plain_machine.specs.Plan.{Page, list_given, list_number, shared_tokens, put_body, tokens_entered}
 use Rattle.plain_machine.specs.Does.{Did}
 use Rattle.plain_machine.proofs.Doing.{did_none}
 use Rattle.plain_machine.proofs.GroupNumbers.{get_of, tokens_as}
@@ -25,11 +25,11 @@ use Rattle.plain_machine.proofs.Ties.{standing_tied}
 use Rattle.input_state.specs.Calls.{after_call}
 use Rattle.input_state.specs.Macros.{list_at as shared_list}
 use Rattle.input_state.specs.Standing.{numbered_tokens, numbered_put, standing_put}
-use Rattle.input_state.specs.Stored.{KeepsMacros, call_refusal}
+use Rattle.input_state.specs.Stored.{KeepsShared, call_refusal}
 use Rattle.engine_state.specs.declared.broken.Broken.TheVariants as broken
 use Rattle.engine_state.specs.declared.engine.Engine.{Engine}
 use Rattle.engine_state.specs.Book.{Book}
-use Rattle.engine_state.specs.Lists.{list_at}
+use Rattle.engine_state.specs.Lists.{location_list}
 use Rattle.engine_state.specs.Stands.{IsSound, state_of, page_of}
 use Rattle.engine_state.specs.Rules.{Cuts}
 use Rattle.engine_state.proofs.Cutting.{cuts_by}
@@ -37,30 +37,30 @@ use Rattle.engine_state.proofs.SharedPut.{lists_sound, shared_cuts, shared_did, 
 
 -- ITS TOKENS
 
-none_or_list : (lists : List (List Token)) (o : Option ℕ) → macro_tokens lists o ≡ numbered_tokens lists o
+none_or_list : (lists : List (List Token)) (o : Option ℕ) → shared_tokens lists o ≡ numbered_tokens lists o
 none_or_list lists None = refl
 none_or_list lists (Some id) = refl
 
 -- by the machine they are the engine's
-pub tokens_are : (sizes : Sizes) (e : Engine) (book : Book) → IsSound sizes e book.number book.macros → (l : Loc) → macro_tokens book.macros (list_number (page_of e book) l) ≡ list_at e l
+pub tokens_are : (sizes : Sizes) (e : Engine) (book : Book) → IsSound sizes e book.number book.all_lists → (l : Loc) → shared_tokens book.all_lists (list_number (page_of e book) l) ≡ location_list e l
 tokens_are sizes e book sound l =
-    standing_tied book.number book.macros e.input.groups (all_puts e.input.pending) e.input.lists sound.tied l ∙ none_or_list e.input.lists (tokens_of (get e.input.groups.now l))
+    standing_tied book.number book.all_lists e.input.groups (all_puts e.input.pending) e.input.lists sound.tied l ∙ none_or_list e.input.lists (tokens_of (get e.input.groups.now l))
 
-entered_is : (page : Page) (o : Option ℕ) → list_given page true o ≡ tokens_entered (macro_tokens page.macros o)
+entered_is : (page : Page) (o : Option ℕ) → list_given page true o ≡ tokens_entered (shared_tokens page.all_lists o)
 entered_is page None = refl
 entered_is page (Some number) = refl
 
 -- where they enter an expanded text
-pub copied_is : (sizes : Sizes) (e : Engine) (book : Book) → IsSound sizes e book.number book.macros → (l : Loc) → list_given (page_of e book) true (list_number (page_of e book) l) ≡ tokens_entered (list_at e l)
+pub copied_is : (sizes : Sizes) (e : Engine) (book : Book) → IsSound sizes e book.number book.all_lists → (l : Loc) → list_given (page_of e book) true (list_number (page_of e book) l) ≡ tokens_entered (location_list e l)
 copied_is sizes e book sound l = entered_is (page_of e book) (list_number (page_of e book) l) ∙ ap tokens_entered (tokens_are sizes e book sound l)
 
 -- PUT IN FRONT
 
-module _ (sizes : Sizes) (e : Engine) (book : Book) (sound : IsSound sizes e book.number book.macros) (l : Loc) where
+module _ (sizes : Sizes) (e : Engine) (book : Book) (sound : IsSound sizes e book.number book.all_lists) (l : Loc) where
   abbrev standing : Option ℕ
   standing = tokens_of (get e.input.groups.now l)
 
-  number_is : list_number (page_of e book) l ≡ number_of book.number standing
+  number_is : list_number (page_of e book) l ≡ number_of_list book.number standing
   number_is = ap tokens_of (get_of book.number e.input.groups.now l) ∙ tokens_as book.number (get e.input.groups.now l)
 
   held_by : (id : ℕ) → standing ≡ Some id → is_listed (lists_held e.input.groups) id ≡ true
@@ -68,16 +68,16 @@ module _ (sizes : Sizes) (e : Engine) (book : Book) (sound : IsSound sizes e boo
 
   given_by : (id : ℕ) → standing ≡ Some id → list_given (page_of e book) false (list_number (page_of e book) l) ≡ put_body (numbered book.number (list_put id (shared_list e.input.lists id)))
   given_by id is =
-      ap (list_given (page_of e book) false) (number_is ∙ ap (number_of book.number) is)
+      ap (list_given (page_of e book) false) (number_is ∙ ap (number_of_list book.number) is)
       ∙ ap (λ (ts : List Token). put_body (list_put (book.number id) ts)) (sound.tied.tokens id (held_all id (held_by id is))) where
         held_all : (n : ℕ) → is_listed (lists_held e.input.groups) n ≡ true → (is_listed (lists_held e.input.groups) n || is_put n (all_puts e.input.pending)) ≡ true
         held_all n h = ap (λ (b : Bool). b || is_put n (all_puts e.input.pending)) h
 
   none_given : standing ≡ None → list_given (page_of e book) false (list_number (page_of e book) l) ≡ []
-  none_given is = ap (list_given (page_of e book) false) (number_is ∙ ap (number_of book.number) is)
+  none_given is = ap (list_given (page_of e book) false) (number_is ∙ ap (number_of_list book.number) is)
 
   -- there is no room for it
-  pub given_cuts : (e2 : Engine) (w : World) (full : Full) (more : List Move) → e2 ≡ record e { input = record e.input { pending = settle e.input.pending; lists = e2.input.lists } } → call_refusal (standing_put e.input.lists e.input.groups l) e.input ≡ Some full →
+  pub given_cuts : (e2 : Engine) (w : World) (full : Full) (more : List Move) → e2 ≡ record e { input = record e.input { pending = end_token_lists e.input.pending; lists = e2.input.lists } } → call_refusal (standing_put e.input.lists e.input.groups l) e.input ≡ Some full →
       Cuts sizes (state_of e book) e2 book w w (list_given (page_of e book) false (list_number (page_of e book) l) ++ more) (broken.Full full)
   given_cuts e2 w full more after refuses = by_standing standing refl where
     by_standing : (o : Option ℕ) → standing ≡ o → Cuts sizes (state_of e book) e2 book w w (list_given (page_of e book) false (list_number (page_of e book) l) ++ more) (broken.Full full)
@@ -87,7 +87,7 @@ module _ (sizes : Sizes) (e : Engine) (book : Book) (sound : IsSound sizes e boo
         cuts_by sizes _ e2 book w w (put_body (numbered book.number p) ++ more) _ (broken.Full full) (ap (λ (ms : List Move). ms ++ more) (given_by id some))
         (shared_cuts sizes e book sound id p refl (held_by id some) e2 w full more after (sym (ap (λ (o : Option ℕ). call_refusal (numbered_put e.input.lists o) e.input) some) ∙ refuses))
 
-  module _ (e2 : Engine) (after : e2 ≡ record e { input = record e.input { pending = after_call (standing_put e.input.lists e.input.groups l) e.input.pending; lists = e2.input.lists } }) (macros : KeepsMacros e.input e2.input) where
+  module _ (e2 : Engine) (after : e2 ≡ record e { input = record e.input { pending = after_call (standing_put e.input.lists e.input.groups l) e.input.pending; lists = e2.input.lists } }) (all_lists : KeepsShared e.input e2.input) where
     after_by : (o : Option ℕ) → standing ≡ o → e2 ≡ record e { input = record e.input { pending = after_call (numbered_put e.input.lists o) e.input.pending; lists = e2.input.lists } }
     after_by o is = after ∙ ap (λ (x : Option ℕ). record e { input = record e.input { pending = after_call (numbered_put e.input.lists x) e.input.pending; lists = e2.input.lists } }) is
 
@@ -100,10 +100,10 @@ module _ (sizes : Sizes) (e : Engine) (book : Book) (sound : IsSound sizes e boo
       by_standing (Some id) some =
           let p : Put = list_put id (shared_list e.input.lists id) in
           subst (λ (ms : List Move). Did sizes (state_of e book) (state_of e2 book) w w ms) (sym (given_by id some))
-          (shared_did sizes e book sound id p refl (held_by id some) e2 (after_by (Some id) some) macros w (sym (ap (λ (o : Option ℕ). call_refusal (numbered_put e.input.lists o) e.input) some) ∙ fits))
+          (shared_did sizes e book sound id p refl (held_by id some) e2 (after_by (Some id) some) all_lists w (sym (ap (λ (o : Option ℕ). call_refusal (numbered_put e.input.lists o) e.input) some) ∙ fits))
 
-    pub given_sound : IsSound sizes e2 book.number book.macros
+    pub given_sound : IsSound sizes e2 book.number book.all_lists
     given_sound = by_standing standing refl where
-      by_standing : (o : Option ℕ) → standing ≡ o → IsSound sizes e2 book.number book.macros
-      by_standing None none = lists_sound sizes e e2 book (after_by None none) macros sound
-      by_standing (Some id) some = shared_sound sizes e book sound id (list_put id (shared_list e.input.lists id)) refl (held_by id some) e2 (after_by (Some id) some) macros
+      by_standing : (o : Option ℕ) → standing ≡ o → IsSound sizes e2 book.number book.all_lists
+      by_standing None none = lists_sound sizes e e2 book (after_by None none) all_lists sound
+      by_standing (Some id) some = shared_sound sizes e book sound id (list_put id (shared_list e.input.lists id)) refl (held_by id some) e2 (after_by (Some id) some) all_lists

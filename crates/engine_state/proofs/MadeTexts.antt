@@ -126,12 +126,12 @@ list_on style places last places' last' t all ts us piece a b c d e = rw (a, b, 
 
 -- WHAT A MACHINE HAS IS WHAT THE ENGINE HAS
 
-pub characters_are : (sizes : Sizes) (e : Engine) (book : Book) → IsSound sizes e book.number book.macros → (m : Made) → characters_of (page_of e book) m ≡ characters_in e m
+pub characters_are : (sizes : Sizes) (e : Engine) (book : Book) → IsSound sizes e book.number book.all_lists → (m : Made) → characters_of (page_of e book) m ≡ characters_in e m
 characters_are sizes e book sound make.JobName = refl
 characters_are sizes e book sound (make.Number n) = refl
 characters_are sizes e book sound (make.Roman n) = refl
 characters_are sizes e book sound (make.Spelling t) = refl
-characters_are sizes e book sound (make.Meaning x) = text_let book.number book.macros e.input.groups (all_puts e.input.pending) e.input.lists sound.tied (own_style e) x
+characters_are sizes e book sound (make.Meaning x) = text_let book.number book.all_lists e.input.groups (all_puts e.input.pending) e.input.lists sound.tied (own_style e) x
 characters_are sizes e book sound (make.Value l) = ap (λ (v : SeenValue). if is_fetchable l then value_text l v else []) (fetched_same book.number e.input.groups.now l)
 
 -- what stands at a location that is there
@@ -139,7 +139,7 @@ pub text_there : (m : Tables) (l : Loc) → IsFetchable l → text_at m l ≡ va
 text_there m l there = rw there refl
 
 -- before and behind what begins a text
-pub characters_behind : (sizes : Sizes) (e e1 : Engine) (book : Book) → IsInFront e e1 → IsSound sizes e book.number book.macros → (m : Made) → characters_of (page_of e book) m ≡ characters_in e1 m
+pub characters_behind : (sizes : Sizes) (e e1 : Engine) (book : Book) → IsInFront e e1 → IsSound sizes e book.number book.all_lists → (m : Made) → characters_of (page_of e book) m ≡ characters_in e1 m
 characters_behind sizes e e1 book front sound m = ap (λ (p : Page). characters_of p m) (sym (front.page book)) ∙ characters_are sizes e1 book (front_sound sizes e e1 book front sound) m
 
 some_text : (cs : List ℕ) → made_text cs ≡ [] → cs ≡ []

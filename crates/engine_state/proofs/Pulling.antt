@@ -13,17 +13,17 @@ use Rattle.tex_defs.specs.declared.Sizes.{Sizes}
 use Rattle.tex_defs.specs.declared.Full.{Full}
 use Rattle.tex_defs.specs.declared.Table.TheVariants.{InputStackSize}
 use Rattle.tex_defs.specs.Places.{World}
-use Rattle.plain_tokens.specs.Puts.{Item, Text, First, Later, Gap, Put as PutList, settled, settled_top, passed, next_item, top_item, first_item, put_levels, levels_of}
+use Rattle.plain_tokens.specs.Puts.{Item, Text, First, Later, Gap, Put as PutList, without_ended, settled_top, passed, next_item, top_item, first_item, put_levels, levels_of}
 use Rattle.plain_tokens.specs.Lines.{first_line}
-use Rattle.plain_tokens.specs.Pending.{Pending, Source, Progress, Begun as BegunFile, Closed, Pulled, TokenFrom, LexemeFrom, LineTaken, InvalidMet, FileOver, NothingLeft, settle, pulled, after_pull, with_end, from_front, from_list, from_line, from_file, from_begun, all_puts, outer_puts}
+use Rattle.plain_tokens.specs.Pending.{Pending, Source, Progress, Begun as BegunFile, Closed, Pulled, TokenFrom, LexemeFrom, LineTaken, InvalidMet, FileOver, NothingLeft, end_token_lists, pulled, after_pull, with_end, from_front, from_list, from_line, from_file, from_begun, all_puts, outer_puts}
 use Rattle.plain_tokens.specs.Lex.{Lexeme, Character, ActiveName, SingleName, EmptyName, WordName, ParName, Lexed, Gives, Invalid, UsedUp, lexed}
-use Rattle.plain_tokens.specs.Lookup.{number_of, token_of, joins, new_among, new_name}
+use Rattle.plain_tokens.specs.Lookup.{name_number, token_of, joins, new_among, new_name}
 use Rattle.tex_defs.specs.declared.Meaning.{Meaning}
 use Rattle.plain_tokens.specs.Tokens.{is_outer}
 use Rattle.plain_tokens.specs.Meanings.{seen, met as met_token}
 use Rattle.plain_readings.specs.Readings.{Reading}
 use Rattle.plain_readings.specs.Scanning.{Scanning, scanning}
-use Rattle.plain_machine.specs.States.{State, Move, Handed, Taken, Settled, Skipped, FileClosed, Entered, made}
+use Rattle.plain_machine.specs.States.{State, Move, Handed, Taken, ListsEnded, Skipped, FileClosed, Entered, made}
 use Rattle.plain_tokens.specs.Tables.{is_put, Demand, level, opened_level, begun_files, next_line, refused, full, new_name as name_demands}
 use Rattle.plain_machine.specs.Demands.{refusal}
 use Rattle.plain_machine.specs.Plan.{Page, handed, met, entered, at_line, checked, reported}
@@ -38,8 +38,8 @@ use Rattle.plain_machine.proofs.GroupNumbers.{entered_of}
 use Rattle.plain_machine.proofs.Ties.{put_settle, put_pulled}
 use Rattle.plain_machine.proofs.Settling.{pulled_settled, passed_settled}
 use Rattle.plain_machine.proofs.Silent.{Lighter, lighter, outer_weight as outer_lightness, pending_weight as lightness}
-use Rattle.world_io.specs.Told.{FilesTold, SinkTold, world}
-use Rattle.input_state.specs.Stored.{Stored, KeepsMacros, gathered}
+use Rattle.world_io.specs.Contents.{FilesTold, SinkTold, world}
+use Rattle.input_state.specs.Stored.{Stored, KeepsShared, gathered}
 use Rattle.input_state.specs.Reads.{Pulls, ReadsLexeme, TakesLine, step_demands, pull_refusal}
 use Rattle.input_state.specs.declared.answer.Pulled as answers
 use Rattle.input_state.specs.declared.answer.Pulled.TheVariants as answer
@@ -76,7 +76,7 @@ use Rattle.engine_state.proofs.Coming.{meets_by, meets_later, next_by, next_late
 pub same_depth : (e e' : Engine) → SameFrames e e' → depth e' ≡ depth e
 same_depth e e' h = ap (λ (s : Stack). length s.frames + call_count e'.call) h.readings ∙ ap (λ (c : Option Call). length e.readings.frames + call_count c) h.call
 
-pub counts_still : (sizes : Sizes) (e e' : Engine) (book : Book) → SameFrames e e' → IsSound sizes e' book.number book.macros → Counts sizes e book → Counts sizes e' book
+pub counts_still : (sizes : Sizes) (e e' : Engine) (book : Book) → SameFrames e e' → IsSound sizes e' book.number book.all_lists → Counts sizes e book → Counts sizes e' book
 counts_still sizes e e' book same sound h = record { sound = sound; depth = h.depth ∙ sym (same_depth e e' same) }
 
 -- a token is wanted where it was
@@ -111,7 +111,7 @@ few_joins bytes None = tt
 few_joins bytes (Some number) = tt
 
 few_among : (enters : Bool) (names : List (List ℕ)) (bytes : List ℕ) → FewNames (new_among enters names bytes)
-few_among true names bytes = few_joins bytes (number_of names bytes)
+few_among true names bytes = few_joins bytes (name_number names bytes)
 few_among false names bytes = tt
 
 pub few_names : (enters : Bool) (names : List (List ℕ)) (x : Lexeme) → FewNames (new_name enters names x)
@@ -162,10 +162,10 @@ module _ (sizes : Sizes) (e : Engine) (book : Book) where
     located = omega (arith, h.located, entered_length new e.input.groups, length-append e.names.names new);
   }
 
-  pub sound_names : (new : List (List ℕ)) → IsSound sizes e book.number book.macros → IsSound sizes (with_names new e) book.number book.macros
+  pub sound_names : (new : List (List ℕ)) → IsSound sizes e book.number book.all_lists → IsSound sizes (with_names new e) book.number book.all_lists
   sound_names new h = record {
     sized = sized_names new h.sized;
-    tied = subst (λ (held : List ℕ). Tied book.number book.macros held (all_puts e.input.pending) e.input.lists) (sym (lists_entered new e.input.groups)) h.tied;
+    tied = subst (λ (held : List ℕ). Tied book.number book.all_lists held (all_puts e.input.pending) e.input.lists) (sym (lists_entered new e.input.groups)) h.tied;
     bodies = h.bodies;
   }
 
@@ -193,7 +193,7 @@ module _ (sizes : Sizes) (e : Engine) (book : Book) where
   pub takes_names : (want : Option Want) (new : List (List ℕ)) → Takes sizes want e book → Takes sizes want (with_names new e) book
   takes_names want new h = (wants_by e (with_names new e) e.call want refl h.0, record { sound = sound_names new h.1.sound; idle = h.1.idle; all = readings_names new e.call book.work h.1.all })
 
-  module _ (want : Option Want) (x : Lexeme) (t : Token) (is : t ≡ token_of (enters_of want) e.names.names x) (sound : IsSound sizes e book.number book.macros) where
+  module _ (want : Option Want) (x : Lexeme) (t : Token) (is : t ≡ token_of (enters_of want) e.names.names x) (sound : IsSound sizes e book.number book.all_lists) where
     abbrev new : List (List ℕ)
     new = new_name (enters_of want) e.names.names x
 
@@ -276,31 +276,31 @@ module _ (sizes : Sizes) (e : Engine) (book : Book) where
 -- THE NEXT READING
 
 -- the finished lists in front are at no level
-level_top : (p : PutList) (xs : List Item) (ps : List PutList) → p.items ≡ xs → put_levels (settled ps) ≡ put_levels ps → put_levels (settled_top p xs (settled ps) ps) ≡ put_levels (p ∷ ps)
+level_top : (p : PutList) (xs : List Item) (ps : List PutList) → p.items ≡ xs → put_levels (without_ended ps) ≡ put_levels ps → put_levels (settled_top p xs (without_ended ps) ps) ≡ put_levels (p ∷ ps)
 level_top p [] ps is h = omega (arith, h, ap levels_of is, sum_by-cons (λ (q : PutList). levels_of q.items) p ps)
 level_top p (x ∷ xs) ps is h = refl
 
-levels_settled : (ps : List PutList) → put_levels (settled ps) ≡ put_levels ps
+levels_settled : (ps : List PutList) → put_levels (without_ended ps) ≡ put_levels ps
 levels_settled [] = refl
 levels_settled (p ∷ ps) = level_top p p.items ps refl (levels_settled ps)
 
-all_settled : (p : Pending) → put_levels (all_puts (settle p)) ≡ put_levels (all_puts p)
+all_settled : (p : Pending) → put_levels (all_puts (end_token_lists p)) ≡ put_levels (all_puts p)
 all_settled p =
-    omega (arith, levels_settled p.puts, sum_by-append (λ (q : PutList). levels_of q.items) (settled p.puts) (outer_puts p.outer), sum_by-append (λ (q : PutList). levels_of q.items) p.puts (outer_puts p.outer))
+    omega (arith, levels_settled p.puts, sum_by-append (λ (q : PutList). levels_of q.items) (without_ended p.puts) (outer_puts p.outer), sum_by-append (λ (q : PutList). levels_of q.items) p.puts (outer_puts p.outer))
 
-same_level : (p : Pending) → level (settle p) ≡ level p
+same_level : (p : Pending) → level (end_token_lists p) ≡ level p
 same_level p = ap (λ (n : ℕ). record { table = InputStackSize; used = n + begun_files p; need = 1 }) (all_settled p)
 
 -- and the next item is the same
-opened_same : (p : Pending) (o : Option Item) → opened_level o (settle p) ≡ opened_level o p
+opened_same : (p : Pending) (o : Option Item) → opened_level o (end_token_lists p) ≡ opened_level o p
 opened_same p (Some (First t)) = ap (λ (d : Demand). d ∷ []) (same_level p)
 opened_same p (Some (Text t)) = refl
 opened_same p (Some (Later t)) = refl
 opened_same p (Some Gap) = refl
 opened_same p None = refl
 
-opened_settled : (p : Pending) → opened_level (next_item (settled p.puts)) (settle p) ≡ opened_level (next_item p.puts) p
-opened_settled p = ap (λ (ps : List PutList). opened_level (top_item ps) (settle p)) (passed_settled p.puts) ∙ opened_same p (next_item p.puts)
+opened_settled : (p : Pending) → opened_level (next_item (without_ended p.puts)) (end_token_lists p) ≡ opened_level (next_item p.puts) p
+opened_settled p = ap (λ (ps : List PutList). opened_level (top_item ps) (end_token_lists p)) (passed_settled p.puts) ∙ opened_same p (next_item p.puts)
 
 -- a character or a name comes where none is left
 list_done : (categories : List ℕ) (p : Pending) (y : PutList) (ys : List PutList) (items : List Item) (x : Lexeme) (q : Pending) → from_list categories p y ys items ≡ LexemeFrom x q → first_item items ≡ None
@@ -311,7 +311,7 @@ front_done : (categories : List ℕ) (p : Pending) (ps : List PutList) (x : Lexe
 front_done categories p [] x q h = refl
 front_done categories p (y ∷ ys) x q h = list_done categories p y ys y.items x q h
 
-lexeme_opens : (categories : List ℕ) (p : Pending) (x : Lexeme) (q : Pending) → pulled categories p ≡ LexemeFrom x q → opened_level (next_item (settled p.puts)) (settle p) ≡ []
+lexeme_opens : (categories : List ℕ) (p : Pending) (x : Lexeme) (q : Pending) → pulled categories p ≡ LexemeFrom x q → opened_level (next_item (without_ended p.puts)) (end_token_lists p) ≡ []
 lexeme_opens categories p x q h = opened_settled p ∙ ap (λ (o : Option Item). opened_level o p) (front_done categories p (passed p.puts) x q h)
 
 -- a token, a character or name, or an invalid character leaves the line's number
@@ -345,11 +345,11 @@ number_kept categories p (x ∷ ps) = number_list categories p x ps x.items
 
 -- under other numbers of the macros
 module _ (number : ℕ → ℕ) (p : Pending) where
-  opened_same_of : opened_level (next_item (settled (pending_of number p).puts)) (settle (pending_of number p)) ≡ opened_level (next_item p.puts) p
+  opened_same_of : opened_level (next_item (without_ended (pending_of number p).puts)) (end_token_lists (pending_of number p)) ≡ opened_level (next_item p.puts) p
   opened_same_of =
       opened_settled (pending_of number p) ∙ ap (λ (x : Option Item). opened_level x (pending_of number p)) (next_item_of number p.puts) ∙ opened_level_of number (next_item p.puts) p
 
-  line_same_of : next_line (settle (pending_of number p)) ≡ next_line p
+  line_same_of : next_line (end_token_lists (pending_of number p)) ≡ next_line p
   line_same_of = next_line_of number p
 
   pulled_as : (categories : List ℕ) (r : Pulled) → pulled categories p ≡ r → pulled categories (pending_of number p) ≡ pulled_of number r
@@ -357,12 +357,12 @@ module _ (number : ℕ → ℕ) (p : Pending) where
 
 -- whether the next token has room
 token_demands : (sizes : Sizes) (e : Engine) (book : Book) (t : Token) (o : Option Full) → refused e.input.sizes (opened_level (next_item e.input.pending.puts) e.input.pending) ≡ o → e.input.sizes ≡ sizes →
-    refusal sizes (Handed t) (record (state_of e book) { pending = settle (pending_of book.number e.input.pending) }) ≡ o
+    refusal sizes (Handed t) (record (state_of e book) { pending = end_token_lists (pending_of book.number e.input.pending) }) ≡ o
 token_demands sizes e book t o fits sized =
     ap (refused sizes) (opened_same_of book.number e.input.pending) ∙ ap (λ (x : Sizes). refused x (opened_level (next_item e.input.pending.puts) e.input.pending)) (sym sized) ∙ fits
 
 pub token_fits : (sizes : Sizes) (e : Engine) (book : Book) (t : Token) → refused e.input.sizes (opened_level (next_item e.input.pending.puts) e.input.pending) ≡ None → e.input.sizes ≡ sizes →
-    refusal sizes (Handed t) (record (state_of e book) { pending = settle (pending_of book.number e.input.pending) }) ≡ None
+    refusal sizes (Handed t) (record (state_of e book) { pending = end_token_lists (pending_of book.number e.input.pending) }) ≡ None
 token_fits sizes e book t fits sized = token_demands sizes e book t None fits sized
 
 -- no body is put
@@ -397,8 +397,8 @@ module _ (sizes : Sizes) (e : Engine) (i : Stored) (others : i ≡ record e.inpu
   now = record e { input = i }
 
   -- the input keeps its macros
-  pub pull_store : (a : answers.Pulled) → Pulls (pulled e.input.groups.now.categories e.input.pending) a e.input i → KeepsMacros e.input i → SameStore e.input i
-  pull_store a h macros = store_with e.input i i.pending e.input.making e.input.builds i.buffer others (fewer a h) macros where
+  pub pull_store : (a : answers.Pulled) → Pulls (pulled e.input.groups.now.categories e.input.pending) a e.input i → KeepsShared e.input i → SameStore e.input i
+  pull_store a h all_lists = store_with e.input i i.pending e.input.making e.input.builds i.buffer others (fewer a h) all_lists where
     fewer : (a : answers.Pulled) → Pulls (pulled e.input.groups.now.categories e.input.pending) a e.input i → (n : ℕ) → is_put n (all_puts i.pending) ≡ true → is_put n (all_puts e.input.pending) ≡ true
     fewer (answer.Token t) h = fewer_by e.input.groups.now.categories e.input.pending i.pending (TokenFrom t i.pending) h.0 refl
     fewer (answer.Lexeme l) h = fewer_by e.input.groups.now.categories e.input.pending i.pending (LexemeFrom h.lexeme i.pending) h.pulls refl
@@ -410,7 +410,7 @@ module _ (sizes : Sizes) (e : Engine) (i : Stored) (others : i ≡ record e.inpu
     fewer answer.Nothing h = λ n put. put_settle n e.input.pending (subst (λ (x : Pending). is_put n (all_puts x) ≡ true) h.1 put)
 
   pub stands_now : (book : Book) → SameStore e.input i → AllStand sizes e book → AllStand sizes now book
-  stands_now book store st = all_still sizes e now book (frames_now e i others) store (sound_still sizes e now book.number book.macros refl refl refl refl refl store st.sound) (ap (λ (x : Stored). x.making) others ∙ st.idle) st
+  stands_now book store st = all_still sizes e now book (frames_now e i others) store (sound_still sizes e now book.number book.all_lists refl refl refl refl refl store st.sound) (ap (λ (x : Stored). x.making) others ∙ st.idle) st
 
   pub takes_still : (want : Option Want) (book : Book) → SameStore e.input i → Takes sizes want e book → Takes sizes want now book
   takes_still want book store h = (wants_by e now e.call want (ap (λ (x : Stored). asks_in e.readings.frames x.builds) others) h.0, stands_now book store h.1)
@@ -431,7 +431,7 @@ module _ (sizes : Sizes) (e : Engine) (i : Stored) (others : i ≡ record e.inpu
   pub invalid_page : (book : Book) → pulled e.input.groups.now.categories e.input.pending ≡ InvalidMet i.pending → page_of now book ≡ page_of e book
   invalid_page book is = page_at book (subst (KeepsNumber e.input.pending) is (number_kept e.input.groups.now.categories e.input.pending (passed e.input.pending.puts)))
 
-  pub settled_page : (book : Book) → i.pending ≡ settle e.input.pending → page_of now book ≡ page_of e book
+  pub settled_page : (book : Book) → i.pending ≡ end_token_lists e.input.pending → page_of now book ≡ page_of e book
   settled_page book is = page_at book (ap (λ (p : Pending). p.number) is)
 
   -- a file has gone: the line is that of the file beneath
@@ -462,23 +462,23 @@ module _ (sizes : Sizes) (e : Engine) (i : Stored) (others : i ≡ record e.inpu
     next = pending_of book.number i.pending
 
     abbrev pub at_settled : State
-    at_settled = record (state_of e book) { pending = settle here }
+    at_settled = record (state_of e book) { pending = end_token_lists here }
 
     pub at_behind : (q : Pending) → next ≡ q → record (state_of e book) { pending = q } ≡ state_of now book
     at_behind q is = ap (λ (x : Pending). record (state_of e book) { pending = x }) (sym is) ∙ ap (λ (x : Stored). state_of (record e { input = x }) book) (sym others)
 
-    pub did_settled : Did sizes (state_of e book) at_settled w w (Settled ∷ [])
-    did_settled = did_one sizes Settled _ _ w w refl refl (quiet_here Settled w tt)
+    pub did_settled : Did sizes (state_of e book) at_settled w w (ListsEnded ∷ [])
+    did_settled = did_one sizes ListsEnded _ _ w w refl refl (quiet_here ListsEnded w tt)
 
     -- and then the move that takes what was pulled, so much changed
-    did_change : (f : Pending → Pending) (m : Move) (p : Pulled) → pulled e.input.groups.now.categories here ≡ p → f (after_pull (settle here) p) ≡ next → IsQuiet m → refusal sizes m at_settled ≡ None →
-        made m at_settled ≡ record (state_of e book) { pending = f (after_pull (settle here) (pulled e.input.groups.now.categories (settle here))) } → Did sizes (state_of e book) (state_of now book) w w (Settled ∷ m ∷ [])
+    did_change : (f : Pending → Pending) (m : Move) (p : Pulled) → pulled e.input.groups.now.categories here ≡ p → f (after_pull (end_token_lists here) p) ≡ next → IsQuiet m → refusal sizes m at_settled ≡ None →
+        made m at_settled ≡ record (state_of e book) { pending = f (after_pull (end_token_lists here) (pulled e.input.groups.now.categories (end_token_lists here))) } → Did sizes (state_of e book) (state_of now book) w w (ListsEnded ∷ m ∷ [])
     did_change f m p is after q fits makes =
-        let onto : next ≡ f (after_pull (settle here) (pulled e.input.groups.now.categories (settle here))) = sym (ap (λ (x : Pulled). f (after_pull (settle here) x)) (pulled_settled e.input.groups.now.categories here ∙ is) ∙ after) in
-        did_join sizes _ _ _ w w w (Settled ∷ []) (m ∷ []) did_settled (did_one sizes m _ _ w w fits (makes ∙ at_behind _ onto) (quiet_here m w q))
+        let onto : next ≡ f (after_pull (end_token_lists here) (pulled e.input.groups.now.categories (end_token_lists here))) = sym (ap (λ (x : Pulled). f (after_pull (end_token_lists here) x)) (pulled_settled e.input.groups.now.categories here ∙ is) ∙ after) in
+        did_join sizes _ _ _ w w w (ListsEnded ∷ []) (m ∷ []) did_settled (did_one sizes m _ _ w w fits (makes ∙ at_behind _ onto) (quiet_here m w q))
 
-    did_pull : (m : Move) (p : Pulled) → pulled e.input.groups.now.categories here ≡ p → after_pull (settle here) p ≡ next → IsQuiet m → refusal sizes m at_settled ≡ None →
-        made m at_settled ≡ record (state_of e book) { pending = after_pull (settle here) (pulled e.input.groups.now.categories (settle here)) } → Did sizes (state_of e book) (state_of now book) w w (Settled ∷ m ∷ [])
+    did_pull : (m : Move) (p : Pulled) → pulled e.input.groups.now.categories here ≡ p → after_pull (end_token_lists here) p ≡ next → IsQuiet m → refusal sizes m at_settled ≡ None →
+        made m at_settled ≡ record (state_of e book) { pending = after_pull (end_token_lists here) (pulled e.input.groups.now.categories (end_token_lists here)) } → Did sizes (state_of e book) (state_of now book) w w (ListsEnded ∷ m ∷ [])
     did_pull m p is after q fits makes = did_change (λ x. x) m p is after q fits makes
 
     module _ (page : Page) (want : Option Want) (scanned : Option Scanning) (onward : Seen → List Move) where
@@ -490,17 +490,17 @@ module _ (sizes : Sizes) (e : Engine) (i : Stored) (others : i ≡ record e.inpu
         token_is : pulled e.input.groups.now.categories here ≡ TokenFrom t next
         token_is = pulled_as book.number e.input.pending e.input.groups.now.categories (TokenFrom t i.pending) is
 
-        token_plan : plan ≡ Settled ∷ Handed t ∷ token_moves page scanned onward t
+        token_plan : plan ≡ ListsEnded ∷ Handed t ∷ token_moves page scanned onward t
         token_plan = rw token_is refl
 
-        token_did : Did sizes (state_of e book) (state_of now book) w w (Settled ∷ Handed t ∷ [])
+        token_did : Did sizes (state_of e book) (state_of now book) w w (ListsEnded ∷ Handed t ∷ [])
         token_did = did_pull (Handed t) (TokenFrom t next) token_is refl tt fits refl
 
         pub token_nexts : (w' : World) (e2 : Engine) (met : Option Seen) → Meets sizes want (state_of now book) e2 book w w' (token_moves page scanned onward t) met → Nexts sizes want (state_of e book) e2 book w w' plan (next_met met)
-        token_nexts w' e2 met h = next_by sizes want _ e2 book w w' _ _ (next_met met) token_plan (next_later sizes want (state_of e book) (state_of now book) e2 book w w w' (Settled ∷ Handed t ∷ []) (token_moves page scanned onward t) met refl token_did refl h)
+        token_nexts w' e2 met h = next_by sizes want _ e2 book w w' _ _ (next_met met) token_plan (next_later sizes want (state_of e book) (state_of now book) e2 book w w w' (ListsEnded ∷ Handed t ∷ []) (token_moves page scanned onward t) met refl token_did refl h)
 
         pub token_cuts : (w' : World) (e2 : Engine) (b : Broken) → CutsIn sizes (state_of now book) e2 w w' (token_moves page scanned onward t) b → CutsIn sizes (state_of e book) e2 w w' plan b
-        token_cuts w' e2 b h = in_by sizes _ e2 w w' _ _ b token_plan (later_in sizes _ (state_of now book) e2 w w w' (Settled ∷ Handed t ∷ []) (token_moves page scanned onward t) b token_did h)
+        token_cuts w' e2 b h = in_by sizes _ e2 w w' _ _ b token_plan (later_in sizes _ (state_of now book) e2 w w w' (ListsEnded ∷ Handed t ∷ []) (token_moves page scanned onward t) b token_did h)
 
       -- a character or a name of the line
       module _ (x : Lexeme) (is : pulled e.input.groups.now.categories e.input.pending ≡ LexemeFrom x i.pending) where
@@ -513,23 +513,23 @@ module _ (sizes : Sizes) (e : Engine) (i : Stored) (others : i ≡ record e.inpu
         lexeme_is : pulled e.input.groups.now.categories here ≡ LexemeFrom x next
         lexeme_is = pulled_as book.number e.input.pending e.input.groups.now.categories (LexemeFrom x i.pending) is
 
-        lexeme_plan : plan ≡ Settled ∷ Handed handed_token ∷ then_moves
+        lexeme_plan : plan ≡ ListsEnded ∷ Handed handed_token ∷ then_moves
         lexeme_plan = rw lexeme_is refl
 
-        lexeme_did : Did sizes (state_of e book) (state_of now book) w w (Settled ∷ Handed handed_token ∷ [])
+        lexeme_did : Did sizes (state_of e book) (state_of now book) w w (ListsEnded ∷ Handed handed_token ∷ [])
         lexeme_did = did_pull (Handed handed_token) (LexemeFrom x next) lexeme_is refl tt (ap (refused sizes) (lexeme_opens e.input.groups.now.categories here x next lexeme_is)) refl
 
         pub lexeme_nexts : (w' : World) (e2 : Engine) (met : Option Seen) → Meets sizes want (state_of now book) e2 book w w' then_moves met → Nexts sizes want (state_of e book) e2 book w w' plan (next_met met)
-        lexeme_nexts w' e2 met h = next_by sizes want _ e2 book w w' _ _ (next_met met) lexeme_plan (next_later sizes want (state_of e book) (state_of now book) e2 book w w w' (Settled ∷ Handed handed_token ∷ []) then_moves met refl lexeme_did refl h)
+        lexeme_nexts w' e2 met h = next_by sizes want _ e2 book w w' _ _ (next_met met) lexeme_plan (next_later sizes want (state_of e book) (state_of now book) e2 book w w w' (ListsEnded ∷ Handed handed_token ∷ []) then_moves met refl lexeme_did refl h)
 
         pub lexeme_cuts : (w' : World) (e2 : Engine) (b : Broken) → CutsIn sizes (state_of now book) e2 w w' then_moves b → CutsIn sizes (state_of e book) e2 w w' plan b
-        lexeme_cuts w' e2 b h = in_by sizes _ e2 w w' _ _ b lexeme_plan (later_in sizes _ (state_of now book) e2 w w w' (Settled ∷ Handed handed_token ∷ []) then_moves b lexeme_did h)
+        lexeme_cuts w' e2 b h = in_by sizes _ e2 w w' _ _ b lexeme_plan (later_in sizes _ (state_of now book) e2 w w w' (ListsEnded ∷ Handed handed_token ∷ []) then_moves b lexeme_did h)
 
       -- a line is taken
-      line_demands : (o : Option Full) → refused e.input.sizes (next_line e.input.pending) ≡ o → e.input.sizes ≡ sizes → refused sizes (next_line (settle here)) ≡ o
+      line_demands : (o : Option Full) → refused e.input.sizes (next_line e.input.pending) ≡ o → e.input.sizes ≡ sizes → refused sizes (next_line (end_token_lists here)) ≡ o
       line_demands o fits sized = ap (refused sizes) (line_same_of book.number e.input.pending) ∙ ap (λ (x : Sizes). refused x (next_line e.input.pending)) (sym sized) ∙ fits
 
-      taken_plan : (line : List ℕ) (q : Pending) → pulled e.input.groups.now.categories e.input.pending ≡ LineTaken line q → plan ≡ Settled ∷ Taken line ∷ []
+      taken_plan : (line : List ℕ) (q : Pending) → pulled e.input.groups.now.categories e.input.pending ≡ LineTaken line q → plan ≡ ListsEnded ∷ Taken line ∷ []
       taken_plan line q is = rw (pulled_as book.number e.input.pending e.input.groups.now.categories (LineTaken line q) is) refl
 
       -- it gets its end character
@@ -537,7 +537,7 @@ module _ (sizes : Sizes) (e : Engine) (i : Stored) (others : i ≡ record e.inpu
           AllStand sizes now book → Went sizes (state_of e book) now w w plan 1
       taken_rule takes fits sized stands =
           let line = first_line e.input.pending.rest in
-          went_by sizes _ now w w (Settled ∷ Taken line ∷ []) plan 1 (taken_plan line takes.next takes.is) (record {
+          went_by sizes _ now w w (ListsEnded ∷ Taken line ∷ []) plan 1 (taken_plan line takes.next takes.is) (record {
             book' = book;
             stands = stands;
             did = did_change (with_end (end_of_line e.input.groups.now)) (Taken line) (LineTaken line (pending_of book.number takes.next))
@@ -546,20 +546,20 @@ module _ (sizes : Sizes) (e : Engine) (i : Stored) (others : i ≡ record e.inpu
           })
 
       -- it has no room
-      stays_there : i.pending ≡ settle e.input.pending → next ≡ settle here
+      stays_there : i.pending ≡ end_token_lists e.input.pending → next ≡ end_token_lists here
       stays_there stays = ap (pending_of book.number) stays ∙ sym (settle_of book.number e.input.pending)
 
-      module _ (full : Full) (sized : e.input.sizes ≡ sizes) (stays : i.pending ≡ settle e.input.pending) where
+      module _ (full : Full) (sized : e.input.sizes ≡ sizes) (stays : i.pending ≡ end_token_lists e.input.pending) where
         line_cuts : (line : List ℕ) (q : Pending) → pulled e.input.groups.now.categories e.input.pending ≡ LineTaken line q → refused e.input.sizes (next_line e.input.pending) ≡ Some full → Cuts sizes (state_of e book) now book w w plan (broken.Full full)
         line_cuts line q is r =
-            cuts_by sizes _ now book w w _ _ (broken.Full full) (taken_plan line q is) (later_cuts sizes _ at_settled now book w w w (Settled ∷ []) (Taken line ∷ []) (broken.Full full) did_settled
+            cuts_by sizes _ now book w w _ _ (broken.Full full) (taken_plan line q is) (later_cuts sizes _ at_settled now book w w w (ListsEnded ∷ []) (Taken line ∷ []) (broken.Full full) did_settled
             (full_cuts sizes at_settled now book w (Taken line) [] full (broken.Full full) refl (line_demands (Some full) r sized) (at_behind _ (stays_there stays))))
 
         opens_cuts : (t : Token) (q : Pending) → pulled e.input.groups.now.categories e.input.pending ≡ TokenFrom t q → refused e.input.sizes (opened_level (next_item e.input.pending.puts) e.input.pending) ≡ Some full → Cuts sizes (state_of e book) now book w w plan (broken.Full full)
         opens_cuts t q is r =
-            let plan_is : plan ≡ Settled ∷ Handed t ∷ token_moves page scanned onward t = rw (pulled_as book.number e.input.pending e.input.groups.now.categories (TokenFrom t q) is) refl in
+            let plan_is : plan ≡ ListsEnded ∷ Handed t ∷ token_moves page scanned onward t = rw (pulled_as book.number e.input.pending e.input.groups.now.categories (TokenFrom t q) is) refl in
             let refuses : refusal sizes (Handed t) at_settled ≡ Some full = token_demands sizes e book t (Some full) r sized in
-            cuts_by sizes _ now book w w _ _ (broken.Full full) plan_is (later_cuts sizes _ at_settled now book w w w (Settled ∷ []) (Handed t ∷ token_moves page scanned onward t) (broken.Full full) did_settled
+            cuts_by sizes _ now book w w _ _ (broken.Full full) plan_is (later_cuts sizes _ at_settled now book w w w (ListsEnded ∷ []) (Handed t ∷ token_moves page scanned onward t) (broken.Full full) did_settled
             (full_cuts sizes at_settled now book w (Handed t) (token_moves page scanned onward t) full (broken.Full full) refl refuses (at_behind _ (stays_there stays))))
 
         pub pull_cuts : pull_refusal e.input ≡ Some full → Cuts sizes (state_of e book) now book w w plan (broken.Full full)
@@ -577,51 +577,51 @@ module _ (sizes : Sizes) (e : Engine) (i : Stored) (others : i ≡ record e.inpu
         skipped_is : pulled e.input.groups.now.categories here ≡ InvalidMet next
         skipped_is = pulled_as book.number e.input.pending e.input.groups.now.categories (InvalidMet i.pending) is
 
-        skipped_plan : plan ≡ Settled ∷ Skipped ∷ reported page reports.InvalidCharacter []
+        skipped_plan : plan ≡ ListsEnded ∷ Skipped ∷ reported page reports.InvalidCharacter []
         skipped_plan = rw skipped_is refl
 
-        skipped_did : Did sizes (state_of e book) (state_of now book) w w (Settled ∷ Skipped ∷ [])
+        skipped_did : Did sizes (state_of e book) (state_of now book) w w (ListsEnded ∷ Skipped ∷ [])
         skipped_did = did_pull Skipped (InvalidMet next) skipped_is refl tt refl refl
 
         pub skipped_nexts : (w' : World) (e2 : Engine) (ruled : Ruled) → DoesOnward sizes (state_of now book) e2 book w w' (reported page reports.InvalidCharacter []) ruled → Nexts sizes want (state_of e book) e2 book w w' plan (next_free ruled)
         skipped_nexts w' e2 ruled h =
-            next_by sizes want _ e2 book w w' _ _ (next_free ruled) skipped_plan (next_freely sizes want _ e2 book w w' _ ruled (onward_join sizes (state_of e book) (state_of now book) e2 book w w w' (Settled ∷ Skipped ∷ []) (reported page reports.InvalidCharacter []) ruled refl skipped_did refl h))
+            next_by sizes want _ e2 book w w' _ _ (next_free ruled) skipped_plan (next_freely sizes want _ e2 book w w' _ ruled (onward_join sizes (state_of e book) (state_of now book) e2 book w w w' (ListsEnded ∷ Skipped ∷ []) (reported page reports.InvalidCharacter []) ruled refl skipped_did refl h))
 
         pub skipped_cuts : (w' : World) (e2 : Engine) (b : Broken) → CutsIn sizes (state_of now book) e2 w w' (reported page reports.InvalidCharacter []) b → CutsIn sizes (state_of e book) e2 w w' plan b
-        skipped_cuts w' e2 b h = in_by sizes _ e2 w w' _ _ b skipped_plan (later_in sizes _ (state_of now book) e2 w w w' (Settled ∷ Skipped ∷ []) _ b skipped_did h)
+        skipped_cuts w' e2 b h = in_by sizes _ e2 w w' _ _ b skipped_plan (later_in sizes _ (state_of now book) e2 w w w' (ListsEnded ∷ Skipped ∷ []) _ b skipped_did h)
 
       -- the file has ended
       module _ (is : pulled e.input.groups.now.categories e.input.pending ≡ FileOver i.pending) where
         closed_is : pulled e.input.groups.now.categories here ≡ FileOver next
         closed_is = pulled_as book.number e.input.pending e.input.groups.now.categories (FileOver i.pending) is
 
-        closed_plan : plan ≡ Settled ∷ FileClosed ∷ checked (at_line i.pending.number page) scanned
+        closed_plan : plan ≡ ListsEnded ∷ FileClosed ∷ checked (at_line i.pending.number page) scanned
         closed_plan = rw closed_is refl
 
-        closed_did : Did sizes (state_of e book) (state_of now book) w w (Settled ∷ FileClosed ∷ [])
+        closed_did : Did sizes (state_of e book) (state_of now book) w w (ListsEnded ∷ FileClosed ∷ [])
         closed_did = did_pull FileClosed (FileOver next) closed_is refl tt refl refl
 
         pub closed_nexts : (w' : World) (e2 : Engine) (ruled : Ruled) → DoesOnward sizes (state_of now book) e2 book w w' (checked (at_line i.pending.number page) scanned) ruled → Nexts sizes want (state_of e book) e2 book w w' plan (next_free ruled)
         closed_nexts w' e2 ruled h =
-            next_by sizes want _ e2 book w w' _ _ (next_free ruled) closed_plan (next_freely sizes want _ e2 book w w' _ ruled (onward_join sizes (state_of e book) (state_of now book) e2 book w w w' (Settled ∷ FileClosed ∷ []) (checked (at_line i.pending.number page) scanned) ruled refl closed_did refl h))
+            next_by sizes want _ e2 book w w' _ _ (next_free ruled) closed_plan (next_freely sizes want _ e2 book w w' _ ruled (onward_join sizes (state_of e book) (state_of now book) e2 book w w w' (ListsEnded ∷ FileClosed ∷ []) (checked (at_line i.pending.number page) scanned) ruled refl closed_did refl h))
 
         pub closed_cuts : (w' : World) (e2 : Engine) (b : Broken) → CutsIn sizes (state_of now book) e2 w w' (checked (at_line i.pending.number page) scanned) b → CutsIn sizes (state_of e book) e2 w w' plan b
-        closed_cuts w' e2 b h = in_by sizes _ e2 w w' _ _ b closed_plan (later_in sizes _ (state_of now book) e2 w w w' (Settled ∷ FileClosed ∷ []) (checked (at_line i.pending.number page) scanned) b closed_did h)
+        closed_cuts w' e2 b h = in_by sizes _ e2 w w' _ _ b closed_plan (later_in sizes _ (state_of now book) e2 w w w' (ListsEnded ∷ FileClosed ∷ []) (checked (at_line i.pending.number page) scanned) b closed_did h)
 
       -- nothing is left
-      module _ (is : pulled e.input.groups.now.categories e.input.pending ≡ NothingLeft) (stays : i.pending ≡ settle e.input.pending) where
-        nothing_plan : plan ≡ Settled ∷ last_moves page last.NoEnd
+      module _ (is : pulled e.input.groups.now.categories e.input.pending ≡ NothingLeft) (stays : i.pending ≡ end_token_lists e.input.pending) where
+        nothing_plan : plan ≡ ListsEnded ∷ last_moves page last.NoEnd
         nothing_plan = rw (pulled_as book.number e.input.pending e.input.groups.now.categories NothingLeft is) refl
 
-        nothing_did : Did sizes (state_of e book) (state_of now book) w w (Settled ∷ [])
-        nothing_did = did_one sizes Settled _ _ w w refl (at_behind _ (stays_there stays)) (quiet_here Settled w tt)
+        nothing_did : Did sizes (state_of e book) (state_of now book) w w (ListsEnded ∷ [])
+        nothing_did = did_one sizes ListsEnded _ _ w w refl (at_behind _ (stays_there stays)) (quiet_here ListsEnded w tt)
 
         pub no_end_nexts : (w' : World) (e2 : Engine) (ruled : Ruled) → DoesOnward sizes (state_of now book) e2 book w w' (last_moves page last.NoEnd) ruled → Nexts sizes want (state_of e book) e2 book w w' plan (next_free ruled)
         no_end_nexts w' e2 ruled h =
-            next_by sizes want _ e2 book w w' _ _ (next_free ruled) nothing_plan (next_freely sizes want _ e2 book w w' _ ruled (onward_join sizes (state_of e book) (state_of now book) e2 book w w w' (Settled ∷ []) (last_moves page last.NoEnd) ruled refl nothing_did refl h))
+            next_by sizes want _ e2 book w w' _ _ (next_free ruled) nothing_plan (next_freely sizes want _ e2 book w w' _ ruled (onward_join sizes (state_of e book) (state_of now book) e2 book w w w' (ListsEnded ∷ []) (last_moves page last.NoEnd) ruled refl nothing_did refl h))
 
         pub no_end_cuts : (w' : World) (e2 : Engine) (b : Broken) → CutsIn sizes (state_of now book) e2 w w' (last_moves page last.NoEnd) b → CutsIn sizes (state_of e book) e2 w w' plan b
-        no_end_cuts w' e2 b h = in_by sizes _ e2 w w' _ _ b nothing_plan (later_in sizes _ (state_of now book) e2 w w w' (Settled ∷ []) (last_moves page last.NoEnd) b nothing_did h)
+        no_end_cuts w' e2 b h = in_by sizes _ e2 w w' _ _ b nothing_plan (later_in sizes _ (state_of now book) e2 w w w' (ListsEnded ∷ []) (last_moves page last.NoEnd) b nothing_did h)
 
 -- WHAT WAS PULLED, by the answer
 
@@ -641,7 +641,7 @@ module _ (p : Pulled) (a : answers.Pulled) (old new : Stored) (h : Pulls p a old
   pub over_at : a ≡ answer.FileOver → p ≡ FileOver new.pending
   over_at is = subst (λ (x : answers.Pulled). Pulls p x old new) is h
 
-  pub nothing_left : a ≡ answer.Nothing → (p ≡ NothingLeft) × (new.pending ≡ settle old.pending)
+  pub nothing_left : a ≡ answer.Nothing → (p ≡ NothingLeft) × (new.pending ≡ end_token_lists old.pending)
   nothing_left is = subst (λ (x : answers.Pulled). Pulls p x old new) is h
 
 -- WHAT IS ANSWERED

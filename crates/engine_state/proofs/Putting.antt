@@ -8,13 +8,13 @@ use Rattle.tex_defs.specs.declared.Seen.{Seen}
 use Rattle.tex_defs.specs.declared.Sizes.{Sizes}
 use Rattle.tex_defs.specs.declared.Full.{Full}
 use Rattle.tex_defs.specs.Places.{World, Transcript}
-use Rattle.plain_tokens.specs.Puts.{Item, Put as PutList, token_put, settled, settled_top, grown_by}
-use Rattle.plain_tokens.specs.Pending.{Pending, settle, put_front}
+use Rattle.plain_tokens.specs.Puts.{Item, Put as PutList, token_put, without_ended, settled_top, grown_by}
+use Rattle.plain_tokens.specs.Pending.{Pending, end_token_lists, put_front}
 use Rattle.plain_tokens.specs.Tables.{Demand, refused, memory, level, string}
 use Rattle.plain_state.specs.Reports.{report_bytes}
 use Rattle.rows.specs.Readings.{Fed, Told}
 use Rattle.plain_readings.specs.Readings.{Kind, Reads, Spelling, FileName, Arguments, Behind, Skips, Reading, fed_with, lists}
-use Rattle.plain_machine.specs.States.{State, Move, Settled, Kept, Grows, Feeds, ListBegun, ListGrown, Put, Written, Reported, made}
+use Rattle.plain_machine.specs.States.{State, Move, ListsEnded, Kept, Grows, Feeds, ListBegun, ListGrown, Put, Written, Reported, made}
 use Rattle.plain_machine.specs.Demands.{refusal}
 use Rattle.plain_machine.specs.Plan.{Page, put_one, put_inserted, given_back, reported, told, noting, noting_kind, grown_and_fed, first_list}
 use Rattle.plain_machine.specs.Numbers.{pending_of}
@@ -24,8 +24,8 @@ use Rattle.plain_machine.proofs.Doing.{did_join, did_one}
 use Rattle.plain_machine.proofs.Joins.{steps_join}
 use Rattle.plain_machine.proofs.Renumbering.{settle_of, put_front_of, level_of}
 use Rattle.name_table.specs.Strings.{Strings, other_refusal}
-use Rattle.world_io.specs.Told.{FilesTold, SinkTold, world}
-use Rattle.input_state.specs.Stored.{Stored, KeepsMacros, words as stored_words}
+use Rattle.world_io.specs.Contents.{FilesTold, SinkTold, world}
+use Rattle.input_state.specs.Stored.{Stored, KeepsShared, words as stored_words}
 use Rattle.input_state.specs.HeldLists.{made as made_list}
 use Rattle.reading_frames.specs.Stack.{Stack}
 use Rattle.engine_state.specs.declared.broken.Broken.{Broken}
@@ -49,17 +49,17 @@ kept_cuts sizes e names book w bytes more full sized same r =
 
 -- THE LIST THAT IS MADE
 
-twice_top : (p : PutList) (xs : List Item) (ps : List PutList) → p.items ≡ xs → settled (settled ps) ≡ settled ps → settled (settled_top p xs (settled ps) ps) ≡ settled_top p xs (settled ps) ps
+twice_top : (p : PutList) (xs : List Item) (ps : List PutList) → p.items ≡ xs → without_ended (without_ended ps) ≡ without_ended ps → without_ended (settled_top p xs (without_ended ps) ps) ≡ settled_top p xs (without_ended ps) ps
 twice_top p [] ps is h = h
-twice_top p (x ∷ xs) ps is h = ap (λ (ys : List Item). settled_top p ys (settled ps) ps) is
+twice_top p (x ∷ xs) ps is h = ap (λ (ys : List Item). settled_top p ys (without_ended ps) ps) is
 
-settled_twice : (ps : List PutList) → settled (settled ps) ≡ settled ps
+settled_twice : (ps : List PutList) → without_ended (without_ended ps) ≡ without_ended ps
 settled_twice [] = refl
 settled_twice (p ∷ ps) = twice_top p p.items ps refl (settled_twice ps)
 
 -- the finished lists in front have gone already
-pub settled_still : (p q : Pending) → q ≡ settle p → q ≡ settle q
-settled_still p q e = subst (λ (x : Pending). x ≡ settle x) (sym e) (ap (λ (ps : List PutList). record p { puts = ps }) (sym (settled_twice p.puts)))
+pub settled_still : (p q : Pending) → q ≡ end_token_lists p → q ≡ end_token_lists q
+settled_still p q e = subst (λ (x : Pending). x ≡ end_token_lists x) (sym e) (ap (λ (ps : List PutList). record p { puts = ps }) (sym (settled_twice p.puts)))
 
 -- one of its moves, on the input alone
 module _ (sizes : Sizes) (e : Engine) (i i' : Stored) (book : Book) (w : World) where
@@ -69,32 +69,32 @@ module _ (sizes : Sizes) (e : Engine) (i i' : Stored) (book : Book) (w : World) 
 
 -- The list of one token: begun, grown and put, each on the input before it.
 module _ (sizes : Sizes) (e : Engine) (t : Token) (book : Book) (w : World) (counts : Counts sizes e book)
-    (i1 i2 i3 : Stored) (a1 : i1 ≡ record e.input { pending = settle e.input.pending; lists = i1.lists }) (k1 : KeepsMacros e.input i1) where
+    (i1 i2 i3 : Stored) (a1 : i1 ≡ record e.input { pending = end_token_lists e.input.pending; lists = i1.lists }) (k1 : KeepsShared e.input i1) where
   abbrev pub with_input : Stored → Engine
   with_input i = record e { input = i }
 
   abbrev pub at : Stored → State
   at i = state_of (with_input i) book
 
-  done_settled : Did sizes (at e.input) (at i1) w w (Settled ∷ [])
-  done_settled = moved sizes e e.input i1 book w Settled refl (ap (λ (p : Pending). record (at e.input) { pending = p }) (settle_of book.number e.input.pending) ∙ ap at (sym a1)) tt
+  done_settled : Did sizes (at e.input) (at i1) w w (ListsEnded ∷ [])
+  done_settled = moved sizes e e.input i1 book w ListsEnded refl (ap (λ (p : Pending). record (at e.input) { pending = p }) (settle_of book.number e.input.pending) ∙ ap at (sym a1)) tt
 
   store1 : SameStore e.input i1
   store1 = store_settled e.input i1 a1 k1
 
-  sound_in : (i : Stored) → SameStore e.input i → IsSound sizes (with_input i) book.number book.macros
-  sound_in i store = sound_still sizes e (with_input i) book.number book.macros refl refl refl refl refl store counts.sound
+  sound_in : (i : Stored) → SameStore e.input i → IsSound sizes (with_input i) book.number book.all_lists
+  sound_in i store = sound_still sizes e (with_input i) book.number book.all_lists refl refl refl refl refl store counts.sound
 
   -- the list isn't begun
   pub begin_cuts : (new : Stored) (full : Full) (rest : List Move) → new ≡ i1 → refused i1.sizes (memory 1 (stored_words i1) ∷ []) ≡ Some full →
-      Cuts sizes (at e.input) (with_input new) book w w (Settled ∷ ListBegun ∷ rest) (broken.Full full)
+      Cuts sizes (at e.input) (with_input new) book w w (ListsEnded ∷ ListBegun ∷ rest) (broken.Full full)
   begin_cuts new full rest same r =
-      later_cuts sizes _ (at i1) (with_input new) book w w w (Settled ∷ []) (ListBegun ∷ rest) (broken.Full full) done_settled
+      later_cuts sizes _ (at i1) (with_input new) book w w w (ListsEnded ∷ []) (ListBegun ∷ rest) (broken.Full full) done_settled
       (full_cuts sizes (at i1) (with_input new) book w ListBegun rest full (broken.Full full) refl (words_more sizes (with_input i1) book 1 (Some full) (sound_in i1 store1) r) (ap at (sym same)))
 
-  module _ (a2 : i2 ≡ record i1 { making = Some []; lists = i2.lists }) (k2 : KeepsMacros i1 i2) (f1 : refused i1.sizes (memory 1 (stored_words i1) ∷ []) ≡ None) where
-    done_begun : Did sizes (at e.input) (at i2) w w (Settled ∷ ListBegun ∷ [])
-    done_begun = did_join sizes _ _ _ w w w (Settled ∷ []) (ListBegun ∷ []) done_settled
+  module _ (a2 : i2 ≡ record i1 { making = Some []; lists = i2.lists }) (k2 : KeepsShared i1 i2) (f1 : refused i1.sizes (memory 1 (stored_words i1) ∷ []) ≡ None) where
+    done_begun : Did sizes (at e.input) (at i2) w w (ListsEnded ∷ ListBegun ∷ [])
+    done_begun = did_join sizes _ _ _ w w w (ListsEnded ∷ []) (ListBegun ∷ []) done_settled
         (moved sizes e i1 i2 book w ListBegun (words_more sizes (with_input i1) book 1 None (sound_in i1 store1) f1) (ap at (sym a2)) tt)
 
     store2 : SameStore e.input i2
@@ -102,14 +102,14 @@ module _ (sizes : Sizes) (e : Engine) (t : Token) (book : Book) (w : World) (cou
 
     -- the list doesn't grow
     pub grow_cuts : (new : Stored) (full : Full) (rest : List Move) → new ≡ i2 → refused i2.sizes (memory 1 (stored_words i2) ∷ []) ≡ Some full →
-        Cuts sizes (at e.input) (with_input new) book w w (Settled ∷ ListBegun ∷ ListGrown t ∷ rest) (broken.Full full)
+        Cuts sizes (at e.input) (with_input new) book w w (ListsEnded ∷ ListBegun ∷ ListGrown t ∷ rest) (broken.Full full)
     grow_cuts new full rest same r =
-        later_cuts sizes _ (at i2) (with_input new) book w w w (Settled ∷ ListBegun ∷ []) (ListGrown t ∷ rest) (broken.Full full) done_begun
+        later_cuts sizes _ (at i2) (with_input new) book w w w (ListsEnded ∷ ListBegun ∷ []) (ListGrown t ∷ rest) (broken.Full full) done_begun
         (full_cuts sizes (at i2) (with_input new) book w (ListGrown t) rest full (broken.Full full) refl (words_more sizes (with_input i2) book 1 (Some full) (sound_in i2 store2) r) (ap at (sym same)))
 
-    module _ (a3 : i3 ≡ record i2 { making = grown_by t i2.making; lists = i3.lists }) (k3 : KeepsMacros i2 i3) (f2 : refused i2.sizes (memory 1 (stored_words i2) ∷ []) ≡ None) where
-      done_grown : Did sizes (at e.input) (at i3) w w (Settled ∷ ListBegun ∷ ListGrown t ∷ [])
-      done_grown = did_join sizes _ _ _ w w w (Settled ∷ ListBegun ∷ []) (ListGrown t ∷ []) done_begun
+    module _ (a3 : i3 ≡ record i2 { making = grown_by t i2.making; lists = i3.lists }) (k3 : KeepsShared i2 i3) (f2 : refused i2.sizes (memory 1 (stored_words i2) ∷ []) ≡ None) where
+      done_grown : Did sizes (at e.input) (at i3) w w (ListsEnded ∷ ListBegun ∷ ListGrown t ∷ [])
+      done_grown = did_join sizes _ _ _ w w w (ListsEnded ∷ ListBegun ∷ []) (ListGrown t ∷ []) done_begun
           (moved sizes e i2 i3 book w (ListGrown t) (words_more sizes (with_input i2) book 1 None (sound_in i2 store2) f2) (ap at (sym a3)) tt)
 
       store3 : SameStore e.input i3
@@ -122,7 +122,7 @@ module _ (sizes : Sizes) (e : Engine) (t : Token) (book : Book) (w : World) (cou
       pub put_cuts : (new : Stored) (full : Full) (rest : List Move) → new ≡ record i3 { lists = new.lists } → refused i3.sizes (level i3.pending ∷ []) ≡ Some full →
           Cuts sizes (at e.input) (with_input new) book w w (put_one t ++ rest) (broken.Full full)
       put_cuts new full rest same r =
-          later_cuts sizes _ (at i3) (with_input new) book w w w (Settled ∷ ListBegun ∷ ListGrown t ∷ []) (Put (t ∷ []) ∷ rest) (broken.Full full) done_grown
+          later_cuts sizes _ (at i3) (with_input new) book w w w (ListsEnded ∷ ListBegun ∷ ListGrown t ∷ []) (Put (t ∷ []) ∷ rest) (broken.Full full) done_grown
           (full_cuts sizes (at i3) (with_input new) book w (Put (t ∷ [])) rest full (broken.Full full) refl (level_at (Some full) r) (ap at (sym same)))
 
       -- and it is put
@@ -130,32 +130,32 @@ module _ (sizes : Sizes) (e : Engine) (t : Token) (book : Book) (w : World) (cou
           Did sizes (at e.input) (at i4) w w (put_one t)
       done_put i4 a4 f3 =
           let full : made_list i3.making ≡ t ∷ [] = ap made_list (ap (λ (i : Stored). i.making) a3 ∙ ap (grown_by t) (ap (λ (i : Stored). i.making) a2)) in
-          did_join sizes _ _ _ w w w (Settled ∷ ListBegun ∷ ListGrown t ∷ []) (Put (t ∷ []) ∷ []) done_grown
+          did_join sizes _ _ _ w w w (ListsEnded ∷ ListBegun ∷ ListGrown t ∷ []) (Put (t ∷ []) ∷ []) done_grown
           (moved sizes e i3 i4 book w (Put (t ∷ [])) (level_at None f3)
           (ap (λ (p : Pending). record (at i3) { pending = p; making = None }) (put_front_of book.number (token_put (t ∷ [])) i3.pending)
           ∙ ap (λ (ts : List Token). at (record i3 { pending = put_front (token_put ts) i3.pending; making = None })) (sym full) ∙ ap at (sym a4)) tt)
 
 -- what the input keeps behind each of these
-module _ (i i1 i2 i3 : Stored) (a1 : i1 ≡ record i { pending = settle i.pending; lists = i1.lists }) (k1 : KeepsMacros i i1) where
+module _ (i i1 i2 i3 : Stored) (a1 : i1 ≡ record i { pending = end_token_lists i.pending; lists = i1.lists }) (k1 : KeepsShared i i1) where
   pub begun_store : (new : Stored) → new ≡ i1 → SameStore i new
   begun_store new same = subst (SameStore i) (sym same) (store_settled i i1 a1 k1)
 
-  module _ (a2 : i2 ≡ record i1 { making = Some []; lists = i2.lists }) (k2 : KeepsMacros i1 i2) where
+  module _ (a2 : i2 ≡ record i1 { making = Some []; lists = i2.lists }) (k2 : KeepsShared i1 i2) where
     pub grown_store : (new : Stored) → new ≡ i2 → SameStore i new
     grown_store new same = subst (SameStore i) (sym same) (store_join i i1 i2 (store_settled i i1 a1 k1) (store_making i1 i2 (Some []) a2 k2))
 
-    module _ (t : Token) (a3 : i3 ≡ record i2 { making = grown_by t i2.making; lists = i3.lists }) (k3 : KeepsMacros i2 i3) where
+    module _ (t : Token) (a3 : i3 ≡ record i2 { making = grown_by t i2.making; lists = i3.lists }) (k3 : KeepsShared i2 i3) where
       made_store : SameStore i i3
       made_store = store_join i i2 i3 (grown_store i2 refl) (store_making i2 i3 (grown_by t i2.making) a3 k3)
 
-      pub unput_store : (new : Stored) → new ≡ record i3 { lists = new.lists } → KeepsMacros i3 new → SameStore i new
+      pub unput_store : (new : Stored) → new ≡ record i3 { lists = new.lists } → KeepsShared i3 new → SameStore i new
       unput_store new same k4 = store_join i i3 new made_store (store_making i3 new i3.making same k4)
 
-      pub put_store : (new : Stored) → new ≡ record i3 { pending = put_front (token_put (made_list i3.making)) i3.pending; making = None; lists = new.lists } → KeepsMacros i3 new → SameStore i new
+      pub put_store : (new : Stored) → new ≡ record i3 { pending = put_front (token_put (made_list i3.making)) i3.pending; making = None; lists = new.lists } → KeepsShared i3 new → SameStore i new
       put_store new same k4 = store_join i i3 new made_store (store_put i3 new (made_list i3.making) same k4)
 
 -- the readings are counted as before
-pub counts_still : (sizes : Sizes) (e e1 : Engine) (book : Book) → SameFrames e e1 → IsSound sizes e1 book.number book.macros → Counts sizes e book → Counts sizes e1 book
+pub counts_still : (sizes : Sizes) (e e1 : Engine) (book : Book) → SameFrames e e1 → IsSound sizes e1 book.number book.all_lists → Counts sizes e book → Counts sizes e1 book
 counts_still sizes e e1 book same sound h = record {
   sound = sound;
   depth = omega (arith, h.depth, ap (λ (r : Stack). length r.frames) same.readings, ap call_count same.call);

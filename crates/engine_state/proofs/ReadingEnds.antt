@@ -8,8 +8,8 @@ use Rattle.rows.specs.Readings.{Val}
 use Rattle.plain_readings.specs.Readings.{Reading, lists, fed_with}
 use Rattle.plain_machine.specs.States.{Closed, Ended, made, beneath, lists_of_top, held_with}
 use Rattle.plain_machine.specs.Plan.{value_tokens}
-use Rattle.input_state.specs.Stored.{KeepsMacros, gathered}
-use Rattle.reading_frames.specs.Sees.{has_no_token, top_list}
+use Rattle.input_state.specs.Stored.{KeepsShared, gathered}
+use Rattle.reading_frames.specs.Views.{has_no_token, top_list}
 use Rattle.reading_frames.specs.Resumes.{listed_count, listed_lists, with_list}
 use Rattle.reading_frames.specs.Stack.{Stack, innermost_count, lists_beneath}
 use Rattle.reading_frames.specs.Stands as frames
@@ -127,7 +127,7 @@ module _ (sizes : Sizes) (e e' : Engine) (book : Book) (r : Reading) (rs : List 
 
 -- BY WHAT THE CALLS SAY
 
-pub closes : (sizes : Sizes) (e e' : Engine) (book : Book) (r : Reading) (rs : List Reading) (stack : Stack) (listed : Bool) (held : List (List Token)) → e' ≡ framed_with e stack held e'.input.lists → stack.size ≡ e.readings.size → KeepsMacros e.input e'.input →
+pub closes : (sizes : Sizes) (e e' : Engine) (book : Book) (r : Reading) (rs : List Reading) (stack : Stack) (listed : Bool) (held : List (List Token)) → e' ≡ framed_with e stack held e'.input.lists → stack.size ≡ e.readings.size → KeepsShared e.input e'.input →
     listed_count listed ≡ innermost_count e.readings.frames → held ≡ drop (listed_count listed) e.input.builds →
     ((held : List (List Token)) (work : List Reading) → frames.FramesStand e.readings.frames held work → frames.FramesStand stack.frames (lists_beneath e.readings.frames held) (drop 1 work)) →
     ((held : List (List Token)) → AreShallow e.readings.frames held → AreShallow stack.frames (lists_beneath e.readings.frames held)) → Stands sizes e (with_work (r ∷ rs) book) →
@@ -138,7 +138,7 @@ closes sizes e e' book r rs stack listed held is size kept count left stand shal
     let held_are : e'.input.builds ≡ lists_beneath e.readings.frames e.input.builds = ap (λ (x : Engine). x.input.builds) is ∙ (left ∙ left_list listed (innermost_count e.readings.frames) e.input.builds count) in
     (closed_stands sizes e e' book r rs stack.frames same fs_are held_are stand shallow st, closed_state sizes e e' book r rs stack.frames same fs_are held_are stand shallow st (ap (λ (x : Engine). x.last) is))
 
-pub ends : (sizes : Sizes) (e e' : Engine) (book : Book) (r : Reading) (rs : List Reading) (v : Value) (listed kept empty : Bool) (fs1 : List Frame) (stack : Stack) (held : List (List Token)) → e' ≡ framed_with e stack held e'.input.lists → stack.size ≡ e.readings.size → KeepsMacros e.input e'.input →
+pub ends : (sizes : Sizes) (e e' : Engine) (book : Book) (r : Reading) (rs : List Reading) (v : Value) (listed kept empty : Bool) (fs1 : List Frame) (stack : Stack) (held : List (List Token)) → e' ≡ framed_with e stack held e'.input.lists → stack.size ≡ e.readings.size → KeepsShared e.input e'.input →
     held ≡ left_behind listed kept e.input.builds → listed_count listed ≡ innermost_count e.readings.frames → (kept ≡ true → empty ≡ false) → empty ≡ has_no_token (value_tokens v (listed_lists listed e.input.builds)) →
     ((held : List (List Token)) (work : List Reading) → frames.FramesStand e.readings.frames held work → frames.FramesStand fs1 (lists_beneath e.readings.frames held) (drop 1 work)) →
     ((held : List (List Token)) → AreShallow e.readings.frames held → AreShallow fs1 (lists_beneath e.readings.frames held)) →
@@ -147,8 +147,8 @@ pub ends : (sizes : Sizes) (e e' : Engine) (book : Book) (r : Reading) (rs : Lis
     ((ts : List Token) (held : List (List Token)) → lists_beneath stack.frames (with_list kept ts held) ≡ lists_beneath fs1 held) →
     Stands sizes e (with_work (r ∷ rs) book) →
     Stands sizes e' (with_work (fed_with (Val v (value_tokens v (lists r.kind r.fed))) rs) book) × (made (Ended v (value_tokens v (lists r.kind r.fed))) (state_of e (with_work (r ∷ rs) book)) ≡ state_of e' (with_work (fed_with (Val v (value_tokens v (lists r.kind r.fed))) rs) book))
-ends sizes e e' book r rs v listed kept empty fs1 stack held is size macros left count keeps em stand shallow valued still others st =
-    let same = same_with e e' stack held is size macros in
+ends sizes e e' book r rs v listed kept empty fs1 stack held is size all_lists left count keeps em stand shallow valued still others st =
+    let same = same_with e e' stack held is size all_lists in
     let fs_are : e'.readings.frames ≡ stack.frames = ap (λ (x : Engine). x.readings.frames) is in
     let held_are : e'.input.builds ≡ left_behind listed kept e.input.builds = ap (λ (x : Engine). x.input.builds) is ∙ left in (
       ended_stands sizes e e' book r rs v listed kept empty fs1 stack.frames same fs_are held_are count keeps em stand shallow valued still others st,

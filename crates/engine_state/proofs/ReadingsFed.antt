@@ -17,9 +17,9 @@ use Rattle.plain_machine.specs.States.{State, Move, Grows, Feeds, last_with}
 use Rattle.plain_machine.specs.Plan.{feeding, feeding_kind, noting, noting_kind, grown_and_fed, grown_to, first_list}
 use Rattle.plain_machine.specs.Does.{Did}
 use Rattle.plain_machine.proofs.Doing.{did_join, did_one}
-use Rattle.input_state.specs.Stored.{KeepsMacros, words as stored_words}
+use Rattle.input_state.specs.Stored.{KeepsShared, words as stored_words}
 use Rattle.list_builder.specs.Stages.{cell_count}
-use Rattle.reading_frames.specs.Sees.{put, on_top, top_list}
+use Rattle.reading_frames.specs.Views.{put, on_top, top_list}
 use Rattle.reading_frames.specs.Resumes.{token_count}
 use Rattle.reading_frames.specs.Stack.{Stack, innermost_count, innermost_groups, innermost_of, with_innermost, lists_beneath}
 use Rattle.reading_frames.specs.Stands as frames
@@ -140,11 +140,11 @@ module _ (sizes : Sizes) (e : Engine) (stack : Stack) (g : Grown) (y : Fed)
   grown_held : (book : Book) → Stands sizes e book → with_tokens g e.input.builds ≡ on_top g e.input.builds
   grown_held book st = on_top_same g e.input.builds (has_some e.readings.frames stack.frames g y stands others own e.input.builds book.work st.readings.frames)
 
-  pub feeds_stands : (e' : Engine) (book : Book) → e' ≡ fed_engine e stack y (with_tokens g e.input.builds) e'.input.lists → KeepsMacros e.input e'.input → Stands sizes e book → Stands sizes e' (with_work (fed_with y book.work) book)
+  pub feeds_stands : (e' : Engine) (book : Book) → e' ≡ fed_engine e stack y (with_tokens g e.input.builds) e'.input.lists → KeepsShared e.input e'.input → Stands sizes e book → Stands sizes e' (with_work (fed_with y book.work) book)
   feeds_stands e' book is kept st =
       subst (λ (x : Engine). Stands sizes x (with_work (fed_with y book.work) book)) (sym is)
       (still (stands_new sizes e (framed_with e stack (with_tokens g e.input.builds) e'.input.lists) book (fed_with y book.work) stack.frames (on_top g e.input.builds)
-      (same_with e (framed_with e stack (with_tokens g e.input.builds) e'.input.lists) stack (with_tokens g e.input.builds) refl size (subst (λ (x : Engine). KeepsMacros e.input x.input) is kept)) refl (grown_held book st) st
+      (same_with e (framed_with e stack (with_tokens g e.input.builds) e'.input.lists) stack (with_tokens g e.input.builds) refl size (subst (λ (x : Engine). KeepsShared e.input x.input) is kept)) refl (grown_held book st) st
       (stands e.input.builds book.work st.readings.frames) (shallow e.input.builds st.readings.shallow))) where
         still : Stands sizes (framed_with e stack (with_tokens g e.input.builds) e'.input.lists) (with_work (fed_with y book.work) book) → Stands sizes (fed_engine e stack y (with_tokens g e.input.builds) e'.input.lists) (with_work (fed_with y book.work) book)
         still h = record { sound = record { sized = record { few_reports = h.sound.sized.few_reports; small = h.sound.sized.small; own = h.sound.sized.own; readings = h.sound.sized.readings; conditionals = h.sound.sized.conditionals; input = h.sound.sized.input; names = h.sound.sized.names; located = h.sound.sized.located }; tied = h.sound.tied; bodies = h.sound.bodies }; idle = h.idle; readings = record { frames = h.readings.frames; shallow = h.readings.shallow }; uncalled = record { none = h.uncalled.none; input = h.uncalled.input } }
@@ -170,13 +170,13 @@ module _ (sizes : Sizes) (e : Engine) (stack : Stack) (g : Grown) (y : Fed)
     lead_by full (Some t) = tt
 
     -- the memory is full: the frame is put back
-    pub feeds_cut : (o : Option Frame) (e2 : Engine) (full : Full) (w : World) → IsKept o e → drop 1 stack.frames ≡ drop 1 e.readings.frames → length stack.frames ≡ length e.readings.frames → KeepsMacros e.input e2.input →
+    pub feeds_cut : (o : Option Frame) (e2 : Engine) (full : Full) (w : World) → IsKept o e → drop 1 stack.frames ≡ drop 1 e.readings.frames → length stack.frames ≡ length e.readings.frames → KeepsShared e.input e2.input →
         TokensCut g full (record e { readings = stack }) e2 →
         CutsIn sizes (state_of e (with_work (r ∷ rs) book)) (record e2 { readings = record { frames = with_innermost o e2.readings.frames; size = e2.readings.size } }) w w (grown_and_fed r.kind r.fed y) (broken.Full full)
-    feeds_cut o e2 full w kept rest count macros cut = record {
+    feeds_cut o e2 full w kept rest count all_lists cut = record {
       book' = with_work (r ∷ rs) book;
       cuts = cuts_by sizes (state_of e (with_work (r ∷ rs) book)) (restored o e2) (with_work (r ∷ rs) book) w w (map Grows (tokens_of g) ++ Feeds y ∷ []) (grown_and_fed r.kind r.fed y) (broken.Full full) moves
-          (tokens_cut sizes (with_work (r ∷ rs) book) w e (restored o e2) g full (Feeds y) st.uncalled.input st.sound macros cut_back);
+          (tokens_cut sizes (with_work (r ∷ rs) book) w e (restored o e2) g full (Feeds y) st.uncalled.input st.sound all_lists cut_back);
       near = record {
         lists = e.input.builds;
         front = cut.front;
@@ -191,7 +191,7 @@ module _ (sizes : Sizes) (e : Engine) (stack : Stack) (g : Grown) (y : Fed)
 
       full_kept : (p : Option Frame) → IsKept p e → p ≡ innermost_of e.readings.frames
       full_kept (Some f) h = sym h
-      full_kept None (inl room) = absurd (no_cut sizes (with_work (r ∷ rs) book) g full (record e { readings = stack }) e2 (by_stack sizes e (with_work (r ∷ rs) book) stack size st.sound) macros cut (omega (arith, room, few g.first g.second))) where
+      full_kept None (inl room) = absurd (no_cut sizes (with_work (r ∷ rs) book) g full (record e { readings = stack }) e2 (by_stack sizes e (with_work (r ∷ rs) book) stack size st.sound) all_lists cut (omega (arith, room, few g.first g.second))) where
         few : (a b : Option Token) → cell_count a + cell_count b ≤ 2
         few None None = omega arith
         few None (Some t) = omega arith

@@ -11,9 +11,9 @@ use Rattle.rows.specs.declared.words.Kind.TheVariants.{Command, Integer, Factor,
 use Rattle.plain_tokens.specs.Tables.{list_words, lists_words, memory, refused}
 use Rattle.plain_machine.specs.Demands.{words, depth as depth_demand}
 use Rattle.input_state.specs.Callings.{call_lists}
-use Rattle.input_state.specs.Stored.{KeepsMacros, words as stored_words}
+use Rattle.input_state.specs.Stored.{KeepsShared, words as stored_words}
 use Rattle.list_builder.specs.Stages.{cell_count}
-use Rattle.reading_frames.specs.Sees.{put, on_top}
+use Rattle.reading_frames.specs.Views.{put, on_top}
 use Rattle.reading_frames.specs.Resumes.{token_count}
 use Rattle.reading_frames.specs.Stands.{opened_lists}
 use Rattle.reading_frames.specs.declared.ask.Grown.{Grown}
@@ -89,7 +89,7 @@ own_sizes sizes e book need o counts h = ap (λ (s : Sizes). refused s (memory n
 
 -- ITS LIST, where there is room for it
 
-module _ (sizes : Sizes) (e e1 e2 : Engine) (book : Book) (o : Opening) (g : Grown) (sound : IsSound sizes e book.number book.macros) (top : HasTop o g)
+module _ (sizes : Sizes) (e e1 e2 : Engine) (book : Book) (o : Opening) (g : Grown) (sound : IsSound sizes e book.number book.all_lists) (top : HasTop o g)
     (room : refused e.sizes (memory (length (opened_lists o []) + token_count g) (stored_words e.input) ∷ []) ≡ None) where
   space : stored_words e.input + (length (opened_lists o []) + token_count g) ≤ sizes.main_memory_size
   space = subst (λ (s : Sizes). stored_words e.input + (length (opened_lists o []) + token_count g) ≤ s.main_memory_size) sound.sized.own (room_of e.sizes (length (opened_lists o []) + token_count g) (stored_words e.input) room)
@@ -100,9 +100,9 @@ module _ (sizes : Sizes) (e e1 e2 : Engine) (book : Book) (o : Opening) (g : Gro
       subst (λ (s : Sizes). s.main_memory_size < stored_words e.input + length (opened_lists o [])) sound.sized.input (no_room_of e.input.sizes (length (opened_lists o [])) (stored_words e.input) full h) in
       omega (arith, less, space)
 
-  opened_more : e1 ≡ listed e (opened_lists o e.input.builds) e1.input.lists → KeepsMacros e.input e1.input → stored_words e1.input ≡ stored_words e.input + length (opened_lists o [])
+  opened_more : e1 ≡ listed e (opened_lists o e.input.builds) e1.input.lists → KeepsShared e.input e1.input → stored_words e1.input ≡ stored_words e.input + length (opened_lists o [])
   opened_more ok kept =
-      let sound1 = listed_sound sizes e e1 (opened_lists o e.input.builds) book.number book.macros ok kept sound in
+      let sound1 = listed_sound sizes e e1 (opened_lists o e.input.builds) book.number book.all_lists ok kept sound in
       let more : words (state_of e1 book) ≡ words (state_of e book) + length (opened_lists o []) = ap (λ (x : Engine). words (state_of x book)) ok ∙
       omega (
         arith,
@@ -116,13 +116,13 @@ module _ (sizes : Sizes) (e e1 e2 : Engine) (book : Book) (o : Opening) (g : Gro
   has_list some none = cc (top some e.input.builds, none)
 
   pub behind : {R S : Type 0} (r1 : Result R Full) (r2 : Result S Full) → OnOk r1 (e1 ≡ listed e (opened_lists o e.input.builds) e1.input.lists) → IfErr r1 (λ full. refused e.input.sizes (memory (length (opened_lists o [])) (stored_words e.input) ∷ []) ≡ Some full) →
-      KeepsMacros e.input e1.input → KeepsMacros e1.input e2.input →
+      KeepsShared e.input e1.input → KeepsShared e1.input e2.input →
       OnOk r2 (e2 ≡ listed e1 (with_tokens g e1.input.builds) e2.input.lists) → IfErr r2 (λ full. TokensCut g full e1 e2) → e2.input.builds ≡ on_top g (opened_lists o e.input.builds)
   behind (Err full) r2 ok err kept kept' fed cut = absurd (none_full full err)
   behind (Ok u) (Ok v) ok err kept kept' fed cut =
       ap (λ (x : Engine). x.input.builds) fed ∙ (ap (λ (x : Engine). with_tokens g x.input.builds) ok ∙ on_top_same g (opened_lists o e.input.builds) has_list)
   behind (Ok u) (Err full) ok err kept kept' fed cut =
-      absurd (no_cut sizes book g full e1 e2 (listed_sound sizes e e1 (opened_lists o e.input.builds) book.number book.macros ok kept sound) kept' cut
+      absurd (no_cut sizes book g full e1 e2 (listed_sound sizes e e1 (opened_lists o e.input.builds) book.number book.all_lists ok kept sound) kept' cut
       (omega (arith, opened_more ok kept, space, ap (λ (s : Sizes). s.main_memory_size) (ap (λ (x : Engine). x.sizes) ok ∙ sound.sized.own))))
 
 pub none_of : {A : Type 0} → (o : Option A) → ((x : A) → o ≡ Some x → ⊥) → o ≡ None
@@ -131,19 +131,19 @@ none_of (Some x) h = absurd (h x refl)
 
 -- BY WHAT THE CALLS SAY
 
-pub opens : (sizes : Sizes) (e e' : Engine) (book : Book) (work : List Reading) (stack : Stack) (held : List (List Token)) → e' ≡ framed_with e stack held e'.input.lists → stack.size ≡ e.readings.size → KeepsMacros e.input e'.input →
+pub opens : (sizes : Sizes) (e e' : Engine) (book : Book) (work : List Reading) (stack : Stack) (held : List (List Token)) → e' ≡ framed_with e stack held e'.input.lists → stack.size ≡ e.readings.size → KeepsShared e.input e'.input →
     frames.FramesStand stack.frames held work → AreShallow stack.frames held → Stands sizes e book → Stands sizes e' (with_work work book)
 opens sizes e e' book work stack held is size kept stand shallow st =
     stands_new sizes e e' book work stack.frames held (same_with e e' stack held is size kept) (ap (λ (x : Engine). x.readings.frames) is) (ap (λ (x : Engine). x.input.builds) is) st stand shallow
 
-pub opens_state : (sizes : Sizes) (e e' : Engine) (book : Book) (work : List Reading) (stack : Stack) (mine held : List (List Token)) → e' ≡ framed_with e stack held e'.input.lists → stack.size ≡ e.readings.size → KeepsMacros e.input e'.input →
+pub opens_state : (sizes : Sizes) (e e' : Engine) (book : Book) (work : List Reading) (stack : Stack) (mine held : List (List Token)) → e' ≡ framed_with e stack held e'.input.lists → stack.size ≡ e.readings.size → KeepsShared e.input e'.input →
     frames.FramesStand stack.frames held work → AreShallow stack.frames held → Stands sizes e book → mine ++ e.input.builds ≡ held → record (state_of e book) { work = work; gathered = mine ++ gathered e.input } ≡ state_of e' (with_work work book)
 opens_state sizes e e' book work stack mine held is size kept stand shallow st lists =
     state_new e e' book work (mine ++ gathered e.input) (same_with e e' stack held is size kept) (ap (λ (x : Engine). x.last) is)
     (stands_gathered sizes e' (with_work work book) (opens sizes e e' book work stack held is size kept stand shallow st) ∙ (ap (λ (x : Engine). x.input.builds) is ∙ (sym lists ∙ ap (λ (l : List (List Token)). mine ++ l) (sym (stands_gathered sizes e book st)))))
 
 -- the same tables, whatever the frames
-pub by_stack : (sizes : Sizes) (e : Engine) (book : Book) (stack : Stack) → stack.size ≡ e.readings.size → IsSound sizes e book.number book.macros → IsSound sizes (record e { readings = stack }) book.number book.macros
+pub by_stack : (sizes : Sizes) (e : Engine) (book : Book) (stack : Stack) → stack.size ≡ e.readings.size → IsSound sizes e book.number book.all_lists → IsSound sizes (record e { readings = stack }) book.number book.all_lists
 by_stack sizes e book stack size sound = record {
   sized = record {
     few_reports = sound.sized.few_reports;

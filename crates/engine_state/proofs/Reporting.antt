@@ -21,7 +21,7 @@ use Rattle.plain_machine.specs.Runs.{Wrote, steps}
 use Rattle.plain_machine.specs.Does.{Did}
 use Rattle.plain_machine.proofs.Doing.{did_join, did_one, wrote_join}
 use Rattle.plain_machine.proofs.Joins.{steps_join}
-use Rattle.world_io.specs.Told.{FilesTold, SinkTold, world}
+use Rattle.world_io.specs.Contents.{FilesTold, SinkTold, world}
 use Rattle.world_io.specs.declared.traits.Fault.{Fault}
 use Rattle.transcript.specs.Taken.{Took, TookFront}
 use Rattle.token_lists.specs.Table.{Entry, tokens_at}
@@ -29,7 +29,7 @@ use Rattle.input_state.specs.HeldLists.{first_list as first_held}
 use Rattle.input_state.specs.Macros.{list_at}
 use Rattle.input_state.specs.Stored.{Stored}
 use Rattle.equivalents.specs.Parameters.{style_in}
-use Rattle.reading_frames.specs.Sees.{kept_list_of}
+use Rattle.reading_frames.specs.Views.{kept_list_of}
 use Rattle.engine_state.specs.declared.broken.Broken.{Broken}
 use Rattle.engine_state.specs.declared.engine.Engine.{Engine}
 use Rattle.engine_state.specs.declared.broken.Broken.TheVariants as broken
@@ -40,7 +40,7 @@ use Rattle.engine_state.specs.Begins.{outcome_of_last, last_moves, last_bytes, l
 use Rattle.engine_state.specs.Book.{Book}
 use Rattle.engine_state.specs.Calls.{AllStand, work_or_none}
 use Rattle.engine_state.specs.Stands.{Stands, IsSized, IsSound, IsUncalled, SameFrames, SameStore, SameOthers, OnlyColumn, state_of, page_of, own_style}
-use Rattle.engine_state.specs.Rules.{world_of, list_number, counted, CountsOn, Cuts, CountsReports, Went, Halts, Reports}
+use Rattle.engine_state.specs.Rules.{world_of, nth_list, counted, CountsOn, Cuts, CountsReports, Went, Halts, Reports}
 use Rattle.engine_state.proofs.CallKept.{frames_kept}
 use Rattle.engine_state.proofs.Cutting.{cuts_by, full_cuts, later_cuts, did_out, cut_out}
 use Rattle.engine_state.proofs.Joining.{quiet_here, halts_on}
@@ -53,13 +53,13 @@ pub shown_is : (text : Style → List Token → List ℕ) (style style' : Style)
 shown_is text style style' ts us s t = cc
 
 -- a list by its number
-number_same : (lists : List (List Token)) (k : ℕ) → list_at lists k ≡ list_number k lists
+number_same : (lists : List (List Token)) (k : ℕ) → list_at lists k ≡ nth_list k lists
 number_same [] zero = refl
 number_same [] (suc k) = refl
 number_same (ts ∷ lists) zero = refl
 number_same (ts ∷ lists) (suc k) = number_same lists k
 
-pub number_is : (table held : List (Option Entry)) (id k : ℕ) (lists : List (List Token)) → table ≡ held → tokens_at held id ≡ list_at lists k → tokens_at table id ≡ list_number k lists
+pub number_is : (table held : List (Option Entry)) (id k : ℕ) (lists : List (List Token)) → table ≡ held → tokens_at held id ≡ list_at lists k → tokens_at table id ≡ nth_list k lists
 number_is table held id k lists t h = ap (λ (x : List (Option Entry)). tokens_at x id) t ∙ (h ∙ number_same lists k)
 
 -- the innermost, where it is listed
@@ -305,7 +305,7 @@ uncalled_still : (e e' : Engine) → SameFrames e e' → IsUncalled e → IsUnca
 uncalled_still e e' same h = record { none = same.call ∙ h.none; input = same.calling ∙ h.input }
 
 -- the engine whose readings are as they were
-pub stands_still : (sizes : Sizes) (e e' : Engine) (book : Book) → SameFrames e e' → IsSound sizes e' book.number book.macros → e'.input.making ≡ None → Stands sizes e book → Stands sizes e' book
+pub stands_still : (sizes : Sizes) (e e' : Engine) (book : Book) → SameFrames e e' → IsSound sizes e' book.number book.all_lists → e'.input.making ≡ None → Stands sizes e book → Stands sizes e' book
 stands_still sizes e e' book same sound idle st = record { sound = sound; idle = idle; readings = frames_kept e e' book.work same st.readings; uncalled = uncalled_still e e' same st.uncalled }
 
 -- a report alone
@@ -328,16 +328,16 @@ full_out sizes e e' f s book m rest full is refused =
     (full_cuts sizes (state_of e book) e book (world_of f s e) m rest full (broken.Full full) refl refused refl)
 
 -- an engine that has the same input
-pub input_sound : (sizes : Sizes) (e e' : Engine) (book : Book) → e'.input ≡ e.input → (IsSized sizes e → IsSized sizes e') → IsSound sizes e book.number book.macros → IsSound sizes e' book.number book.macros
-input_sound sizes e e' book is sized h = sound_sized sizes e e' book.number book.macros (sized h.sized) (store_is e.input e'.input is) h
+pub input_sound : (sizes : Sizes) (e e' : Engine) (book : Book) → e'.input ≡ e.input → (IsSized sizes e → IsSized sizes e') → IsSound sizes e book.number book.all_lists → IsSound sizes e' book.number book.all_lists
+input_sound sizes e e' book is sized h = sound_sized sizes e e' book.number book.all_lists (sized h.sized) (store_is e.input e'.input is) h
 
 -- or that has put a token in front
-pub others_sound : (sizes : Sizes) (e e' : Engine) (book : Book) → SameOthers e e' → SameStore e.input e'.input → IsSound sizes e book.number book.macros → IsSound sizes e' book.number book.macros
-others_sound sizes e e' book others store h = sound_still sizes e e' book.number book.macros others.sizes others.depth others.conditionals others.names others.reports store h
+pub others_sound : (sizes : Sizes) (e e' : Engine) (book : Book) → SameOthers e e' → SameStore e.input e'.input → IsSound sizes e book.number book.all_lists → IsSound sizes e' book.number book.all_lists
+others_sound sizes e e' book others store h = sound_still sizes e e' book.number book.all_lists others.sizes others.depth others.conditionals others.names others.reports store h
 
 -- an engine that has written
-pub column_sound : (sizes : Sizes) (e e' : Engine) (number : ℕ → ℕ) (macros : List (List Token)) → OnlyColumn e e' → IsSound sizes e number macros → IsSound sizes e' number macros
-column_sound sizes e e' number macros only h = subst (λ (x : Engine). IsSound sizes x number macros) (sym only.same) (sound_still sizes e (record e { in_line = e'.in_line }) number macros refl refl refl refl refl (store_same e.input) h)
+pub column_sound : (sizes : Sizes) (e e' : Engine) (number : ℕ → ℕ) (all_lists : List (List Token)) → OnlyColumn e e' → IsSound sizes e number all_lists → IsSound sizes e' number all_lists
+column_sound sizes e e' number all_lists only h = subst (λ (x : Engine). IsSound sizes x number all_lists) (sym only.same) (sound_still sizes e (record e { in_line = e'.in_line }) number all_lists refl refl refl refl refl (store_same e.input) h)
 
 -- a token's line alone
 line_silent : (page : Page) (m : Meaning Unit) → steps (token_line page m) ≡ 0

@@ -15,7 +15,7 @@ use Rattle.equivalents.specs.Locations.{SeenValue, value_seen}
 use Rattle.equivalents.specs.Tables.{get}
 use Rattle.rows.specs.Internal.{value_text}
 use Rattle.plain_machine.specs.States.{Move, Written, Flawed}
-use Rattle.plain_machine.specs.Plan.{macro_tokens, list_number, shown, standing_shown, value_shown}
+use Rattle.plain_machine.specs.Plan.{shared_tokens, list_number, shown, standing_shown, value_shown}
 use Rattle.plain_machine.specs.Does.{Did}
 use Rattle.plain_machine.proofs.Doing.{did_join, did_one}
 use Rattle.plain_machine.proofs.GroupNumbers.{fetched_same}
@@ -24,7 +24,7 @@ use Rattle.transcript.specs.Given.{tokens_given}
 use Rattle.engine_state.specs.declared.broken.Broken.{Broken}
 use Rattle.engine_state.specs.declared.engine.Engine.{Engine}
 use Rattle.engine_state.specs.Book.{Book}
-use Rattle.engine_state.specs.Lists.{list_at}
+use Rattle.engine_state.specs.Lists.{location_list}
 use Rattle.engine_state.specs.Stands.{IsSound, state_of, page_of, own_style}
 use Rattle.engine_state.specs.Rules.{Cuts}
 use Rattle.engine_state.proofs.Cutting.{cuts_by}
@@ -47,15 +47,15 @@ pub flawed_behind : (sizes : Sizes) (e e1 : Engine) (book : Book) (w w' : World)
     Did sizes (state_of e book) (state_of (record e1 { flawed = true }) book) w w' (Written Transcript text ∷ Flawed ∷ [])
 flawed_behind sizes e e1 book w w' text first = did_join sizes _ _ _ w w' w' (Written Transcript text ∷ []) (Flawed ∷ []) first (did_one sizes Flawed _ _ w' w' refl refl (quiet_here Flawed w' tt))
 
-module _ (sizes : Sizes) (e : Engine) (book : Book) (sound : IsSound sizes e book.number book.macros) (x : Seen) where
+module _ (sizes : Sizes) (e : Engine) (book : Book) (sound : IsSound sizes e book.number book.all_lists) (x : Seen) where
   abbrev bytes : List Token → List ℕ
   bytes ts = shown_meaning_bytes (own_style e) e.in_line e.input.pending.number x.token x.meaning ts
 
   abbrev text : List ℕ
-  text = bytes (meaning_tokens (macro_tokens e.input.lists) (meaning_to_let e.input.groups.now.meanings x))
+  text = bytes (meaning_tokens (shared_tokens e.input.lists) (meaning_to_let e.input.groups.now.meanings x))
 
   moves_are : shown (page_of e book) x ≡ Written Transcript text ∷ Flawed ∷ []
-  moves_are = ap (λ (ts : List Token). Written Transcript (bytes ts) ∷ Flawed ∷ []) (tokens_let book.number book.macros e.input.groups (all_puts e.input.pending) e.input.lists sound.tied x)
+  moves_are = ap (λ (ts : List Token). Written Transcript (bytes ts) ∷ Flawed ∷ []) (tokens_let book.number book.all_lists e.input.groups (all_puts e.input.pending) e.input.lists sound.tied x)
 
   -- it is written, and the status is to be 1
   pub shown_did : (e1 : Engine) (w w' : World) → Did sizes (state_of e book) (state_of e1 book) w w' (Written Transcript text ∷ []) →
@@ -75,13 +75,13 @@ value_by style style' b line line' text text' ts us s l t is =
     ap (λ (x : Style). shown_value_bytes x b line text ts) s
     ∙ (ap (λ (n : ℕ). shown_value_bytes style' b n text ts) l ∙ (ap (λ (cs : List ℕ). shown_value_bytes style' b line' cs ts) t ∙ ap (λ (xs : List Token). shown_value_bytes style' b line' text' xs) is))
 
-module _ (sizes : Sizes) (e : Engine) (book : Book) (sound : IsSound sizes e book.number book.macros) (l : Loc) where
+module _ (sizes : Sizes) (e : Engine) (book : Book) (sound : IsSound sizes e book.number book.all_lists) (l : Loc) where
   abbrev value_bytes : List ℕ
-  value_bytes = shown_value_bytes (own_style e) e.in_line e.input.pending.number (value_text l (value_seen (get e.input.groups.now l))) (list_at e l)
+  value_bytes = shown_value_bytes (own_style e) e.in_line e.input.pending.number (value_text l (value_seen (get e.input.groups.now l))) (location_list e l)
 
   standing_is : standing_shown (page_of e book) l ≡ Written Transcript value_bytes ∷ Flawed ∷ []
   standing_is =
-      ap (λ (v : SeenValue). value_shown (page_of e book) (value_text l v) (macro_tokens book.macros (list_number (page_of e book) l))) (fetched_same book.number e.input.groups.now l)
+      ap (λ (v : SeenValue). value_shown (page_of e book) (value_text l v) (shared_tokens book.all_lists (list_number (page_of e book) l))) (fetched_same book.number e.input.groups.now l)
       ∙ ap (value_shown (page_of e book) (value_text l (value_seen (get e.input.groups.now l)))) (tokens_are sizes e book sound l)
 
   pub standing_did : (e1 : Engine) (w w' : World) → Did sizes (state_of e book) (state_of e1 book) w w' (Written Transcript value_bytes ∷ []) →

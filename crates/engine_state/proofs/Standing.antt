@@ -24,7 +24,7 @@ only_input e e' only = ap (λ (x : Engine). x.input) only.same
 
 pub column_all : (sizes : Sizes) (e e' : Engine) (book : Book) → OnlyColumn e e' → AllStand sizes e book → AllStand sizes e' book
 column_all sizes e e' book only st =
-    all_still sizes e e' book (only_frames e e' only) (store_is e.input e'.input (only_input e e' only)) (column_sound sizes e e' book.number book.macros only st.sound) (ap (λ (x : Stored). x.making) (only_input e e' only) ∙ st.idle) st
+    all_still sizes e e' book (only_frames e e' only) (store_is e.input e'.input (only_input e e' only)) (column_sound sizes e e' book.number book.all_lists only st.sound) (ap (λ (x : Stored). x.making) (only_input e e' only) ∙ st.idle) st
 
 -- the engine is the same
 pub same_engine : (e e' : Engine) → e' ≡ e → SameFrames e e'

@@ -8,7 +8,7 @@ use Rattle.tex_defs.specs.declared.Seen.{Seen}
 use Rattle.tex_defs.specs.declared.Sizes.{Sizes}
 use Rattle.tex_defs.specs.Places.{World}
 use Rattle.plain_machine.specs.States.{State, Move}
-use Rattle.world_io.specs.Told.{SinkTold}
+use Rattle.world_io.specs.Contents.{SinkTold}
 use Rattle.engine_state.specs.declared.broken.Broken.{Broken}
 use Rattle.engine_state.specs.declared.call.Call.{Call}
 use Rattle.engine_state.specs.declared.engine.Engine.{Engine}
@@ -35,7 +35,7 @@ noted_same b e = record { readings = refl; lists = refl; call = refl; calling = 
 
 pub noted_stands : (b : Bool) (sizes : Sizes) (e : Engine) (book : Book) → AllStand sizes e book → AllStand sizes (noted b e) book
 noted_stands b sizes e book st =
-    all_still sizes e (noted b e) book (noted_same b e) (store_same e.input) (sound_still sizes e (noted b e) book.number book.macros refl refl refl refl refl (store_same e.input) st.sound) st.idle st
+    all_still sizes e (noted b e) book (noted_same b e) (store_same e.input) (sound_still sizes e (noted b e) book.number book.all_lists refl refl refl refl refl (store_same e.input) st.sound) st.idle st
 
 pub noted_frames : (b : Bool) (e e' : Engine) → SameFrames e e' → SameFrames e (noted b e')
 noted_frames b e e' h = record { readings = h.readings; lists = h.lists; call = h.call; calling = h.calling }

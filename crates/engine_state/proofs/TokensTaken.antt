@@ -15,9 +15,9 @@ use Rattle.plain_machine.specs.Demands.{words}
 use Rattle.plain_machine.specs.Does.{Did}
 use Rattle.plain_machine.proofs.Doing.{did_join, did_none, did_one}
 use Rattle.input_state.specs.Callings.{NotCalling, call_lists}
-use Rattle.input_state.specs.Stored.{Stored, KeepsMacros, gathered, words as stored_words}
+use Rattle.input_state.specs.Stored.{Stored, KeepsShared, gathered, words as stored_words}
 use Rattle.list_builder.specs.Stages.{cell_count}
-use Rattle.reading_frames.specs.Sees.{put, on_top}
+use Rattle.reading_frames.specs.Views.{put, on_top}
 use Rattle.reading_frames.specs.Resumes.{token_count}
 use Rattle.reading_frames.specs.declared.ask.Grown.{Grown}
 use Rattle.engine_state.specs.declared.engine.Engine.{Engine}
@@ -89,9 +89,9 @@ on_top_same g lists h = put_same g.first g.second lists h
 abbrev pub listed : Engine → (builds lists : List (List Token)) → Engine
 listed e builds lists = record e { input = record e.input { builds = builds; lists = lists } }
 
-pub listed_sound : (sizes : Sizes) (e e' : Engine) (builds : List (List Token)) (number : ℕ → ℕ) (macros : List (List Token)) → e' ≡ listed e builds e'.input.lists → KeepsMacros e.input e'.input → IsSound sizes e number macros → IsSound sizes e' number macros
-listed_sound sizes e e' builds number macros is kept h =
-    sound_still sizes e e' number macros (ap (λ (x : Engine). x.sizes) is) (ap (λ (x : Engine). x.readings.size) is) (ap (λ (x : Engine). x.conditionals) is) (ap (λ (x : Engine). x.names) is) (ap (λ (x : Engine). x.reports) is)
+pub listed_sound : (sizes : Sizes) (e e' : Engine) (builds : List (List Token)) (number : ℕ → ℕ) (all_lists : List (List Token)) → e' ≡ listed e builds e'.input.lists → KeepsShared e.input e'.input → IsSound sizes e number all_lists → IsSound sizes e' number all_lists
+listed_sound sizes e e' builds number all_lists is kept h =
+    sound_still sizes e e' number all_lists (ap (λ (x : Engine). x.sizes) is) (ap (λ (x : Engine). x.readings.size) is) (ap (λ (x : Engine). x.conditionals) is) (ap (λ (x : Engine). x.names) is) (ap (λ (x : Engine). x.reports) is)
     (store_gathered e.input e'.input builds (ap (λ (x : Engine). x.input) is) kept) h
 
 -- WORDS
@@ -118,9 +118,9 @@ front_words None t rest = omega arith
 front_words (Some u) t rest = omega arith
 
 -- where there is room for all, none is cut off
-pub no_cut : (sizes : Sizes) (book : Book) (g : Grown) (full : Full) (e e' : Engine) → IsSound sizes e book.number book.macros → KeepsMacros e.input e'.input → TokensCut g full e e' → stored_words e.input + token_count g ≤ e.sizes.main_memory_size → ⊥
+pub no_cut : (sizes : Sizes) (book : Book) (g : Grown) (full : Full) (e e' : Engine) → IsSound sizes e book.number book.all_lists → KeepsShared e.input e'.input → TokensCut g full e e' → stored_words e.input + token_count g ≤ e.sizes.main_memory_size → ⊥
 no_cut sizes book g full e e' sound kept cut room =
-    let sound' = listed_sound sizes e e' (with_token cut.front e.input.builds) book.number book.macros cut.after kept sound in
+    let sound' = listed_sound sizes e e' (with_token cut.front e.input.builds) book.number book.all_lists cut.after kept sound in
     let gone = no_room_of e'.input.sizes 1 (stored_words e'.input) full cut.refused_then in
     let size : e'.input.sizes ≡ e.sizes = sound'.sized.input ∙ sym sound.sized.own in
     let small : e.sizes.main_memory_size < stored_words e'.input + 1 = subst (λ (s : Sizes). s.main_memory_size < stored_words e'.input + 1) size gone in
@@ -136,7 +136,7 @@ no_cut sizes book g full e e' sound kept cut room =
 -- WHAT THE MACHINE DOES
 
 module _ (sizes : Sizes) (book : Book) (w : World) where
-  pub grow_did : (e e' : Engine) (t : Token) → e' ≡ listed e (grow_first t e.input.builds) e'.input.lists → (e.input.builds ≡ [] → ⊥) → e.input.call ≡ NotCalling → IsSound sizes e book.number book.macros → refused e.input.sizes (memory 1 (stored_words e.input) ∷ []) ≡ None →
+  pub grow_did : (e e' : Engine) (t : Token) → e' ≡ listed e (grow_first t e.input.builds) e'.input.lists → (e.input.builds ≡ [] → ⊥) → e.input.call ≡ NotCalling → IsSound sizes e book.number book.all_lists → refused e.input.sizes (memory 1 (stored_words e.input) ∷ []) ≡ None →
       Did sizes (state_of e book) (state_of e' book) w w (Grows t ∷ [])
   grow_did e e' t is list none sound fits =
       let grown : Engine = listed e (grow_first t e.input.builds) e'.input.lists in
@@ -144,7 +144,7 @@ module _ (sizes : Sizes) (book : Book) (w : World) where
       did_one sizes (Grows t) (state_of e book) (state_of e' book) w w (words_more sizes e book 1 None sound fits)
       (ap (λ (l : List (List Token)). record (state_of e book) { gathered = l }) lists ∙ ap (λ (x : Engine). state_of x book) (sym is)) (quiet_here (Grows t) w tt)
 
-  pub grown_did : (e e' : Engine) (o : Option Token) → e' ≡ listed e (with_token o e.input.builds) e'.input.lists → (IsSome o → e.input.builds ≡ [] → ⊥) → e.input.call ≡ NotCalling → IsSound sizes e book.number book.macros →
+  pub grown_did : (e e' : Engine) (o : Option Token) → e' ≡ listed e (with_token o e.input.builds) e'.input.lists → (IsSome o → e.input.builds ≡ [] → ⊥) → e.input.call ≡ NotCalling → IsSound sizes e book.number book.all_lists →
       (IsSome o → refused e.input.sizes (memory 1 (stored_words e.input) ∷ []) ≡ None) → Did sizes (state_of e book) (state_of e' book) w w (map Grows (option_to_list o))
   grown_did e e' None is list none sound fits = subst (λ (x : Engine). Did sizes (state_of e book) (state_of x book) w w []) (sym is) (did_none sizes (state_of e book) w)
   grown_did e e' (Some t) is list none sound fits = grow_did e e' t is (list refl) none sound (fits refl)
@@ -159,12 +159,12 @@ module _ (sizes : Sizes) (book : Book) (w : World) where
   before_none (Some t) (ts ∷ lists) h = cc
 
   -- all of them
-  pub all_did : (e e' : Engine) (g : Grown) → TokensFit g e.input → (1 ≤ token_count g → e.input.builds ≡ [] → ⊥) → e' ≡ listed e (with_tokens g e.input.builds) e'.input.lists → e.input.call ≡ NotCalling → IsSound sizes e book.number book.macros →
+  pub all_did : (e e' : Engine) (g : Grown) → TokensFit g e.input → (1 ≤ token_count g → e.input.builds ≡ [] → ⊥) → e' ≡ listed e (with_tokens g e.input.builds) e'.input.lists → e.input.call ≡ NotCalling → IsSound sizes e book.number book.all_lists →
       Did sizes (state_of e book) (state_of e' book) w w (map Grows (tokens_of g))
   all_did e e' g fits list is none sound =
       let e1 : Engine = record e { input = fits.between } in
       let is1 : e1 ≡ listed e (with_token g.first e.input.builds) e1.input.lists = ap (λ (i : Stored). record e { input = i }) fits.is in
-      let sound1 : IsSound sizes e1 book.number book.macros = listed_sound sizes e e1 (with_token g.first e.input.builds) book.number book.macros is1 fits.macros sound in
+      let sound1 : IsSound sizes e1 book.number book.all_lists = listed_sound sizes e e1 (with_token g.first e.input.builds) book.number book.all_lists is1 fits.all_lists sound in
       let is2 : e' ≡ listed e1 (with_token g.second e1.input.builds) e'.input.lists = is ∙ ap (λ (x : Engine). listed x (with_token g.second x.input.builds) e'.input.lists) (sym is1) in
       let none1 : e1.input.call ≡ NotCalling = ap (λ (i : Stored). i.call) fits.is ∙ none in
       let first : IsSome g.first → e.input.builds ≡ [] → ⊥ = λ some. list (one_first g.first g.second some) in
@@ -173,7 +173,7 @@ module _ (sizes : Sizes) (book : Book) (w : World) where
       (did_join sizes _ _ _ w w w (map Grows (option_to_list g.first)) (map Grows (option_to_list g.second))
       (grown_did e e1 g.first is1 first none sound (λ some. fits.first some (first some))) (grown_did e1 e' g.second is2 second none1 sound1 (λ some. fits.second some (second some))))
 
-module _ (sizes : Sizes) (book : Book) (w : World) (e e' : Engine) (g : Grown) (full : Full) (m : Move) (none : e.input.call ≡ NotCalling) (sound : IsSound sizes e book.number book.macros) (kept : KeepsMacros e.input e'.input) where
+module _ (sizes : Sizes) (book : Book) (w : World) (e e' : Engine) (g : Grown) (full : Full) (m : Move) (none : e.input.call ≡ NotCalling) (sound : IsSound sizes e book.number book.all_lists) (kept : KeepsShared e.input e'.input) where
   cut_moves : (o : Option Token) (t : Token) (rest : List Token) → map Grows (option_to_list o ++ t ∷ rest) ++ m ∷ [] ≡ map Grows (option_to_list o) ++ (Grows t ∷ (map Grows rest ++ m ∷ []))
   cut_moves None t rest = refl
   cut_moves (Some u) t rest = refl
@@ -186,4 +186,4 @@ module _ (sizes : Sizes) (book : Book) (w : World) (e e' : Engine) (g : Grown) (
       (later_cuts sizes (state_of e book) (state_of e' book) e' book w w w (map Grows (option_to_list cut.front)) (Grows cut.next ∷ (map Grows cut.rest ++ m ∷ [])) (broken.Full full)
       (grown_did sizes book w e e' cut.front cut.after (λ some. cut.list) none sound cut.fits)
       (full_cuts sizes (state_of e' book) e' book w (Grows cut.next) (map Grows cut.rest ++ m ∷ []) full (broken.Full full) refl
-      (words_more sizes e' book 1 (Some full) (listed_sound sizes e e' (with_token cut.front e.input.builds) book.number book.macros cut.after kept sound) cut.refused_then) refl))
+      (words_more sizes e' book 1 (Some full) (listed_sound sizes e e' (with_token cut.front e.input.builds) book.number book.all_lists cut.after kept sound) cut.refused_then) refl))

@@ -116,9 +116,9 @@ ReadingsStand None e number work = FramesStand e work × (e.input.call ≡ NotCa
 ReadingsStand (Some c) e number [] = ⊥
 ReadingsStand (Some c) e number (r ∷ rs) = CallStands e number c r × FramesStand e rs
 
--- The engine's open readings and its macros are those of the book, and no list is being made; a call gathers its arguments or none does.
+-- The engine's open readings and its shared lists are those of the book, and no list is being made; a call gathers its arguments or none does.
 pub record AllStand (sizes : Sizes) (e : Engine) (book : Book) : Type 0 where
-  pub sound : IsSound sizes e book.number book.macros
+  pub sound : IsSound sizes e book.number book.all_lists
   pub idle : e.input.making ≡ None
   pub all : ReadingsStand e.call e book.number book.work
 

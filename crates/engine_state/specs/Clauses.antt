@@ -8,7 +8,7 @@ use Rattle.plain_readings.specs.Readings.{Reading}
 use Rattle.plain_machine.specs.States.{Move}
 use Rattle.plain_machine.specs.Plan.{Page, reports_room}
 use Rattle.plain_machine.specs.Does.{Did}
-use Rattle.world_io.specs.Told.{FilesTold, SinkTold}
+use Rattle.world_io.specs.Contents.{FilesTold, SinkTold}
 use Rattle.engine_state.specs.declared.broken.Broken.{Broken}
 use Rattle.engine_state.specs.declared.engine.Engine.{Engine}
 use Rattle.engine_state.specs.declared.outcome.Ruled.{Ruled}
@@ -17,9 +17,9 @@ use Rattle.engine_state.specs.CutReadings.{CutsIn}
 use Rattle.engine_state.specs.Rules.{world_of, Cuts, DoesOnward, Halts, Went}
 use Rattle.engine_state.specs.Stands.{Counts, IsSound, Stands, page_of, state_of}
 
--- The macros that the input holds are those of the book.
-abbrev pub HoldsMacros : Sizes → Engine → Book → Type 0
-HoldsMacros sizes e book = IsSound sizes e book.number book.macros
+-- The lists that locations and what is in front share are those of the book.
+abbrev pub HoldsLists : Sizes → Engine → Book → Type 0
+HoldsLists sizes e book = IsSound sizes e book.number book.all_lists
 
 -- What held of the engine and a book, as that it stands for the book, still holds.
 abbrev pub Still : (Sizes → Engine → Book → Type 0) → (e e' : Engine) → Type 0

@@ -9,7 +9,7 @@ use Rattle.reading_frames.specs.declared.frame.Frame.{Frame}
 use Rattle.reading_frames.specs.Resumes.{token_count}
 use Rattle.reading_frames.specs.Stack.{innermost_of}
 use Rattle.reading_frames.specs.Stands.{opened_lists}
-use Rattle.input_state.specs.Stored.{Stored, KeepsMacros, words}
+use Rattle.input_state.specs.Stored.{Stored, KeepsShared, words}
 use Rattle.engine_state.specs.declared.engine.Engine.{Engine}
 use Rattle.engine_state.specs.CutReadings.{with_token}
 
@@ -24,7 +24,7 @@ with_tokens g lists = with_token g.second (with_token g.first lists)
 pub record TokensFit (g : Grown) (i : Stored) : Type 0 where
   pub between : Stored
   pub is : between ≡ record i { builds = with_token g.first i.builds; lists = between.lists }
-  pub macros : KeepsMacros i between
+  pub all_lists : KeepsShared i between
   pub first : IsSome g.first → (i.builds ≡ [] → ⊥) → refused i.sizes (memory 1 (words i) ∷ []) ≡ None
   pub second : IsSome g.second → (between.builds ≡ [] → ⊥) → refused between.sizes (memory 1 (words between) ∷ []) ≡ None
 

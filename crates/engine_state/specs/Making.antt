@@ -13,12 +13,12 @@ use Rattle.equivalents.specs.Cases.{case_codes, case_changed}
 use Rattle.equivalents.specs.Locations.{value_seen}
 use Rattle.equivalents.specs.Tables.{Tables, get}
 use Rattle.rows.specs.Internal.{is_fetchable, value_text}
-use Rattle.plain_machine.specs.Plan.{Page, style_of, job_in, meaning_characters, macro_tokens}
+use Rattle.plain_machine.specs.Plan.{Page, style_of, job_in, meaning_characters, shared_tokens}
 use Rattle.plain_machine.specs.States.{Move, ListGrown}
 use Rattle.plain_machine.specs.Does.{Did}
 use Rattle.input_state.specs.Standing.{appended_made}
-use Rattle.input_state.specs.Stored.{Stored, KeepsMacros}
-use Rattle.reading_frames.specs.Sees.{kept_list_of}
+use Rattle.input_state.specs.Stored.{Stored, KeepsShared}
+use Rattle.reading_frames.specs.Views.{kept_list_of}
 use Rattle.engine_state.specs.declared.broken.Broken.TheVariants as broken
 use Rattle.engine_state.specs.declared.engine.Engine.{Engine}
 use Rattle.engine_state.specs.declared.text.Made.{Made}
@@ -31,15 +31,15 @@ use Rattle.engine_state.specs.Rules.{Cuts}
 -- it has grown by them
 pub record HasGrown (i j : Stored) (ts : List Token) : Type 0 where
   pub is : j ≡ record i { making = appended_made ts i.making; lists = j.lists }
-  pub macros : KeepsMacros i j
-  pub did : (sizes : Sizes) (e : Engine) (w : World) (book : Book) → IsSound sizes (record e { input = i }) book.number book.macros →
+  pub all_lists : KeepsShared i j
+  pub did : (sizes : Sizes) (e : Engine) (w : World) (book : Book) → IsSound sizes (record e { input = i }) book.number book.all_lists →
       Did sizes (state_of (record e { input = i }) book) (state_of (record e { input = j }) book) w w (map ListGrown ts)
 
 -- it has no room for one of them
 pub record GrowsNot (i j : Stored) (ts : List Token) (full : Full) : Type 0 where
   pub is : j ≡ record i { making = j.making; lists = j.lists }
-  pub macros : KeepsMacros i j
-  pub cuts : (sizes : Sizes) (e : Engine) (w : World) (book : Book) (more : List Move) → IsSound sizes (record e { input = i }) book.number book.macros →
+  pub all_lists : KeepsShared i j
+  pub cuts : (sizes : Sizes) (e : Engine) (w : World) (book : Book) (more : List Move) → IsSound sizes (record e { input = i }) book.number book.all_lists →
       Cuts sizes (state_of (record e { input = i }) book) (record e { input = j }) book w w (map ListGrown ts ++ more) (broken.Full full)
 
 -- WHAT STAYS where a list is put in front: the readings, the tables, the file and the line, and each macro that is held
@@ -65,13 +65,13 @@ characters_of page (make.Spelling t) = string_text (style_of page) t
 characters_of page (make.Meaning x) = meaning_characters page x
 characters_of page (make.Value l) = text_at page.now l
 
--- and by what the engine has, where macros have other numbers
+-- and by what the engine has, where shared lists have other numbers
 abbrev pub characters_in : Engine → Made → List ℕ
 characters_in e make.JobName = job_in e.names.others
 characters_in e (make.Number n) = whole_number n
 characters_in e (make.Roman n) = roman n
 characters_in e (make.Spelling t) = string_text (own_style e) t
-characters_in e (make.Meaning x) = meaning_text (own_style e) (macro_tokens e.input.lists) (meaning_to_let e.input.groups.now.meanings x)
+characters_in e (make.Meaning x) = meaning_text (own_style e) (shared_tokens e.input.lists) (meaning_to_let e.input.groups.now.meanings x)
 characters_in e (make.Value l) = text_at e.input.groups.now l
 
 -- THE CASE OF CHARACTERS

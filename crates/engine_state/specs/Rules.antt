@@ -28,7 +28,7 @@ use Rattle.plain_machine.specs.Numbers.{pending_of}
 use Rattle.plain_machine.specs.Plan.{Page, style_of, planned, stomach, wanted, feeding, first_list, handed, met, reported, reported_as, behind_report, entered, enters_names, incomplete, reports_room}
 use Rattle.plain_machine.specs.Runs.{steps}
 use Rattle.plain_machine.specs.Does.{Did, Cut, Why, IsFull, IsFault, IsWant}
-use Rattle.world_io.specs.Told.{FilesTold, SinkTold, world}
+use Rattle.world_io.specs.Contents.{FilesTold, SinkTold, world}
 use Rattle.engine_state.specs.declared.broken.Broken.{Broken}
 use Rattle.engine_state.specs.declared.check.Check.{Check}
 use Rattle.engine_state.specs.declared.engine.Engine.{Engine}
@@ -124,13 +124,13 @@ abbrev pub name_moves : Page → Option Scanning → (enters : Bool) → (onward
 name_moves page scanned enters onward x = entered (new_name enters page.names x) ++ token_moves page scanned onward (token_of enters page.names x)
 
 -- the list with this number among those that are gathered but for a call's, the innermost first
-abbrev pub list_number : ℕ → List (List PlainToken) → List PlainToken
-list_number k lists = first_list (drop k lists)
+abbrev pub nth_list : ℕ → List (List PlainToken) → List PlainToken
+nth_list k lists = first_list (drop k lists)
 
 -- the list of what is scanned: of a call the present argument, if a place is reached, and else the list with this number
 abbrev pub scanned_list : Scanned → ℕ → Engine → List PlainToken
 scanned_list scanned.Use k e = work_or_none (call_work e.input.call)
-scanned_list what k e = list_number k e.input.builds
+scanned_list what k e = nth_list k e.input.builds
 
 -- what is shown of it where it runs away
 abbrev pub away_text : Scanned → ℕ → Engine → List ℕ

@@ -17,13 +17,13 @@ use Rattle.equivalents.specs.Parameters.{style_in}
 use Rattle.plain_machine.specs.States.{State, no_files}
 use Rattle.plain_machine.specs.Plan.{Page, reports_room}
 use Rattle.plain_machine.specs.Numbers.{Tied, pending_of, groups_of, tables_of}
-use Rattle.input_state.specs.Stored.{Stored, KeepsMacros, gathered}
+use Rattle.input_state.specs.Stored.{Stored, KeepsShared, gathered}
 use Rattle.input_state.specs.Callings.{NotCalling}
 use Rattle.engine_state.specs.declared.engine.Engine.{Engine}
 use Rattle.engine_state.specs.declared.call.Call.{Call}
 use Rattle.engine_state.specs.Book.{Book, AreBodies}
 
--- The state that it stands for, but for what the files hold: the machine has its own numbers for the macros.
+-- The state that it stands for, but for what the files hold: the machine has its own numbers for the shared lists.
 abbrev pub state_of : Engine → Book → State
 state_of e book = record {
   pending = pending_of book.number e.input.pending;
@@ -32,7 +32,7 @@ state_of e book = record {
   groups = groups_of book.number e.input.groups;
   names = e.names.names;
   strings = e.names.others;
-  macros = book.macros;
+  all_lists = book.all_lists;
   after = e.after;
   mag_set = e.mag_set;
   conditionals = e.conditionals.items;
@@ -60,7 +60,7 @@ page_of e book = record {
   conditionals = e.conditionals.items;
   names = e.names.names;
   strings = e.names.others;
-  macros = book.macros;
+  all_lists = book.all_lists;
   last = e.last;
   naming = e.naming;
   in_line = e.in_line;
@@ -87,11 +87,11 @@ pub record IsSized (sizes : Sizes) (e : Engine) : Type 0 where
   pub names : e.names.sizes ≡ sizes
   pub located : length e.input.groups.now.meanings ≡ fixed_locations + length e.names.names
 
--- The macros that the input holds are these, under these numbers.
-pub record IsSound (sizes : Sizes) (e : Engine) (number : ℕ → ℕ) (macros : List (List Token)) : Type 0 where
+-- The shared lists that the input holds are these, under these numbers.
+pub record IsSound (sizes : Sizes) (e : Engine) (number : ℕ → ℕ) (all_lists : List (List Token)) : Type 0 where
   pub sized : IsSized sizes e
-  pub tied : Tied number macros (lists_held e.input.groups) (all_puts e.input.pending) e.input.lists
-  pub bodies : AreBodies macros
+  pub tied : Tied number all_lists (lists_held e.input.groups) (all_puts e.input.pending) e.input.lists
+  pub bodies : AreBodies all_lists
 
 -- THE OPEN READINGS
 
@@ -105,9 +105,9 @@ pub record IsUncalled (e : Engine) : Type 0 where
   pub none : e.call ≡ None
   pub input : e.input.call ≡ NotCalling
 
--- The engine's open readings and its macros are those of the book, no list is being made, and no call gathers its arguments.
+-- The engine's open readings and its shared lists are those of the book, no list is being made, and no call gathers its arguments.
 pub record Stands (sizes : Sizes) (e : Engine) (book : Book) : Type 0 where
-  pub sound : IsSound sizes e book.number book.macros
+  pub sound : IsSound sizes e book.number book.all_lists
   pub idle : e.input.making ≡ None
   pub readings : FramesStand e book.work
   pub uncalled : IsUncalled e
@@ -120,9 +120,9 @@ call_count (Some c) = 1
 abbrev pub depth : Engine → ℕ
 depth e = length e.readings.frames + call_count e.call
 
--- The engine counts the open readings and the macros as the machine.
+-- The engine counts the open readings and the shared lists as the machine.
 pub record Counts (sizes : Sizes) (e : Engine) (book : Book) : Type 0 where
-  pub sound : IsSound sizes e book.number book.macros
+  pub sound : IsSound sizes e book.number book.all_lists
   pub depth : length book.work ≡ depth e
 
 -- why there is no room for one more reading
@@ -182,7 +182,7 @@ pub record SameStore (old new : Stored) : Type 0 where
   pub closing : new.closing ≡ old.closing
   pub ending : new.ending ≡ old.ending
   pub puts : (n : ℕ) → is_put n (all_puts new.pending) ≡ true → is_put n (all_puts old.pending) ≡ true
-  pub lists : KeepsMacros old new
+  pub lists : KeepsShared old new
 
 -- all but the frames and the lists that they hold is as it was, but that a reading may have been fed
 pub record SameBut (e e' : Engine) : Type 0 where

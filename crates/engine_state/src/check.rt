@@ -9,7 +9,7 @@ ghost use Rattle.tex_defs.specs.declared.Sizes.{Sizes};
 ghost use Rattle.tex_defs.specs.declared.Fatal.TheVariants as fatal;
 ghost use Rattle.plain_machine.specs.States.{Move, Written};
 ghost use Rattle.plain_machine.specs.Plan.{Page, put_one, reported, checked, check_noted, incomplete, inserted_at};
-ghost use Rattle.world_io.specs.Told.{FilesTold};
+ghost use Rattle.world_io.specs.Contents.{FilesTold};
 ghost use Rattle.engine_state.specs.Book.{Book};
 ghost use Rattle.engine_state.specs.Calls.{AllStand};
 ghost use Rattle.engine_state.specs.CutReadings.{CutsIn};

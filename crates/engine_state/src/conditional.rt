@@ -82,7 +82,7 @@ impl Engine {
     /// Whether two tokens are the same to `\ifx`: by what they mean, and of macros by the tokens of their lists. *The TeXbook*, chapter 20;
     /// *TeX: The Program*, part 28 ("Test if two tokens match").
     pub fn is_same(&self, x: Seen, y: Seen) -> bool
-        ensures { (sizes : Sizes) (book : Book) → IsSound sizes self.now book.number book.macros →
+        ensures { (sizes : Sizes) (book : Book) → IsSound sizes self.now book.number book.all_lists →
             result ≡ same.same_meaning x.meaning y.meaning (are_same (tokens_meant (page_of self.now book) x) (tokens_meant (page_of self.now book) y)) }
     {
         let same_list = self.input.same_list(x, y);

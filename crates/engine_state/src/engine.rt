@@ -165,7 +165,7 @@ impl Engine {
 
     /// The words of main memory that are used.
     pub fn words(&self) -> u32
-        ensures { (sizes : Sizes) (book : Book) → IsSound sizes self.now book.number book.macros → result ≡ words (state_of self.now book) }
+        ensures { (sizes : Sizes) (book : Book) → IsSound sizes self.now book.number book.all_lists → result ≡ words (state_of self.now book) }
     {
         self.input.words()
     }

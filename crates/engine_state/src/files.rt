@@ -4,7 +4,7 @@ ghost use Rattle.tex_syntax.specs.declared.words.Outcome.TheVariants.{AtFatal};
 ghost use Rattle.tex_defs.specs.Places.{World};
 ghost use Rattle.tex_defs.specs.declared.Fatal.{Fatal};
 ghost use Rattle.tex_defs.specs.declared.Sizes.{Sizes};
-ghost use Rattle.plain_tokens.specs.Pending.{settle, with_begun, with_end, ending};
+ghost use Rattle.plain_tokens.specs.Pending.{end_token_lists, with_begun, with_end, ending};
 ghost use Rattle.plain_tokens.specs.Tables.{open_lines};
 ghost use Rattle.input_state.specs.Stored.{spelt};
 ghost use Rattle.equivalents.specs.Parameters.{end_of_line};
@@ -12,7 +12,7 @@ ghost use Rattle.plain_machine.specs.States.{FileEnds};
 ghost use Rattle.plain_machine.specs.Plan.{ruled, reports_room, unless_found};
 ghost use Rattle.engine_state.specs.Begins.{no_file_end};
 ghost use Rattle.plain_machine.specs.Does.{Did};
-ghost use Rattle.world_io.specs.Told.{FilesTold};
+ghost use Rattle.world_io.specs.Contents.{FilesTold};
 ghost use Rattle.engine_state.specs.Book.{Book};
 ghost use Rattle.engine_state.specs.Calls.{AllStand};
 ghost use Rattle.engine_state.specs.Clauses.{Still};
@@ -50,14 +50,14 @@ impl Engine {
     /// The line has no room in the buffer, or else the file's level none on the input stack; nothing has changed but that the finished lists in front have gone.
     pub fn begin_file(&mut self) -> Result<(), Broken>
         requires opened { IsSome self.old.input.pending.next }
-        ensures did { OnOk result ((sizes : Sizes) (w : World) (book : Book) → IsSound sizes self.old book.number book.macros → Did sizes (state_of self.old book) (state_of self.new book) w w (ruled (state_of self.old book) self.old.input.pending.next)) }
-        ensures err { IfErr result (λ b. (sizes : Sizes) (w : World) (book : Book) → IsSound sizes self.old book.number book.macros → Cuts sizes (state_of self.old book) self.new book w w (ruled (state_of self.old book) self.old.input.pending.next) b) }
+        ensures did { OnOk result ((sizes : Sizes) (w : World) (book : Book) → IsSound sizes self.old book.number book.all_lists → Did sizes (state_of self.old book) (state_of self.new book) w w (ruled (state_of self.old book) self.old.input.pending.next)) }
+        ensures err { IfErr result (λ b. (sizes : Sizes) (w : World) (book : Book) → IsSound sizes self.old book.number book.all_lists → Cuts sizes (state_of self.old book) self.new book w w (ruled (state_of self.old book) self.old.input.pending.next) b) }
         ensures stands { Still AllStand self.old self.new }
-        ensures pending { OnOk result (self.new.input.pending ≡ with_end (end_of_line self.old.input.groups.now) (with_begun (settle self.old.input.pending))) }
+        ensures pending { OnOk result (self.new.input.pending ≡ with_end (end_of_line self.old.input.groups.now) (with_begun (end_token_lists self.old.input.pending))) }
         ensures frames { SameFrames self.old self.new }
         ensures only { self.new ≡ record self.old { input = record self.old.input { pending = self.new.input.pending; buffer = self.new.input.buffer; lists = self.new.input.lists } } }
     {
-        self.input.settle();
+        self.input.end_token_lists();
         self.input.begin_file()?;
         Ok(())
     }

@@ -29,7 +29,7 @@ impl Engine {
         ensures page { (book : Book) → page_of self.new book ≡ page_of self.old book }
         ensures idle { OnOk result (self.new.input.making ≡ None) }
     {
-        self.input.settle();
+        self.input.end_token_lists();
         self.input.make_list()?;
         self.input.grow_made(token)?;
         self.input.put_made()?;

@@ -7,7 +7,7 @@ ghost use Rattle.plain_machine.specs.States.{GroupOpened, KeptForAssignment};
 ghost use Rattle.plain_machine.specs.Plan.{put_each, group_ended, kept_for_group, behind_assignment};
 ghost use Rattle.plain_machine.specs.Does.{Did};
 ghost use Rattle.engine_state.specs.Book.{Book};
-ghost use Rattle.engine_state.specs.Clauses.{Still, HoldsMacros, MakesMoves, CutsMoves};
+ghost use Rattle.engine_state.specs.Clauses.{Still, HoldsLists, MakesMoves, CutsMoves};
 ghost use Rattle.engine_state.specs.Stands.{Stands, Counts, IsSound, SameStore, SameOthers, SameFrames, state_of, page_of};
 ghost use Rattle.engine_state.specs.Rules.{Cuts};
 ghost use Rattle.engine_state.specs.Steps.{pending_weight};
@@ -23,8 +23,8 @@ impl Engine {
     /// # Errors
     /// The save stack is full, or else as many groups are open as may be; nothing has changed.
     pub fn open_group(&mut self, kind: GroupKind) -> Result<(), Broken>
-        ensures did { OnOk result (MakesMoves HoldsMacros self.old self.new (λ _. GroupOpened kind ∷ [])) }
-        ensures err { IfErr result (λ b. (sizes : Sizes) (w : World) (book : Book) → IsSound sizes self.old book.number book.macros → Cuts sizes (state_of self.old book) self.new book w w (GroupOpened kind ∷ []) b) }
+        ensures did { OnOk result (MakesMoves HoldsLists self.old self.new (λ _. GroupOpened kind ∷ [])) }
+        ensures err { IfErr result (λ b. (sizes : Sizes) (w : World) (book : Book) → IsSound sizes self.old book.number book.all_lists → Cuts sizes (state_of self.old book) self.new book w w (GroupOpened kind ∷ []) b) }
         ensures stands { OnOk result (Still Stands self.old self.new) }
         ensures frames { SameFrames self.old self.new }
         ensures only { self.new ≡ record self.old { input = record self.old.input { groups = self.new.input.groups } } }
@@ -39,8 +39,8 @@ impl Engine {
     /// # Errors
     /// The save stack is full; nothing has changed.
     pub fn keep_for_group(&mut self, token: Token) -> Result<(), Broken>
-        ensures did { OnOk result (MakesMoves HoldsMacros self.old self.new (λ _. kept_for_group (kind_of self.old.input.groups) token)) }
-        ensures err { IfErr result (λ b. CutsMoves HoldsMacros self.old self.new (λ _. kept_for_group (kind_of self.old.input.groups) token) b) }
+        ensures did { OnOk result (MakesMoves HoldsLists self.old self.new (λ _. kept_for_group (kind_of self.old.input.groups) token)) }
+        ensures err { IfErr result (λ b. CutsMoves HoldsLists self.old self.new (λ _. kept_for_group (kind_of self.old.input.groups) token) b) }
         ensures stands { OnOk result (Still Stands self.old self.new) }
         ensures frames { SameFrames self.old self.new }
         ensures only { self.new ≡ record self.old { input = record self.old.input { groups = self.new.input.groups } } }
@@ -59,7 +59,7 @@ impl Engine {
         ensures err { IfErr result (λ b. (sizes : Sizes) (w : World) (book : Book) → Counts sizes self.old book → Cuts sizes (state_of self.old book) self.new book w w (put_each self.old.input.closing) b) }
         ensures frames { SameFrames self.old self.new }
         ensures others { SameOthers self.old self.new }
-        ensures sound { Still HoldsMacros self.old self.new }
+        ensures sound { Still HoldsLists self.old self.new }
         ensures light { pending_weight self.new.input.pending ≡ pending_weight self.old.input.pending }
         ensures idle { OnOk result (self.new.input.making ≡ None) }
     {

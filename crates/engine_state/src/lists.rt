@@ -4,11 +4,11 @@ ghost use Rattle.tex_defs.specs.Places.{World};
 ghost use Rattle.tex_defs.specs.declared.Sizes.{Sizes};
 ghost use Rattle.equivalents.specs.Groups.{IsLocation};
 ghost use Rattle.plain_readings.specs.Readings.{Reading};
-ghost use Rattle.input_state.specs.Stored.{KeepsMacros};
+ghost use Rattle.input_state.specs.Stored.{KeepsShared};
 ghost use Rattle.plain_machine.specs.Plan.{list_given, list_number};
 ghost use Rattle.plain_machine.specs.Does.{Did};
 ghost use Rattle.engine_state.specs.Book.{Book, with_work};
-ghost use Rattle.engine_state.specs.Clauses.{Still, HoldsMacros, MakesMoves, CutsMoves, CutsFree};
+ghost use Rattle.engine_state.specs.Clauses.{Still, HoldsLists, MakesMoves, CutsMoves, CutsFree};
 ghost use Rattle.engine_state.specs.Lists.{Copies, with_list};
 ghost use Rattle.engine_state.specs.Stands.{Stands, SameFrames, state_of, page_of};
 ghost use Rattle.engine_state.specs.Steps.{pending_weight};
@@ -27,10 +27,10 @@ impl Engine {
     /// The input stack is full: the finished lists in front have gone.
     pub fn put_list(&mut self, loc: Loc) -> Result<(), Broken>
         requires there { IsLocation self.old.input.groups loc }
-        ensures did { OnOk result (MakesMoves HoldsMacros self.old self.new (λ page. list_given page false (list_number page loc))) }
-        ensures err { IfErr result (λ b. CutsMoves HoldsMacros self.old self.new (λ page. list_given page false (list_number page loc)) b) }
+        ensures did { OnOk result (MakesMoves HoldsLists self.old self.new (λ page. list_given page false (list_number page loc))) }
+        ensures err { IfErr result (λ b. CutsMoves HoldsLists self.old self.new (λ page. list_given page false (list_number page loc)) b) }
         ensures stands { OnOk result (Still Stands self.old self.new) }
-        ensures sound { OnOk result (Still HoldsMacros self.old self.new) }
+        ensures sound { OnOk result (Still HoldsLists self.old self.new) }
         ensures frames { SameFrames self.old self.new }
         ensures only { self.new ≡ record self.old { input = record self.old.input { pending = self.new.input.pending; lists = self.new.input.lists } } }
         ensures light { pending_weight self.new.input.pending ≡ pending_weight self.old.input.pending }
@@ -51,7 +51,7 @@ impl Engine {
         ensures did { OnOk result (Copies self.old → (sizes : Sizes) (w : World) (book : Book) → Stands sizes self.old book → Did sizes (state_of self.old book) (state_of self.new (with_list self.old loc book)) w w (list_given (page_of self.old book) true (list_number (page_of self.old book) loc))) }
         ensures refused { IfErr result (λ full. Copies self.old → CutsFree self.old self.new (λ page. list_given page true (list_number page loc)) (broken.Full full)) }
         ensures only { self.new ≡ record self.old { input = record self.old.input { builds = self.new.input.builds; lists = self.new.input.lists } } }
-        ensures macros { KeepsMacros self.old.input self.new.input }
+        ensures all_lists { KeepsShared self.old.input self.new.input }
     {
         if self.input.has_list() {
             self.input.copy_list(loc)?;

@@ -4,7 +4,7 @@ ghost use Rattle.tex_syntax.specs.declared.words.Want.{Want};
 ghost use Rattle.tex_defs.specs.declared.Sizes.{Sizes};
 ghost use Rattle.plain_tokens.specs.Pending.{pulled};
 ghost use Rattle.plain_tokens.specs.Lex.{Lexeme};
-ghost use Rattle.world_io.specs.Told.{FilesTold};
+ghost use Rattle.world_io.specs.Contents.{FilesTold};
 ghost use Rattle.input_state.specs.Reads.{gives_step, IsLexeme};
 ghost use Rattle.plain_tokens.specs.Lookup.{token_of, new_name};
 ghost use Rattle.engine_state.specs.Book.{Book};

@@ -9,11 +9,11 @@ ghost use Rattle.rows.specs.Readings.{Tok, Told, Fetched, Val, Done, Fetches};
 ghost use Rattle.plain_readings.specs.Readings.{Reading, fed_with, opened, opened_with, lists};
 ghost use Rattle.plain_readings.specs.Weights.{value_frame, act_frame, value_weight, act_weight};
 ghost use Rattle.plain_tokens.specs.Tables.{memory, refused};
-ghost use Rattle.reading_frames.specs.Sees.{kind_of, has_no_token, on_top};
+ghost use Rattle.reading_frames.specs.Views.{kind_of, has_no_token, on_top};
 ghost use Rattle.reading_frames.specs.Resumes.{listed_lists, token_count};
 ghost use Rattle.reading_frames.specs.Stands.{opened_lists};
 ghost use Rattle.input_state.specs.Callings.{NotCalling};
-ghost use Rattle.input_state.specs.Stored.{KeepsMacros, words as stored_words};
+ghost use Rattle.input_state.specs.Stored.{KeepsShared, words as stored_words};
 ghost use Rattle.reading_frames.specs.Weights.{frames_weight, opening_frame, innermost_weight, begun_weight, begun_with_weight, IsReported};
 ghost use Rattle.reading_frames.specs.Stack.{asks_in};
 ghost use Rattle.plain_machine.specs.States.{Begun, BegunWith, Closed, Ended, Feeds, made};
@@ -247,7 +247,7 @@ impl Engine {
         ensures ok { OnOk result (self.new ≡ record self.old { input = record self.old.input { builds = opened_lists opening self.old.input.builds; lists = self.new.input.lists } }) }
         ensures fits { OnOk result (refused self.old.input.sizes (memory (length (opened_lists opening [])) (stored_words self.old.input) ∷ []) ≡ None) }
         ensures refused { IfErr result (λ full. refused self.old.input.sizes (memory (length (opened_lists opening [])) (stored_words self.old.input) ∷ []) ≡ Some full) }
-        ensures macros { KeepsMacros self.old.input self.new.input }
+        ensures all_lists { KeepsShared self.old.input self.new.input }
         ensures err { OnErr result (self.new ≡ self.old) }
     {
         match opening {
@@ -282,8 +282,8 @@ impl Engine {
     /// Begins the list of a reading, if it has one from the beginning, with these tokens. There is room for it.
     fn begin_grown(&mut self, opening: Opening, grown: Grown)
         ensures only { self.new ≡ record self.old { input = record self.old.input { builds = self.new.input.builds; lists = self.new.input.lists } } }
-        ensures macros { KeepsMacros self.old.input self.new.input }
-        ensures grows { (sizes : Sizes) (book : Book) → IsSound sizes self.old book.number book.macros → self.old.input.call ≡ NotCalling → HasTop opening grown → refused self.old.sizes (memory (length (opened_lists opening []) + token_count grown) (stored_words self.old.input) ∷ []) ≡ None → self.new.input.builds ≡ on_top grown (opened_lists opening self.old.input.builds) }
+        ensures all_lists { KeepsShared self.old.input self.new.input }
+        ensures grows { (sizes : Sizes) (book : Book) → IsSound sizes self.old book.number book.all_lists → self.old.input.call ≡ NotCalling → HasTop opening grown → refused self.old.sizes (memory (length (opened_lists opening []) + token_count grown) (stored_words self.old.input) ∷ []) ≡ None → self.new.input.builds ≡ on_top grown (opened_lists opening self.old.input.builds) }
     {
         let _begun = self.begin_list(opening);
         let _grown = self.take(grown);
@@ -304,7 +304,7 @@ impl Engine {
     fn take(&mut self, grown: Grown) -> Result<(), Full>
         ensures ok { OnOk result (self.new ≡ record self.old { input = record self.old.input { builds = with_tokens grown self.old.input.builds; lists = self.new.input.lists } }) }
         ensures only { self.new ≡ record self.old { input = record self.old.input { builds = self.new.input.builds; lists = self.new.input.lists } } }
-        ensures macros { KeepsMacros self.old.input self.new.input }
+        ensures all_lists { KeepsShared self.old.input self.new.input }
         ensures fits { OnOk result (TokensFit grown self.old.input) }
         ensures err { IfErr result (λ full. TokensCut grown full self.old self.new) }
     {
@@ -316,7 +316,7 @@ impl Engine {
     /// A token, if there is one, goes onto the list on top, if there is one.
     fn grow(&mut self, token: Option<Token>) -> Result<(), Full>
         ensures ok { OnOk result (self.new ≡ record self.old { input = record self.old.input { builds = with_token token self.old.input.builds; lists = self.new.input.lists } }) }
-        ensures macros { KeepsMacros self.old.input self.new.input }
+        ensures all_lists { KeepsShared self.old.input self.new.input }
         ensures fits { OnOk result (IsSome token → (self.old.input.builds ≡ [] → ⊥) → refused self.old.input.sizes (memory 1 (stored_words self.old.input) ∷ []) ≡ None) }
         ensures grows { OnErr result (IsSome token × (self.old.input.builds ≡ [] → ⊥)) }
         ensures refused { IfErr result (λ full. refused self.old.input.sizes (memory 1 (stored_words self.old.input) ∷ []) ≡ Some full) }
@@ -341,7 +341,7 @@ impl Engine {
     /// The list on top goes, if there is one.
     fn drop_top(&mut self)
         ensures after { self.new ≡ record self.old { input = record self.old.input { builds = drop 1 self.old.input.builds; lists = self.new.input.lists } } }
-        ensures macros { KeepsMacros self.old.input self.new.input }
+        ensures all_lists { KeepsShared self.old.input self.new.input }
     {
         if self.input.has_list() {
             self.input.drop_list();

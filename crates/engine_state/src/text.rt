@@ -1,8 +1,8 @@
 // Made texts that are put in front.
 ghost use Rattle.std.specs.Prelude.{◌≡◌, ◌≢◌, [], ◌∷◌, map, IfErr, IfOk, OnOk, IsSome, IfSome, MatchBool, Some, None};
-ghost use Rattle.plain_machine.specs.States.{Settled, ListBegun};
+ghost use Rattle.plain_machine.specs.States.{ListsEnded, ListBegun};
 ghost use Rattle.plain_tokens.specs.Tokens.{made_token, made_text};
-ghost use Rattle.plain_tokens.specs.Pending.{settle};
+ghost use Rattle.plain_tokens.specs.Pending.{end_token_lists};
 ghost use Rattle.plain_tokens.specs.Meanings.{seen_as, meaning_to_let};
 ghost use Rattle.plain_tokens.specs.Numerals.{whole_number, roman};
 ghost use Rattle.plain_tokens.specs.Printed.{list_text, meaning_text, meaning_tokens};
@@ -14,11 +14,11 @@ ghost use Rattle.token_lists.specs.Ids.{id_of};
 ghost use Rattle.token_show.specs.Views.{names_style, IsNamesView};
 ghost use Rattle.transcript.specs.Given.{tokens_given};
 ghost use Rattle.input_state.specs.Calls.{text_of};
-ghost use Rattle.plain_machine.specs.Plan.{put_made, put_text, put_characters, macro_tokens};
-ghost use Rattle.reading_frames.specs.Sees.{kept_list_of};
+ghost use Rattle.plain_machine.specs.Plan.{put_made, put_text, put_characters, shared_tokens};
+ghost use Rattle.reading_frames.specs.Views.{kept_list_of};
 ghost use Rattle.input_state.specs.HeldLists.{made};
 ghost use Rattle.engine_state.specs.Book.{Book};
-ghost use Rattle.engine_state.specs.Clauses.{HoldsMacros, MakesMoves, CutsMoves, PutsInFront, CutsPutting};
+ghost use Rattle.engine_state.specs.Clauses.{HoldsLists, MakesMoves, CutsMoves, PutsInFront, CutsPutting};
 ghost use Rattle.engine_state.specs.Making.{HasGrown, GrowsNot, IsInFront, changed_list, characters_in, characters_of, text_at};
 ghost use Rattle.engine_state.specs.Stands.{SameStore, SameOthers, SameFrames, page_of};
 ghost use Rattle.engine_state.specs.Steps.{pending_weight};
@@ -165,7 +165,7 @@ fn given_meaning(input: &Input, x: Seen) -> Meaning<()>
 /// stand.
 pub(crate) fn given_list(input: &Input, x: Seen) -> (&Lists, Option<&ListRef>)
     ensures held { IfSome result.1 (λ r. IsHeld result.0.now (id_of r.now)) }
-    ensures tokens { tokens_given (λ r. tokens_at result.0.now (id_of r.now)) result.1 ≡ meaning_tokens (macro_tokens input.now.lists) (meaning_to_let input.now.groups.now.meanings x) }
+    ensures tokens { tokens_given (λ r. tokens_at result.0.now (id_of r.now)) result.1 ≡ meaning_tokens (shared_tokens input.now.lists) (meaning_to_let input.now.groups.now.meanings x) }
 {
     match given_meaning(input, x) {
         Meaning::Macro { .. } => input.macro_list(name_of(x.token)),
@@ -200,9 +200,9 @@ fn grow_list(input: &mut Input, names: NamesView<'_>, name: Name) -> Result<bool
 fn grow_meaning(input: &mut Input, names: NamesView<'_>, x: Seen) -> Result<bool, Full>
     requires making { IsSome input.old.making }
     requires names { IsNamesView names }
-    ensures ok { OnOk result (HasGrown input.old input.new (made_text (meaning_text (names_style names.entry) (macro_tokens input.old.lists) (meaning_to_let input.old.groups.now.meanings x)))) }
-    ensures err { IfErr result (λ full. GrowsNot input.old input.new (made_text (meaning_text (names_style names.entry) (macro_tokens input.old.lists) (meaning_to_let input.old.groups.now.meanings x))) full) }
-    ensures some { IfOk result (λ some. MatchBool some (meaning_text (names_style names.entry) (macro_tokens input.old.lists) (meaning_to_let input.old.groups.now.meanings x) ≢ []) (meaning_text (names_style names.entry) (macro_tokens input.old.lists) (meaning_to_let input.old.groups.now.meanings x) ≡ [])) }
+    ensures ok { OnOk result (HasGrown input.old input.new (made_text (meaning_text (names_style names.entry) (shared_tokens input.old.lists) (meaning_to_let input.old.groups.now.meanings x)))) }
+    ensures err { IfErr result (λ full. GrowsNot input.old input.new (made_text (meaning_text (names_style names.entry) (shared_tokens input.old.lists) (meaning_to_let input.old.groups.now.meanings x))) full) }
+    ensures some { IfOk result (λ some. MatchBool some (meaning_text (names_style names.entry) (shared_tokens input.old.lists) (meaning_to_let input.old.groups.now.meanings x) ≢ []) (meaning_text (names_style names.entry) (shared_tokens input.old.lists) (meaning_to_let input.old.groups.now.meanings x) ≡ [])) }
 {
     let meaning = given_meaning(input, x);
     let some = grow_piece(input, TokenText::of_meaning_head(names, &meaning))?;
@@ -229,9 +229,9 @@ fn grow_spelling(input: &mut Input, names: &NameTable, token: Token) -> Result<b
 /// The list that is made gets the characters of what a token means, as `\meaning` shows it. Answers whether there was one.
 fn grow_shown(input: &mut Input, names: &NameTable, x: Seen) -> Result<bool, Full>
     requires { IsSome input.old.making }
-    ensures ok { OnOk result (HasGrown input.old input.new (made_text (meaning_text (style_in input.old.groups.now names.now.names) (macro_tokens input.old.lists) (meaning_to_let input.old.groups.now.meanings x)))) }
-    ensures err { IfErr result (λ full. GrowsNot input.old input.new (made_text (meaning_text (style_in input.old.groups.now names.now.names) (macro_tokens input.old.lists) (meaning_to_let input.old.groups.now.meanings x))) full) }
-    ensures some { IfOk result (λ some. MatchBool some (meaning_text (style_in input.old.groups.now names.now.names) (macro_tokens input.old.lists) (meaning_to_let input.old.groups.now.meanings x) ≢ []) (meaning_text (style_in input.old.groups.now names.now.names) (macro_tokens input.old.lists) (meaning_to_let input.old.groups.now.meanings x) ≡ [])) }
+    ensures ok { OnOk result (HasGrown input.old input.new (made_text (meaning_text (style_in input.old.groups.now names.now.names) (shared_tokens input.old.lists) (meaning_to_let input.old.groups.now.meanings x)))) }
+    ensures err { IfErr result (λ full. GrowsNot input.old input.new (made_text (meaning_text (style_in input.old.groups.now names.now.names) (shared_tokens input.old.lists) (meaning_to_let input.old.groups.now.meanings x))) full) }
+    ensures some { IfOk result (λ some. MatchBool some (meaning_text (style_in input.old.groups.now names.now.names) (shared_tokens input.old.lists) (meaning_to_let input.old.groups.now.meanings x) ≢ []) (meaning_text (style_in input.old.groups.now names.now.names) (shared_tokens input.old.lists) (meaning_to_let input.old.groups.now.meanings x) ≡ [])) }
 {
     let categories = *input.categories();
     let escape = input.integer(ESCAPE_CHARACTER);
@@ -255,13 +255,13 @@ impl Engine {
     /// The finished lists in front go, and the list that is made is begun.
     fn begin_text(&mut self) -> Result<(), Broken>
         requires idle { self.old.input.making ≡ None }
-        ensures did { OnOk result (MakesMoves HoldsMacros self.old self.new (λ _. Settled ∷ ListBegun ∷ [])) }
-        ensures err { IfErr result (λ b. CutsMoves HoldsMacros self.old self.new (λ _. Settled ∷ ListBegun ∷ []) b) }
+        ensures did { OnOk result (MakesMoves HoldsLists self.old self.new (λ _. ListsEnded ∷ ListBegun ∷ [])) }
+        ensures err { IfErr result (λ b. CutsMoves HoldsLists self.old self.new (λ _. ListsEnded ∷ ListBegun ∷ []) b) }
         ensures begun { OnOk result (self.new.input.making ≡ Some []) }
-        ensures settled { self.new.input.pending ≡ settle self.old.input.pending }
+        ensures settled { self.new.input.pending ≡ end_token_lists self.old.input.pending }
         ensures front { IsInFront self.old self.new }
     {
-        self.input.settle();
+        self.input.end_token_lists();
         self.input.make_list()?;
         Ok(())
     }
@@ -269,10 +269,10 @@ impl Engine {
     /// The list that is made is put in front; one without tokens goes.
     fn end_text(&mut self, some: bool) -> Result<(), Broken>
         requires making { IsSome self.old.input.making }
-        requires settled { self.old.input.pending ≡ settle self.old.input.pending }
+        requires settled { self.old.input.pending ≡ end_token_lists self.old.input.pending }
         requires some { MatchBool some (made self.old.input.making ≢ []) (made self.old.input.making ≡ []) }
-        ensures did { OnOk result (MakesMoves HoldsMacros self.old self.new (λ _. put_made (made self.old.input.making))) }
-        ensures err { IfErr result (λ b. CutsMoves HoldsMacros self.old self.new (λ _. put_made (made self.old.input.making)) b) }
+        ensures did { OnOk result (MakesMoves HoldsLists self.old self.new (λ _. put_made (made self.old.input.making))) }
+        ensures err { IfErr result (λ b. CutsMoves HoldsLists self.old self.new (λ _. put_made (made self.old.input.making)) b) }
         ensures front { IsInFront self.old self.new }
         ensures idle { OnOk result (self.new.input.making ≡ None) }
     {

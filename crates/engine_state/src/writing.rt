@@ -12,17 +12,17 @@ ghost use Rattle.plain_tokens.specs.Numerals.{whole_number};
 ghost use Rattle.plain_tokens.specs.Printed.{meaning_tokens};
 ghost use Rattle.plain_state.specs.Reports.{report_bytes, message_bytes, error_message_bytes, runaway_bytes, shown_meaning_bytes, shown_value_bytes};
 ghost use Rattle.plain_machine.specs.States.{Move, Written};
-ghost use Rattle.plain_machine.specs.Plan.{reported, reported_as, token_line, reports_room, macro_tokens, shown, standing_shown, value_shown};
+ghost use Rattle.plain_machine.specs.Plan.{reported, reported_as, token_line, reports_room, shared_tokens, shown, standing_shown, value_shown};
 ghost use Rattle.plain_machine.specs.Does.{Did};
-ghost use Rattle.world_io.specs.Told.{FilesTold};
-ghost use Rattle.reading_frames.specs.Sees.{kept_list_of};
+ghost use Rattle.world_io.specs.Contents.{FilesTold};
+ghost use Rattle.reading_frames.specs.Views.{kept_list_of};
 ghost use Rattle.engine_state.specs.Book.{Book};
 ghost use Rattle.engine_state.specs.Calls.{AllStand, argument_bytes};
-ghost use Rattle.engine_state.specs.Lists.{list_at};
+ghost use Rattle.engine_state.specs.Lists.{location_list};
 ghost use Rattle.engine_state.specs.Begins.{outcome_of_last, last_moves, last_bytes, last_written};
 ghost use Rattle.engine_state.specs.Clauses.{WritesOut, CutsWriting, EndsAtHundredth, CutsReport};
 ghost use Rattle.engine_state.specs.Stands.{IsSized, IsSound, SameFrames, OnlyColumn, state_of, page_of, own_style};
-ghost use Rattle.engine_state.specs.Rules.{world_of, list_number, counted, CountsOn, Cuts, Reports, ReportsAs, DoesOnward};
+ghost use Rattle.engine_state.specs.Rules.{world_of, nth_list, counted, CountsOn, Cuts, Reports, ReportsAs, DoesOnward};
 ghost use Rattle.engine_state.specs.Steps.{IsFree};
 ghost use Rattle.engine_state.specs.declared.outcome.Ruled.TheVariants.{Halted};
 
@@ -108,11 +108,11 @@ impl Engine {
         number: u32,
     ) -> Result<(), Broken>
         requires { number < length self.old.input.builds }
-        ensures did { OnOk result (WritesOut self.old self.new (S.told out.old) (S.told out.new) (λ _. Written Transcript (runaway_bytes what (own_style self.old) self.old.in_line (list_number number self.old.input.builds)) ∷ [])) }
-        ensures err { IfErr result (λ b. CutsWriting self.old self.new (S.told out.old) (S.told out.new) (λ _. Written Transcript (runaway_bytes what (own_style self.old) self.old.in_line (list_number number self.old.input.builds)) ∷ []) b) }
+        ensures did { OnOk result (WritesOut self.old self.new (S.told out.old) (S.told out.new) (λ _. Written Transcript (runaway_bytes what (own_style self.old) self.old.in_line (nth_list number self.old.input.builds)) ∷ [])) }
+        ensures err { IfErr result (λ b. CutsWriting self.old self.new (S.told out.old) (S.told out.new) (λ _. Written Transcript (runaway_bytes what (own_style self.old) self.old.in_line (nth_list number self.old.input.builds)) ∷ []) b) }
         ensures only { OnlyColumn self.old self.new }
     {
-        let (lists, list) = self.input.list_number(number);
+        let (lists, list) = self.input.nth_list(number);
         let view = view_of(lists, &self.input, &self.names);
         write_runaway(out, &mut self.in_line, view, what, list)?;
         Ok(())
@@ -229,8 +229,8 @@ impl Engine {
 
     /// Writes a token and what it means, of a macro with the tokens of its list.
     fn write_shown_meaning<S: Sink>(&mut self, out: &mut S, x: Seen) -> Result<(), Broken>
-        ensures did { OnOk result (WritesOut self.old self.new (S.told out.old) (S.told out.new) (λ _. Written Transcript (shown_meaning_bytes (own_style self.old) self.old.in_line self.old.input.pending.number x.token x.meaning (meaning_tokens (macro_tokens self.old.input.lists) (meaning_to_let self.old.input.groups.now.meanings x))) ∷ [])) }
-        ensures err { IfErr result (λ b. CutsWriting self.old self.new (S.told out.old) (S.told out.new) (λ _. Written Transcript (shown_meaning_bytes (own_style self.old) self.old.in_line self.old.input.pending.number x.token x.meaning (meaning_tokens (macro_tokens self.old.input.lists) (meaning_to_let self.old.input.groups.now.meanings x))) ∷ []) b) }
+        ensures did { OnOk result (WritesOut self.old self.new (S.told out.old) (S.told out.new) (λ _. Written Transcript (shown_meaning_bytes (own_style self.old) self.old.in_line self.old.input.pending.number x.token x.meaning (meaning_tokens (shared_tokens self.old.input.lists) (meaning_to_let self.old.input.groups.now.meanings x))) ∷ [])) }
+        ensures err { IfErr result (λ b. CutsWriting self.old self.new (S.told out.old) (S.told out.new) (λ _. Written Transcript (shown_meaning_bytes (own_style self.old) self.old.in_line self.old.input.pending.number x.token x.meaning (meaning_tokens (shared_tokens self.old.input.lists) (meaning_to_let self.old.input.groups.now.meanings x))) ∷ []) b) }
         ensures only { OnlyColumn self.old self.new }
     {
         let line = self.input.line_number();
@@ -246,8 +246,8 @@ impl Engine {
     /// # Errors
     /// A write failed or wanted memory: a front of the text was written.
     pub fn show<S: Sink>(&mut self, out: &mut S, x: Seen) -> Result<(), Broken>
-        ensures did { OnOk result ((sizes : Sizes) (f : FilesTold) (book : Book) → IsSound sizes self.old book.number book.macros → Did sizes (state_of self.old book) (state_of self.new book) (world_of f (S.told out.old) self.old) (world_of f (S.told out.new) self.new) (shown (page_of self.old book) x)) }
-        ensures err { IfErr result (λ b. (sizes : Sizes) (f : FilesTold) (book : Book) (more : List Move) → IsSound sizes self.old book.number book.macros → Cuts sizes (state_of self.old book) self.new book (world_of f (S.told out.old) self.old) (world_of f (S.told out.new) self.new) (shown (page_of self.old book) x ++ more) b) }
+        ensures did { OnOk result ((sizes : Sizes) (f : FilesTold) (book : Book) → IsSound sizes self.old book.number book.all_lists → Did sizes (state_of self.old book) (state_of self.new book) (world_of f (S.told out.old) self.old) (world_of f (S.told out.new) self.new) (shown (page_of self.old book) x)) }
+        ensures err { IfErr result (λ b. (sizes : Sizes) (f : FilesTold) (book : Book) (more : List Move) → IsSound sizes self.old book.number book.all_lists → Cuts sizes (state_of self.old book) self.new book (world_of f (S.told out.old) self.old) (world_of f (S.told out.new) self.new) (shown (page_of self.old book) x ++ more) b) }
         ensures only { self.new ≡ record self.old { in_line = self.new.in_line; flawed = self.new.flawed } }
         ensures frames { SameFrames self.old self.new }
     {
@@ -272,8 +272,8 @@ impl Engine {
     /// Writes what stands at a location.
     fn write_standing<S: Sink>(&mut self, out: &mut S, loc: Loc) -> Result<(), Broken>
         requires there { IsLocation self.old.input.groups loc }
-        ensures did { OnOk result (WritesOut self.old self.new (S.told out.old) (S.told out.new) (λ _. Written Transcript (shown_value_bytes (own_style self.old) self.old.in_line self.old.input.pending.number (value_text loc (value_seen (get self.old.input.groups.now loc))) (list_at self.old loc)) ∷ [])) }
-        ensures err { IfErr result (λ b. CutsWriting self.old self.new (S.told out.old) (S.told out.new) (λ _. Written Transcript (shown_value_bytes (own_style self.old) self.old.in_line self.old.input.pending.number (value_text loc (value_seen (get self.old.input.groups.now loc))) (list_at self.old loc)) ∷ []) b) }
+        ensures did { OnOk result (WritesOut self.old self.new (S.told out.old) (S.told out.new) (λ _. Written Transcript (shown_value_bytes (own_style self.old) self.old.in_line self.old.input.pending.number (value_text loc (value_seen (get self.old.input.groups.now loc))) (location_list self.old loc)) ∷ [])) }
+        ensures err { IfErr result (λ b. CutsWriting self.old self.new (S.told out.old) (S.told out.new) (λ _. Written Transcript (shown_value_bytes (own_style self.old) self.old.in_line self.old.input.pending.number (value_text loc (value_seen (get self.old.input.groups.now loc))) (location_list self.old loc)) ∷ []) b) }
         ensures only { OnlyColumn self.old self.new }
     {
         let line = self.input.line_number();
@@ -306,8 +306,8 @@ impl Engine {
     /// A write failed or wanted memory: a front of the text was written.
     pub fn show_value<S: Sink>(&mut self, out: &mut S, loc: Loc) -> Result<(), Broken>
         requires there { IsLocation self.old.input.groups loc }
-        ensures did { OnOk result ((sizes : Sizes) (f : FilesTold) (book : Book) → IsSound sizes self.old book.number book.macros → Did sizes (state_of self.old book) (state_of self.new book) (world_of f (S.told out.old) self.old) (world_of f (S.told out.new) self.new) (standing_shown (page_of self.old book) loc)) }
-        ensures err { IfErr result (λ b. (sizes : Sizes) (f : FilesTold) (book : Book) (more : List Move) → IsSound sizes self.old book.number book.macros → Cuts sizes (state_of self.old book) self.new book (world_of f (S.told out.old) self.old) (world_of f (S.told out.new) self.new) (standing_shown (page_of self.old book) loc ++ more) b) }
+        ensures did { OnOk result ((sizes : Sizes) (f : FilesTold) (book : Book) → IsSound sizes self.old book.number book.all_lists → Did sizes (state_of self.old book) (state_of self.new book) (world_of f (S.told out.old) self.old) (world_of f (S.told out.new) self.new) (standing_shown (page_of self.old book) loc)) }
+        ensures err { IfErr result (λ b. (sizes : Sizes) (f : FilesTold) (book : Book) (more : List Move) → IsSound sizes self.old book.number book.all_lists → Cuts sizes (state_of self.old book) self.new book (world_of f (S.told out.old) self.old) (world_of f (S.told out.new) self.new) (standing_shown (page_of self.old book) loc ++ more) b) }
         ensures only { self.new ≡ record self.old { in_line = self.new.in_line; flawed = self.new.flawed } }
         ensures frames { SameFrames self.old self.new }
     {

@@ -7,7 +7,7 @@ use Rattle.save_stack.specs.Groups.{Stack, extended}
 use Rattle.save_stack.specs.Mapped.{mapped}
 use Rattle.save_stack.proofs.Mapped.{extended_as}
 use Rattle.equivalents.specs.Locations.{V}
-use Rattle.eqtb_save.specs.Values.{numbered}
+use Rattle.eqtb_save.specs.Values.{numbered_value}
 use Rattle.eqtb_save.specs.First.{Adds, with_all}
 use Rattle.eqtb_save.proofs.Held.{K}
 
@@ -21,24 +21,24 @@ all_joined s (x ∷ vs) ws = all_joined (extended s x) vs ws
 
 -- rows that follow one another
 pub then_row : {s t u : Stack K} {vs ws : List V} → Adds s t vs → Adds t u ws → Adds s u (vs ++ ws)
-then_row {s} {t} {u} {vs} {ws} first second = record { after = second.after ∙ ap (λ (x : Stack V). with_all x ws) first.after ∙ all_joined (mapped numbered s) vs ws }
+then_row {s} {t} {u} {vs} {ws} first second = record { after = second.after ∙ ap (λ (x : Stack V). with_all x ws) first.after ∙ all_joined (mapped numbered_value s) vs ws }
 
 -- one location
-pub one_more : {s t u : Stack K} {vs : List V} (v : K) (x : V) → Adds s t vs → u ≡ extended t v → numbered v ≡ x → Adds s u (vs ++ x ∷ [])
+pub one_more : {s t u : Stack K} {vs : List V} (v : K) (x : V) → Adds s t vs → u ≡ extended t v → numbered_value v ≡ x → Adds s u (vs ++ x ∷ [])
 one_more {s} {t} {u} {vs} v x done is value = record {
   after =
-      ap (mapped numbered) is
-      ∙ extended_as numbered t v
-      ∙ ap (λ (y : Stack V). extended y (numbered v)) done.after
-      ∙ ap (λ (y : V). extended (with_all (mapped numbered s) vs) y) value
-      ∙ sym (all_more (mapped numbered s) vs x);
+      ap (mapped numbered_value) is
+      ∙ extended_as numbered_value t v
+      ∙ ap (λ (y : Stack V). extended y (numbered_value v)) done.after
+      ∙ ap (λ (y : V). extended (with_all (mapped numbered_value s) vs) y) value
+      ∙ sym (all_more (mapped numbered_value s) vs x);
 }
 
 -- the next of a row of a function's values, and of a row of copies
-pub next_of : {s t u : Stack K} (v : K) (f : ℕ → V) (a k j : ℕ) → a + k ≡ j → Adds s t (map f (range_with_len a k)) → u ≡ extended t v → numbered v ≡ f j → Adds s u (map f (range_with_len a (k + 1)))
+pub next_of : {s t u : Stack K} (v : K) (f : ℕ → V) (a k j : ℕ) → a + k ≡ j → Adds s t (map f (range_with_len a k)) → u ≡ extended t v → numbered_value v ≡ f j → Adds s u (map f (range_with_len a (k + 1)))
 next_of {s} {u = u} v f a k j next done is value = subst (λ (vs : List V). Adds s u vs) (sym (map-range_with_len_more f a k j next)) (one_more v (f j) done is value)
 
-pub next_copy : {s t u : Stack K} (v : K) (x : V) (k : ℕ) → Adds s t (replicate k x) → u ≡ extended t v → numbered v ≡ x → Adds s u (replicate (k + 1) x)
+pub next_copy : {s t u : Stack K} (v : K) (x : V) (k : ℕ) → Adds s t (replicate k x) → u ≡ extended t v → numbered_value v ≡ x → Adds s u (replicate (k + 1) x)
 next_copy {s} {u = u} v x k done is value = subst (λ (vs : List V). Adds s u vs) (replicate-append-replicate k 1 x) (one_more v x done is value)
 
 pub whole_row : {s t : Stack K} (f : ℕ → V) (a k n : ℕ) → k ≡ n → Adds s t (map f (range_with_len a k)) → Adds s t (map f (range_with_len a n))

@@ -17,7 +17,7 @@ use Rattle.equivalents.specs.Holding.{list_of, with_list, lists_of, lists_of_mea
 use Rattle.equivalents.specs.Laws.{IsWhole}
 use Rattle.equivalents.proofs.Joins.{enters}
 use Rattle.equivalents.proofs.Whole as whole
-use Rattle.eqtb_save.specs.Values.{numbered, categories_in}
+use Rattle.eqtb_save.specs.Values.{numbered_value, categories_in}
 use Rattle.eqtb_save.specs.Table.{Table, IsSound, HasRoom, name_entered}
 use Rattle.eqtb_save.proofs.Codes.{codes_push}
 use Rattle.eqtb_save.proofs.Held.{K}
@@ -45,20 +45,20 @@ top_longer (m ∷ ms) within = codes_push m undefined within
 pub room_for_one : (s : Stack V) (t : Table) → groups_of s ≡ t.groups → IsWhole s → s.most ≡ 2918 + 514 + t.sizes.hash_size → HasRoom t → length s.levels < s.most
 room_for_one s t is whole most room = omega (arith, names_last s whole, ap (λ (x : Groups). length x.now.meanings) is, most, room)
 
-module _ (s s' : Stack K) (is : IsWhole (mapped numbered s)) (d : s' ≡ extended s (val.Meant means.Undefined)) where
-  view : mapped numbered s' ≡ extended (mapped numbered s) undefined
-  view = ap (λ (x : Stack K). mapped numbered x) d ∙ extended_as numbered s (val.Meant means.Undefined)
+module _ (s s' : Stack K) (is : IsWhole (mapped numbered_value s)) (d : s' ≡ extended s (val.Meant means.Undefined)) where
+  view : mapped numbered_value s' ≡ extended (mapped numbered_value s) undefined
+  view = ap (λ (x : Stack K). mapped numbered_value x) d ∙ extended_as numbered_value s (val.Meant means.Undefined)
 
-  pub entered_groups : (g : Groups) → groups_of (mapped numbered s) ≡ g → groups_of (mapped numbered s') ≡ entered g
-  entered_groups g now = ap (λ (x : Stack V). groups_of x) view ∙ enters (mapped numbered s) is ∙ ap entered now
+  pub entered_groups : (g : Groups) → groups_of (mapped numbered_value s) ≡ g → groups_of (mapped numbered_value s') ≡ entered g
+  entered_groups g now = ap (λ (x : Stack V). groups_of x) view ∙ enters (mapped numbered_value s) is ∙ ap entered now
 
-  pub entered_table : (closing : List Token) (ending : Option GroupKind) (sizes : Sizes) (t : Table) → table (groups_of (mapped numbered s)) closing ending sizes ≡ t → table (groups_of (mapped numbered s')) closing ending sizes ≡ name_entered t
+  pub entered_table : (closing : List Token) (ending : Option GroupKind) (sizes : Sizes) (t : Table) → table (groups_of (mapped numbered_value s)) closing ending sizes ≡ t → table (groups_of (mapped numbered_value s')) closing ending sizes ≡ name_entered t
   entered_table closing ending sizes t now = ap (λ (g : Groups). table g closing ending sizes) (entered_groups _ refl) ∙ ap (λ (u : Table). name_entered u) now
 
-  pub entered_sound : (cs : List ℕ) (closing : List Token) (room given : ℕ) (ending : Option GroupKind) (sizes : Sizes) → IsSound cs (mapped numbered s) closing room given ending sizes → IsSound cs (mapped numbered s') closing room given ending sizes
+  pub entered_sound : (cs : List ℕ) (closing : List Token) (room given : ℕ) (ending : Option GroupKind) (sizes : Sizes) → IsSound cs (mapped numbered_value s) closing room given ending sizes → IsSound cs (mapped numbered_value s') closing room given ending sizes
   entered_sound cs closing room given ending sizes sound = subst (λ (x : Stack V). IsSound cs x closing room given ending sizes) (sym view) (record {
-    whole = whole.enters (mapped numbered s) is;
-    codes = sound.codes ∙ sym (top_longer (mapped numbered s).maps (omega (arith, names_last (mapped numbered s) is, is.located)));
+    whole = whole.enters (mapped numbered_value s) is;
+    codes = sound.codes ∙ sym (top_longer (mapped numbered_value s).maps (omega (arith, names_last (mapped numbered_value s) is, is.located)));
     save_size = sound.save_size;
     most = sound.most;
     rooms = sound.rooms;

@@ -18,7 +18,7 @@ use Rattle.equivalents.specs.Groups.{Groups, outermost, first_groups}
 use Rattle.equivalents.specs.Holding.{list_of, with_list, lists_of_meanings, lists_held}
 use Rattle.equivalents.specs.Laws.{IsWhole}
 use Rattle.token_lists.specs.Holders.{times}
-use Rattle.eqtb_save.specs.Values.{numbered, categories_in}
+use Rattle.eqtb_save.specs.Values.{numbered_value, categories_in}
 use Rattle.eqtb_save.specs.First.{Adds, with_all, first_values}
 use Rattle.eqtb_save.specs.Table.{Table, IsSound, first_table}
 use Rattle.eqtb_save.proofs.Held.{K}
@@ -36,8 +36,8 @@ module _ (size most : ℕ) where
   push_all xs [] = ap (λ (ys : List V). begun ys size most) (sym (append-nil xs))
   push_all xs (v ∷ vs) = ap (λ (s : Stack V). with_all s vs) (push xs v) ∙ push_all (xs ++ v ∷ []) vs ∙ ap (λ (ys : List V). begun ys size most) (append_assoc xs (v ∷ []) vs)
 
-  pub filled : {s t : Stack K} {row : List V} → s ≡ begun [] size most → Adds s t row → mapped numbered t ≡ begun row size most
-  filled {s} {t} {row} is adds = adds.after ∙ ap (λ (x : Stack K). with_all (mapped numbered x) row) is ∙ push_all [] row
+  pub filled : {s t : Stack K} {row : List V} → s ≡ begun [] size most → Adds s t row → mapped numbered_value t ≡ begun row size most
+  filled {s} {t} {row} is adds = adds.after ∙ ap (λ (x : Stack K). with_all (mapped numbered_value x) row) is ∙ push_all [] row
 
 -- INITEX'S VALUES, computed
 
@@ -80,13 +80,13 @@ module _ (knows : ℕ → Bool) where
     most = locations_without_names + fixed_locations + sizes.hash_size
 
     module _ (s t : Stack K) (begins : s ≡ begun [] sizes.save_size (locations_without_names + fixed_locations + sizes.hash_size)) (adds : Adds s t (first_values knows)) (closing : List Token) (empty : closing ≡ []) where
-      is : mapped numbered t ≡ begun (first_values knows) sizes.save_size most
+      is : mapped numbered_value t ≡ begun (first_values knows) sizes.save_size most
       is = filled sizes.save_size most begins adds
 
-      is_groups : groups_of (mapped numbered t) ≡ first_groups knows
+      is_groups : groups_of (mapped numbered_value t) ≡ first_groups knows
       is_groups = ap groups_of is ∙ groups_first sizes.save_size most
 
-      pub first_sound : (categories : List ℕ) (room : ℕ) → categories ≡ categories_in (top (mapped numbered t).maps) → sizes.save_size ≤ room → IsSound categories (mapped numbered t) closing room 0 None sizes
+      pub first_sound : (categories : List ℕ) (room : ℕ) → categories ≡ categories_in (top (mapped numbered_value t).maps) → sizes.save_size ≤ room → IsSound categories (mapped numbered_value t) closing room 0 None sizes
       first_sound categories room codes rooms = record {
         whole = subst (λ (x : Stack V). IsWhole x) (sym is) (whole_first sizes.save_size most);
         codes = codes;
@@ -97,10 +97,10 @@ module _ (knows : ℕ → Bool) where
         idle = λ none. omega (arith, ap length empty);
       }
 
-      pub first_view : ◌≡◌ {A = Table} (record { groups = groups_of (mapped numbered t); closing = drop 0 closing; ending = None; sizes = sizes }) (first_table knows sizes)
+      pub first_view : ◌≡◌ {A = Table} (record { groups = groups_of (mapped numbered_value t); closing = drop 0 closing; ending = None; sizes = sizes }) (first_table knows sizes)
       first_view = ap₂ (λ (g : Groups) (ts : List Token). let r : Table = record { groups = g; closing = ts; ending = None; sizes = sizes } in r) is_groups (ap (drop 0) empty)
 
-      pub first_free : (h : ℕ) → times h (lists_held (groups_of (mapped numbered t))) ≡ 0
+      pub first_free : (h : ℕ) → times h (lists_held (groups_of (mapped numbered_value t))) ≡ 0
       first_free h = ap (λ (g : Groups). times h (lists_held g)) is_groups ∙ ap (times h) none_held
 
       pub first_levels : 256 ≤ length t.levels

@@ -25,7 +25,7 @@ use Rattle.equivalents.specs.Laws.{IsWhole}
 use Rattle.equivalents.proofs.Whole.{top_suited}
 use Rattle.meanings.specs.Holding.{list_holds}
 use Rattle.meanings.proofs.Counted.{list_is_held}
-use Rattle.eqtb_save.specs.Values.{numbered}
+use Rattle.eqtb_save.specs.Values.{numbered_value}
 use Rattle.eqtb_save.specs.Holding.{val_holds}
 
 -- a value as it is kept
@@ -34,7 +34,7 @@ K = Val (Option ListRef)
 
 -- what it holds
 abbrev pub weight : ℕ → K → ℕ
-weight h v = val_holds (numbered v) h
+weight h v = val_holds (numbered_value v) h
 
 -- ONE MAP
 
@@ -186,28 +186,28 @@ lists_weigh s h whole = omega (
 )
 
 -- the same, of the values as they are kept
-pub held_weighs : (s : Stack K) (h : ℕ) → IsWhole (mapped numbered s) → times h (lists_held (groups_of (mapped numbered s))) ≡ weighs (weight h) s
-held_weighs s h whole = lists_weigh (mapped numbered s) h whole ∙ weighs_as numbered (λ v. val_holds v h) s
+pub held_weighs : (s : Stack K) (h : ℕ) → IsWhole (mapped numbered_value s) → times h (lists_held (groups_of (mapped numbered_value s))) ≡ weighs (weight h) s
+held_weighs s h whole = lists_weigh (mapped numbered_value s) h whole ∙ weighs_as numbered_value (λ v. val_holds v h) s
 
 -- and of the groups as callers see them
-pub held_is : (s : Stack K) (g : Groups) → groups_of (mapped numbered s) ≡ g → IsWhole (mapped numbered s) → (h : ℕ) → times h (lists_held g) ≡ weighs (weight h) s
+pub held_is : (s : Stack K) (g : Groups) → groups_of (mapped numbered_value s) ≡ g → IsWhole (mapped numbered_value s) → (h : ℕ) → times h (lists_held g) ≡ weighs (weight h) s
 held_is s g view whole h = sym (ap (λ (x : Groups). times h (lists_held x)) view) ∙ held_weighs s h whole
 
 -- what stands at a location holds no more than all do
-pub at_held : (s : Stack K) (g : Groups) (k : ℕ) (v : K) → groups_of (mapped numbered s) ≡ g → IsWhole (mapped numbered s) → k < length (top s.maps) → IsAt (top s.maps) k v → (h : ℕ) → weight h v ≤ times h (lists_held g)
+pub at_held : (s : Stack K) (g : Groups) (k : ℕ) (v : K) → groups_of (mapped numbered_value s) ≡ g → IsWhole (mapped numbered_value s) → k < length (top s.maps) → IsAt (top s.maps) k v → (h : ℕ) → weight h v ≤ times h (lists_held g)
 at_held s g k v view whole within is h = omega (arith, held_is s g view whole h, get_or-le-sum_by (weight h) (top s.maps) k v within, ap (λ (x : K). weight h x) (is v))
 
 -- A call was given what weighs so much, and handed back what weighs so much.
 abbrev pub Balance : Stack K → Stack K → (given back : ℕ → ℕ) → Type 0
 Balance s s' given back = (h : ℕ) → weighs (weight h) s' + back h ≡ weighs (weight h) s + given h
 
-module _ (s s' : Stack K) (g : Groups) (view : groups_of (mapped numbered s) ≡ g) (whole : IsWhole (mapped numbered s)) where
+module _ (s s' : Stack K) (g : Groups) (view : groups_of (mapped numbered_value s) ≡ g) (whole : IsWhole (mapped numbered_value s)) where
   abbrev now : ℕ → ℕ
-  now h = times h (lists_held (groups_of (mapped numbered s')))
+  now h = times h (lists_held (groups_of (mapped numbered_value s')))
 
   -- what is handed back is counted
-  pub back_counted : (table : List (Option Entry)) (given : ℕ → ℕ) (y : K) → Covers table (λ h. given h + times h (lists_held g)) → Balance s s' given (λ h. weight h y) → IfSome (value_list (numbered y)) (λ id. IsHeld table id)
-  back_counted table given y covers balance = list_is_held table (value_list (numbered y)) (λ h. omega (arith, covers h, balance h, held_is s g view whole h))
+  pub back_counted : (table : List (Option Entry)) (given : ℕ → ℕ) (y : K) → Covers table (λ h. given h + times h (lists_held g)) → Balance s s' given (λ h. weight h y) → IfSome (value_list (numbered_value y)) (λ id. IsHeld table id)
+  back_counted table given y covers balance = list_is_held table (value_list (numbered_value y)) (λ h. omega (arith, covers h, balance h, held_is s g view whole h))
 
   pub keeps_by : (table table' : List (Option Entry)) (given back : ℕ → ℕ) → Balance s s' given back → Keeps table table' back → Keeps table table' (λ h. given h + times h (lists_held g))
   keeps_by table table' given back balance keeps = record {
@@ -215,7 +215,7 @@ module _ (s s' : Stack K) (g : Groups) (view : groups_of (mapped numbered s) ≡
     places = λ h more. keeps.places h (omega (arith, more, balance h, held_is s g view whole h));
   }
 
-  module _ (whole' : IsWhole (mapped numbered s')) where
+  module _ (whole' : IsWhole (mapped numbered_value s')) where
     pub moves_by : (table table' : List (Option Entry)) (given back : ℕ → ℕ) → Balance s s' given back → Moves table table' back none → Moves table table' (λ h. given h + times h (lists_held g)) now
     moves_by table table' given back balance moves = λ h. omega (arith, moves h, balance h, held_is s g view whole h, held_weighs s' h whole')
 
@@ -226,5 +226,5 @@ module _ (s s' : Stack K) (g : Groups) (view : groups_of (mapped numbered s) ≡
     pub same_held : KeepsAll s s' → (h : ℕ) → now h ≡ times h (lists_held g)
     same_held same h = omega (arith, same (weight h), held_is s g view whole h, held_weighs s' h whole')
 
-    pub more_held : (v : K) → Gains s v s' → (h : ℕ) → now h ≡ times h (lists_held g) + val_holds (numbered v) h
+    pub more_held : (v : K) → Gains s v s' → (h : ℕ) → now h ≡ times h (lists_held g) + val_holds (numbered_value v) h
     more_held v more h = omega (arith, more (weight h), held_is s g view whole h, held_weighs s' h whole')

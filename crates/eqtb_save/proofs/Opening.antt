@@ -18,7 +18,7 @@ use Rattle.equivalents.specs.Flat.{groups_of}
 use Rattle.equivalents.specs.Laws.{IsWhole}
 use Rattle.equivalents.proofs.Joins.{opens as opens_groups}
 use Rattle.equivalents.proofs.Whole.{opens, keeps}
-use Rattle.eqtb_save.specs.Values.{numbered, categories_in}
+use Rattle.eqtb_save.specs.Values.{numbered_value, categories_in}
 use Rattle.eqtb_save.specs.Table.{Table, IsSound, group_opened, token_kept}
 use Rattle.eqtb_save.proofs.Held.{K}
 use Rattle.eqtb_save.proofs.Kept.{mk}
@@ -42,9 +42,9 @@ module _ (sizes : Sizes) (g : Groups) where
   group_full fits all = save_fits (group ∷ []) fits ∙ ap (λ (b : Bool). if b then None else Some (full sizes group)) (lt-leb (depth g + 1) sizes.grouping_levels (omega (arith, all)))
 
 -- the refusal that the groups below give is the machine's
-module _ (sizes : Sizes) (s : Stack K) (g : Groups) (view : groups_of (mapped numbered s) ≡ g) (sized : s.size ≡ sizes.save_size) where
+module _ (sizes : Sizes) (s : Stack K) (g : Groups) (view : groups_of (mapped numbered_value s) ≡ g) (sized : s.size ≡ sizes.save_size) where
   pub used_is : used s ≡ saves g
-  used_is = omega (arith, used_as numbered s, ap (λ (x : Groups). saves x) view)
+  used_is = omega (arith, used_as numbered_value s, ap (λ (x : Groups). saves x) view)
 
   pub full_is : (f : Full) → IsSaveFull f s → full sizes (save g) ≡ f
   full_is f is = sym (λ i. record { table = is.of_saves i; used = (is.count ∙ used_is) i; size = (is.limit ∙ sized) i })
@@ -81,46 +81,46 @@ sound_with cs s s' closing room given ending sizes is whole same sized most deep
   idle = is.idle;
 }
 
-module _ (cs : List ℕ) (s s' : Stack K) (closing : List Token) (room given : ℕ) (ending : Option GroupKind) (sizes : Sizes) (is : IsSound cs (mapped numbered s) closing room given ending sizes) where
-  opened_sound : (kind : GroupKind) → s' ≡ opened s kind → length s.kinds < sizes.grouping_levels → IsSound cs (mapped numbered s') closing room given ending sizes
+module _ (cs : List ℕ) (s s' : Stack K) (closing : List Token) (room given : ℕ) (ending : Option GroupKind) (sizes : Sizes) (is : IsSound cs (mapped numbered_value s) closing room given ending sizes) where
+  opened_sound : (kind : GroupKind) → s' ≡ opened s kind → length s.kinds < sizes.grouping_levels → IsSound cs (mapped numbered_value s') closing room given ending sizes
   opened_sound kind o few =
-      let view : mapped numbered s' ≡ opened (mapped numbered s) kind = ap (λ (x : Stack K). mapped numbered x) o ∙ opened_as numbered s kind in
+      let view : mapped numbered_value s' ≡ opened (mapped numbered_value s) kind = ap (λ (x : Stack K). mapped numbered_value x) o ∙ opened_as numbered_value s kind in
       subst (λ (x : Stack V). IsSound cs x closing room given ending sizes) (sym view)
-      (sound_with cs (mapped numbered s) (opened (mapped numbered s) kind) closing room given ending sizes is (opens (mapped numbered s) is.whole kind) refl refl refl (omega (arith, few, length-append s.kinds (kind ∷ []))))
+      (sound_with cs (mapped numbered_value s) (opened (mapped numbered_value s) kind) closing room given ending sizes is (opens (mapped numbered_value s) is.whole kind) refl refl refl (omega (arith, few, length-append s.kinds (kind ∷ []))))
 
-  token_sound : (t : Token) → s' ≡ with_token s t → IsSound cs (mapped numbered s') closing room given ending sizes
+  token_sound : (t : Token) → s' ≡ with_token s t → IsSound cs (mapped numbered_value s') closing room given ending sizes
   token_sound t k =
-      subst (λ (x : Stack K). IsSound cs (mapped numbered x) closing room given ending sizes) (sym k)
-      (sound_with cs (mapped numbered s) (with_token (mapped numbered s) t) closing room given ending sizes is (keeps (mapped numbered s) is.whole t) refl refl refl is.levels)
+      subst (λ (x : Stack K). IsSound cs (mapped numbered_value x) closing room given ending sizes) (sym k)
+      (sound_with cs (mapped numbered_value s) (with_token (mapped numbered_value s) t) closing room given ending sizes is (keeps (mapped numbered_value s) is.whole t) refl refl refl is.levels)
 
-  still_sound : s' ≡ s → IsSound cs (mapped numbered s') closing room given ending sizes
-  still_sound same = subst (λ (x : Stack K). IsSound cs (mapped numbered x) closing room given ending sizes) (sym same) is
+  still_sound : s' ≡ s → IsSound cs (mapped numbered_value s') closing room given ending sizes
+  still_sound same = subst (λ (x : Stack K). IsSound cs (mapped numbered_value x) closing room given ending sizes) (sym same) is
 
-  pub opened_or_same : (kind : GroupKind) (r : Result Unit Full) → OnOk r (s' ≡ opened s kind) → OnErr r (s' ≡ s) → length s.kinds < sizes.grouping_levels → IsSound cs (mapped numbered s') closing room given ending sizes
+  pub opened_or_same : (kind : GroupKind) (r : Result Unit Full) → OnOk r (s' ≡ opened s kind) → OnErr r (s' ≡ s) → length s.kinds < sizes.grouping_levels → IsSound cs (mapped numbered_value s') closing room given ending sizes
   opened_or_same kind (Ok u) o e few = opened_sound kind o few
   opened_or_same kind (Err f) o e few = still_sound e
 
-  pub kept_or_same : (t : Token) (r : Result Unit Full) → OnOk r (s' ≡ with_token s t) → OnErr r (s' ≡ s) → IsSound cs (mapped numbered s') closing room given ending sizes
+  pub kept_or_same : (t : Token) (r : Result Unit Full) → OnOk r (s' ≡ with_token s t) → OnErr r (s' ≡ s) → IsSound cs (mapped numbered_value s') closing room given ending sizes
   kept_or_same t (Ok u) o e = token_sound t o
   kept_or_same t (Err f) o e = still_sound e
 
 -- THE TABLE
 
-module _ (s s' : Stack K) (closing : List Token) (ending : Option GroupKind) (sizes : Sizes) (t : Table) (view : mk (groups_of (mapped numbered s)) closing ending sizes ≡ t) where
+module _ (s s' : Stack K) (closing : List Token) (ending : Option GroupKind) (sizes : Sizes) (t : Table) (view : mk (groups_of (mapped numbered_value s)) closing ending sizes ≡ t) where
   abbrev after : Table
-  after = mk (groups_of (mapped numbered s')) closing ending sizes
+  after = mk (groups_of (mapped numbered_value s')) closing ending sizes
 
   pub same_table : (r : Result Unit Full) → OnErr r (s' ≡ s) → OnErr r (after ≡ t)
   same_table (Ok u) e = tt
-  same_table (Err f) e = ap (λ (x : Stack K). mk (groups_of (mapped numbered x)) closing ending sizes) e ∙ view
+  same_table (Err f) e = ap (λ (x : Stack K). mk (groups_of (mapped numbered_value x)) closing ending sizes) e ∙ view
 
   pub kept_table : (token : Token) (r : Result Unit Full) → OnOk r (s' ≡ with_token s token) → OnOk r (after ≡ token_kept t token)
-  kept_table token (Ok u) o = ap (λ (x : Stack K). mk (groups_of (mapped numbered x)) closing ending sizes) o ∙ ap (λ (u : Table). token_kept u token) view
+  kept_table token (Ok u) o = ap (λ (x : Stack K). mk (groups_of (mapped numbered_value x)) closing ending sizes) o ∙ ap (λ (u : Table). token_kept u token) view
   kept_table token (Err f) o = tt
 
-  pub opened_table : (kind : GroupKind) (r : Result Unit Full) → IsWhole (mapped numbered s) → OnOk r (s' ≡ opened s kind) → OnOk r (after ≡ group_opened t kind)
+  pub opened_table : (kind : GroupKind) (r : Result Unit Full) → IsWhole (mapped numbered_value s) → OnOk r (s' ≡ opened s kind) → OnOk r (after ≡ group_opened t kind)
   opened_table kind (Ok u) whole o =
-      ap (λ (x : Stack K). mk (groups_of (mapped numbered x)) closing ending sizes) o
-      ∙ ap (λ (g : Groups). mk g closing ending sizes) (ap (λ (x : Stack V). groups_of x) (opened_as numbered s kind) ∙ opens_groups (mapped numbered s) whole kind)
+      ap (λ (x : Stack K). mk (groups_of (mapped numbered_value x)) closing ending sizes) o
+      ∙ ap (λ (g : Groups). mk g closing ending sizes) (ap (λ (x : Stack V). groups_of x) (opened_as numbered_value s kind) ∙ opens_groups (mapped numbered_value s) whole kind)
       ∙ ap (λ (u : Table). group_opened u kind) view
   opened_table kind (Err f) whole o = tt

@@ -17,7 +17,7 @@ use Rattle.equivalents.specs.Groups.{Groups}
 use Rattle.equivalents.specs.Flat.{tables_of, groups_of, EachIsSuited}
 use Rattle.equivalents.specs.Holding.{lists_of_table, lists_held, lists_outside}
 use Rattle.equivalents.specs.Laws.{IsWhole}
-use Rattle.eqtb_save.specs.Values.{numbered}
+use Rattle.eqtb_save.specs.Values.{numbered_value}
 use Rattle.eqtb_save.specs.Holding.{val_holds}
 use Rattle.eqtb_save.proofs.Held.{K, weight, held_is, map_holds, times_append}
 
@@ -70,30 +70,30 @@ module _ (id : ℕ) where
       (saved_free g (omega (arith, sum, none)), groups_free gs (omega (arith, sum, none)))
 
   -- a map without the list
-  map_free : (m : List K) → Each free m → sum_by (λ v. val_holds v id) (map numbered m) ≡ 0
+  map_free : (m : List K) → Each free m → sum_by (λ v. val_holds v id) (map numbered_value m) ≡ 0
   map_free [] all = refl
-  map_free (v ∷ m) all = omega (arith, sum_by-cons (λ (x : V). val_holds x id) (numbered v) (map numbered m), eqb-true (weight id v) 0 all.0, map_free m all.1)
+  map_free (v ∷ m) all = omega (arith, sum_by-cons (λ (x : V). val_holds x id) (numbered_value v) (map numbered_value m), eqb-true (weight id v) 0 all.0, map_free m all.1)
 
-  maps_free : (ms : List (List K)) → EachMap free ms → EachIsSuited (map (λ m. map numbered m) ms) → times id (lists_outside (map tables_of (map (λ m. map numbered m) ms))) ≡ 0
+  maps_free : (ms : List (List K)) → EachMap free ms → EachIsSuited (map (λ m. map numbered_value m) ms) → times id (lists_outside (map tables_of (map (λ m. map numbered_value m) ms))) ≡ 0
   maps_free [] all suited = refl
   maps_free (m ∷ ms) all suited = omega (
     arith,
-    times_append id (lists_of_table (tables_of (map numbered m))) (lists_outside (map tables_of (map (λ (x : List K). map numbered x) ms))),
-    map_holds id (map numbered m) suited.0,
+    times_append id (lists_of_table (tables_of (map numbered_value m))) (lists_outside (map tables_of (map (λ (x : List K). map numbered_value x) ms))),
+    map_holds id (map numbered_value m) suited.0,
     map_free m all.0,
     maps_free ms all.1 suited.1,
   )
 
-  below_free : (ms : List (List K)) → EachMap free ms → EachIsSuited (map (λ m. map numbered m) ms) → times id (lists_outside (map tables_of (below (map (λ m. map numbered m) ms)))) ≡ 0
+  below_free : (ms : List (List K)) → EachMap free ms → EachIsSuited (map (λ m. map numbered_value m) ms) → times id (lists_outside (map tables_of (below (map (λ m. map numbered_value m) ms)))) ≡ 0
   below_free [] all suited = refl
   below_free (m ∷ ms) all suited = maps_free ms all.1 suited.1
 
-  pub outside_held : (s : Stack K) (g : Groups) → groups_of (mapped numbered s) ≡ g → IsWhole (mapped numbered s) → AreHeld s → is_listed (lists_outside g.outer) id ≡ true → is_listed (lists_held g) id ≡ true
+  pub outside_held : (s : Stack K) (g : Groups) → groups_of (mapped numbered_value s) ≡ g → IsWhole (mapped numbered_value s) → AreHeld s → is_listed (lists_outside g.outer) id ≡ true → is_listed (lists_held g) id ≡ true
   outside_held s g view whole origins is = elim (cases_lt 0 (times id (lists_held g))) [
     | inl some ↦ listed (lists_held g) some
     | inr none ↦
         let weigh = held_is s g view whole id in
         let all = origins free (each_free (top s.maps) (omega (arith, weigh, none))) (groups_free s.entries (omega (arith, weigh, none))) in
-        let away : times id (lists_outside (groups_of (mapped numbered s)).outer) ≡ 0 = below_free s.maps all whole.suited in
+        let away : times id (lists_outside (groups_of (mapped numbered_value s)).outer) ≡ 0 = below_free s.maps all whole.suited in
         absurd (omega (arith, counted (lists_outside g.outer) is, away, ap (λ (x : Groups). times id (lists_outside x.outer)) view))
   ]

@@ -19,7 +19,7 @@ use Rattle.equivalents.specs.Holding.{lists_held}
 use Rattle.equivalents.specs.Laws.{IsWhole}
 use Rattle.equivalents.proofs.Whole.{top_suited}
 use Rattle.equivalents.proofs.Reading.{reads}
-use Rattle.eqtb_save.specs.Values.{numbered}
+use Rattle.eqtb_save.specs.Values.{numbered_value}
 use Rattle.eqtb_save.specs.Table.{noted}
 use Rattle.eqtb_save.proofs.Codes.{noted_in}
 use Rattle.eqtb_save.proofs.Held.{K, weight, at_held}
@@ -62,33 +62,33 @@ placed s g view whole l is = below g (length s.levels) (ap (λ (x : Groups). len
 
 -- THE VALUES AS THEY ARE KEPT
 
-pub top_mapped : (s : Stack K) → top (mapped numbered s).maps ≡ map numbered (top s.maps)
+pub top_mapped : (s : Stack K) → top (mapped numbered_value s).maps ≡ map numbered_value (top s.maps)
 top_mapped s = of s.maps
   where
-    of : (ms : List (List K)) → top (map (λ m. map numbered m) ms) ≡ map numbered (top ms)
+    of : (ms : List (List K)) → top (map (λ m. map numbered_value m) ms) ≡ map numbered_value (top ms)
     of [] = refl
     of (m ∷ ms) = refl
 
-pub top_count : (s : Stack K) → IsWhole (mapped numbered s) → length (top s.maps) ≡ length s.levels
-top_count s whole = sym (length-map (top s.maps) numbered) ∙ ap (λ (m : List V). length m) (sym (top_mapped s)) ∙ whole.located
+pub top_count : (s : Stack K) → IsWhole (mapped numbered_value s) → length (top s.maps) ≡ length s.levels
+top_count s whole = sym (length-map (top s.maps) numbered_value) ∙ ap (λ (m : List V). length m) (sym (top_mapped s)) ∙ whole.located
 
 -- what was read is what stands at the location
-pub read : (s : Stack K) (g : Groups) → groups_of (mapped numbered s) ≡ g → IsWhole (mapped numbered s) → (l : Loc) (v : K) → IsLocation g l → IsAt (top s.maps) (index l) v → numbered v ≡ get g.now l
+pub read : (s : Stack K) (g : Groups) → groups_of (mapped numbered_value s) ≡ g → IsWhole (mapped numbered_value s) → (l : Loc) (v : K) → IsLocation g l → IsAt (top s.maps) (index l) v → numbered_value v ≡ get g.now l
 read s g view whole l v is at =
-    let cells = top (mapped numbered s).maps in
-    ap numbered (at v) ∙ sym (get_as numbered (top s.maps) (index l) v) ∙ ap (λ (m : List V). get_or m (index l) (numbered v)) (sym (top_mapped s))
-    ∙ sym (reads cells l (numbered v) (top_suited (mapped numbered s).maps whole.suited (omega (arith, whole.maps))) (in_row g l is) (omega (arith, whole.located, placed (mapped numbered s) g view whole l is)))
+    let cells = top (mapped numbered_value s).maps in
+    ap numbered_value (at v) ∙ sym (get_as numbered_value (top s.maps) (index l) v) ∙ ap (λ (m : List V). get_or m (index l) (numbered_value v)) (sym (top_mapped s))
+    ∙ sym (reads cells l (numbered_value v) (top_suited (mapped numbered_value s).maps whole.suited (omega (arith, whole.maps))) (in_row g l is) (omega (arith, whole.located, placed (mapped numbered_value s) g view whole l is)))
     ∙ ap (λ (x : Groups). get x.now l) view
 
-pub read_held : (s : Stack K) (g : Groups) → groups_of (mapped numbered s) ≡ g → IsWhole (mapped numbered s) → (l : Loc) (v : K) → IsLocation g l → IsAt (top s.maps) (index l) v → (h : ℕ) → weight h v ≤ times h (lists_held g)
-read_held s g view whole l v is at h = at_held s g (index l) v view whole (omega (arith, top_count s whole, placed (mapped numbered s) g view whole l is)) at h
+pub read_held : (s : Stack K) (g : Groups) → groups_of (mapped numbered_value s) ≡ g → IsWhole (mapped numbered_value s) → (l : Loc) (v : K) → IsLocation g l → IsAt (top s.maps) (index l) v → (h : ℕ) → weight h v ≤ times h (lists_held g)
+read_held s g view whole l v is at h = at_held s g (index l) v view whole (omega (arith, top_count s whole, placed (mapped numbered_value s) g view whole l is)) at h
 
 zero_kept : K
 zero_kept = val.Number (pos 0)
 
 -- what is noted is the category code of what was read
-pub noted_get : (cs : List ℕ) (s : Stack K) (k : ℕ) (v : K) → k < 256 → IsAt (top s.maps) k v → set cs k (category_of (numbered v)) ≡ noted cs (top (mapped numbered s).maps) k
+pub noted_get : (cs : List ℕ) (s : Stack K) (k : ℕ) (v : K) → k < 256 → IsAt (top s.maps) k v → set cs k (category_of (numbered_value v)) ≡ noted cs (top (mapped numbered_value s).maps) k
 unfolding zero_kept
 noted_get cs s k v within at =
-    ap (λ (x : V). set cs k (category_of x)) (ap numbered (at zero_kept) ∙ sym (get_as numbered (top s.maps) k zero_kept) ∙ ap (λ (m : List V). get_or m k zero_value) (sym (top_mapped s)))
-    ∙ sym (noted_in cs (top (mapped numbered s).maps) k within)
+    ap (λ (x : V). set cs k (category_of x)) (ap numbered_value (at zero_kept) ∙ sym (get_as numbered_value (top s.maps) k zero_kept) ∙ ap (λ (m : List V). get_or m k zero_value) (sym (top_mapped s)))
+    ∙ sym (noted_in cs (top (mapped numbered_value s).maps) k within)

@@ -20,7 +20,7 @@ use Rattle.equivalents.specs.Holding.{value_list}
 use Rattle.equivalents.specs.Laws.{IsWhole}
 use Rattle.equivalents.proofs.Joins as joins
 use Rattle.equivalents.proofs.Whole as wholes
-use Rattle.eqtb_save.specs.Values.{numbered, categories_in}
+use Rattle.eqtb_save.specs.Values.{numbered_value, categories_in}
 use Rattle.eqtb_save.specs.Holding.{replaced_list}
 use Rattle.eqtb_save.specs.Table.{Table, IsSound, noted}
 use Rattle.eqtb_save.proofs.Codes.{noted_set}
@@ -35,7 +35,7 @@ fits_if : (sizes : Sizes) (g : Groups) (b : Bool) → (b ≡ false → saves g <
 fits_if sizes g true room = refl
 fits_if sizes g false room = save_fits sizes g [] (room refl)
 
-module _ (s : Stack K) (g : Groups) (view : groups_of (mapped numbered s) ≡ g) (l : Loc) (k : ℕ) (k_is : k ≡ index l) where
+module _ (s : Stack K) (g : Groups) (view : groups_of (mapped numbered_value s) ≡ g) (l : Loc) (k : ℕ) (k_is : k ≡ index l) where
   pub present_is : machine.is_present g l ≡ is_present s k
   present_is = ap (λ (x : Groups). machine.is_present x l) (sym view) ∙ ap (λ (j : ℕ). is_present s j) (sym k_is)
 
@@ -59,13 +59,13 @@ none_if : {X : Type 0} (b : Bool) (x : X) → None ≡ cond b (Some x) None → 
 none_if true x e = absurd (none-some x e)
 none_if false x e = refl
 
-module _ (s : Stack K) (g : Groups) (view : groups_of (mapped numbered s) ≡ g) (whole : IsWhole (mapped numbered s)) (l : Loc) (within : IsLocation g l) (k : ℕ) (k_is : k ≡ index l) (v : K) where
-  pub old_is : (y : K) → y ≡ old_value s k v → numbered y ≡ get g.now l
+module _ (s : Stack K) (g : Groups) (view : groups_of (mapped numbered_value s) ≡ g) (whole : IsWhole (mapped numbered_value s)) (l : Loc) (within : IsLocation g l) (k : ℕ) (k_is : k ≡ index l) (v : K) where
+  pub old_is : (y : K) → y ≡ old_value s k v → numbered_value y ≡ get g.now l
   old_is y is =
-      let here : index l < length (top s.maps) = omega (arith, top_count s whole, placed (mapped numbered s) g view whole l within) in
+      let here : index l < length (top s.maps) = omega (arith, top_count s whole, placed (mapped numbered_value s) g view whole l within) in
       read s g view whole l y within (λ d. is ∙ ap (λ (j : ℕ). get_or (top s.maps) j v) k_is ∙ get_or_default (top s.maps) (index l) v d here)
 
-  pub let_go : (y : K) → Some y ≡ replaced s k v → value_list (numbered y) ≡ replaced_list g l
+  pub let_go : (y : K) → Some y ≡ replaced s k v → value_list (numbered_value y) ≡ replaced_list g l
   let_go y is =
       let found = some_if (is_present s k) (old_value s k v) y is in
       ap value_list (old_is y found.1) ∙ sym (ap (λ (b : Bool). cond b (value_list (get g.now l)) None) (present_is s g view l k k_is ∙ found.0))
@@ -99,44 +99,44 @@ sound_with cs cs' s s' closing room given ending sizes k v is whole set_is codes
   idle = is.idle;
 }
 
-module _ (s s' : Stack K) (g : Groups) (view : groups_of (mapped numbered s) ≡ g) (whole : IsWhole (mapped numbered s)) (l : Loc) (within : IsLocation g l) (k : ℕ) (k_is : k ≡ index l) (v : K) where
+module _ (s s' : Stack K) (g : Groups) (view : groups_of (mapped numbered_value s) ≡ g) (whole : IsWhole (mapped numbered_value s)) (l : Loc) (within : IsLocation g l) (k : ℕ) (k_is : k ≡ index l) (v : K) where
   abbrev old : Stack V
-  old = mapped numbered s
+  old = mapped numbered_value s
 
   at_row : IsInRow l
   at_row = in_row g l within
 
   module _ (d : s' ≡ defined s k v) where
-    pub defined_view : mapped numbered s' ≡ defined old (index l) (numbered v)
-    defined_view = ap (λ (x : Stack K). mapped numbered x) d ∙ defined_as numbered s k v ∙ ap (λ (j : ℕ). defined old j (numbered v)) k_is
+    pub defined_view : mapped numbered_value s' ≡ defined old (index l) (numbered_value v)
+    defined_view = ap (λ (x : Stack K). mapped numbered_value x) d ∙ defined_as numbered_value s k v ∙ ap (λ (j : ℕ). defined old j (numbered_value v)) k_is
 
-    pub defined_whole : Suits l (numbered v) → IsWhole (mapped numbered s')
-    defined_whole suits = subst IsWhole (sym defined_view) (wholes.sets old whole l (numbered v) at_row suits)
+    pub defined_whole : Suits l (numbered_value v) → IsWhole (mapped numbered_value s')
+    defined_whole suits = subst IsWhole (sym defined_view) (wholes.sets old whole l (numbered_value v) at_row suits)
 
-    pub defined_groups : groups_of (mapped numbered s') ≡ set_local g l (numbered v)
+    pub defined_groups : groups_of (mapped numbered_value s') ≡ set_local g l (numbered_value v)
     defined_groups =
-        ap groups_of defined_view ∙ joins.sets old whole l (numbered v) at_row (placed old g view whole l within) ∙ ap (λ (x : Groups). set_local x l (numbered v)) view
+        ap groups_of defined_view ∙ joins.sets old whole l (numbered_value v) at_row (placed old g view whole l within) ∙ ap (λ (x : Groups). set_local x l (numbered_value v)) view
 
-    pub defined_sound : (cs cs' : List ℕ) (closing : List Token) (room given : ℕ) (ending : Option GroupKind) (sizes : Sizes) → IsSound cs old closing room given ending sizes → Suits l (numbered v) → cs' ≡ noted cs (top (mapped numbered s').maps) k → IsSound cs' (mapped numbered s') closing room given ending sizes
+    pub defined_sound : (cs cs' : List ℕ) (closing : List Token) (room given : ℕ) (ending : Option GroupKind) (sizes : Sizes) → IsSound cs old closing room given ending sizes → Suits l (numbered_value v) → cs' ≡ noted cs (top (mapped numbered_value s').maps) k → IsSound cs' (mapped numbered_value s') closing room given ending sizes
     defined_sound cs cs' closing room given ending sizes is suits codes =
-        sound_with cs cs' old (mapped numbered s') closing room given ending sizes k (numbered v) is (defined_whole suits)
-        (ap (λ (x : Stack V). top x.maps) defined_view ∙ top_put old.maps (index l) (numbered v) ∙ ap (λ (j : ℕ). set (top old.maps) j (numbered v)) (sym k_is)) codes
+        sound_with cs cs' old (mapped numbered_value s') closing room given ending sizes k (numbered_value v) is (defined_whole suits)
+        (ap (λ (x : Stack V). top x.maps) defined_view ∙ top_put old.maps (index l) (numbered_value v) ∙ ap (λ (j : ℕ). set (top old.maps) j (numbered_value v)) (sym k_is)) codes
         (ap (λ (x : Stack K). x.size) d) (ap (λ (x : Stack K). x.most) d) (ap (λ (x : Stack K). x.kinds) d)
 
   module _ (d : s' ≡ gdefined s k v) where
-    pub gdefined_view : mapped numbered s' ≡ gdefined old (index l) (numbered v)
-    gdefined_view = ap (λ (x : Stack K). mapped numbered x) d ∙ gdefined_as numbered s k v ∙ ap (λ (j : ℕ). gdefined old j (numbered v)) k_is
+    pub gdefined_view : mapped numbered_value s' ≡ gdefined old (index l) (numbered_value v)
+    gdefined_view = ap (λ (x : Stack K). mapped numbered_value x) d ∙ gdefined_as numbered_value s k v ∙ ap (λ (j : ℕ). gdefined old j (numbered_value v)) k_is
 
-    pub gdefined_whole : Suits l (numbered v) → IsWhole (mapped numbered s')
-    gdefined_whole suits = subst IsWhole (sym gdefined_view) (wholes.sets_all old whole l (numbered v) at_row suits)
+    pub gdefined_whole : Suits l (numbered_value v) → IsWhole (mapped numbered_value s')
+    gdefined_whole suits = subst IsWhole (sym gdefined_view) (wholes.sets_all old whole l (numbered_value v) at_row suits)
 
-    pub gdefined_groups : groups_of (mapped numbered s') ≡ set_global g l (numbered v)
-    gdefined_groups = ap groups_of gdefined_view ∙ joins.sets_all old l (numbered v) at_row ∙ ap (λ (x : Groups). set_global x l (numbered v)) view
+    pub gdefined_groups : groups_of (mapped numbered_value s') ≡ set_global g l (numbered_value v)
+    gdefined_groups = ap groups_of gdefined_view ∙ joins.sets_all old l (numbered_value v) at_row ∙ ap (λ (x : Groups). set_global x l (numbered_value v)) view
 
-    pub gdefined_sound : (cs cs' : List ℕ) (closing : List Token) (room given : ℕ) (ending : Option GroupKind) (sizes : Sizes) → IsSound cs old closing room given ending sizes → Suits l (numbered v) → cs' ≡ noted cs (top (mapped numbered s').maps) k → IsSound cs' (mapped numbered s') closing room given ending sizes
+    pub gdefined_sound : (cs cs' : List ℕ) (closing : List Token) (room given : ℕ) (ending : Option GroupKind) (sizes : Sizes) → IsSound cs old closing room given ending sizes → Suits l (numbered_value v) → cs' ≡ noted cs (top (mapped numbered_value s').maps) k → IsSound cs' (mapped numbered_value s') closing room given ending sizes
     gdefined_sound cs cs' closing room given ending sizes is suits codes =
-        sound_with cs cs' old (mapped numbered s') closing room given ending sizes k (numbered v) is (gdefined_whole suits)
-        (ap (λ (x : Stack V). top x.maps) gdefined_view ∙ top_put_all old.maps (index l) (numbered v) ∙ ap (λ (j : ℕ). set (top old.maps) j (numbered v)) (sym k_is)) codes
+        sound_with cs cs' old (mapped numbered_value s') closing room given ending sizes k (numbered_value v) is (gdefined_whole suits)
+        (ap (λ (x : Stack V). top x.maps) gdefined_view ∙ top_put_all old.maps (index l) (numbered_value v) ∙ ap (λ (j : ℕ). set (top old.maps) j (numbered_value v)) (sym k_is)) codes
         (ap (λ (x : Stack K). x.size) d) (ap (λ (x : Stack K). x.most) d) (ap (λ (x : Stack K). x.kinds) d)
 
 -- the table, where only the groups change
@@ -144,8 +144,8 @@ pub with_groups : (g g' : Groups) (closing : List Token) (ending : Option GroupK
 with_groups g g' closing ending sizes t view f is = ap₂ (λ (x : Groups) (u : Table). record u { groups = x }) is view
 
 -- nothing changed
-pub still_sound : (s s' : Stack K) (cs : List ℕ) (closing : List Token) (room given : ℕ) (ending : Option GroupKind) (sizes : Sizes) → IsSound cs (mapped numbered s) closing room given ending sizes → s' ≡ s → IsSound cs (mapped numbered s') closing room given ending sizes
-still_sound s s' cs closing room given ending sizes is same = subst (λ (x : Stack K). IsSound cs (mapped numbered x) closing room given ending sizes) (sym same) is
+pub still_sound : (s s' : Stack K) (cs : List ℕ) (closing : List Token) (room given : ℕ) (ending : Option GroupKind) (sizes : Sizes) → IsSound cs (mapped numbered_value s) closing room given ending sizes → s' ≡ s → IsSound cs (mapped numbered_value s') closing room given ending sizes
+still_sound s s' cs closing room given ending sizes is same = subst (λ (x : Stack K). IsSound cs (mapped numbered_value x) closing room given ending sizes) (sym same) is
 
-pub still_table : (s s' : Stack K) (closing : List Token) (ending : Option GroupKind) (sizes : Sizes) (t : Table) → mk (groups_of (mapped numbered s)) closing ending sizes ≡ t → s' ≡ s → mk (groups_of (mapped numbered s')) closing ending sizes ≡ t
-still_table s s' closing ending sizes t view same = ap (λ (x : Stack K). mk (groups_of (mapped numbered x)) closing ending sizes) same ∙ view
+pub still_table : (s s' : Stack K) (closing : List Token) (ending : Option GroupKind) (sizes : Sizes) (t : Table) → mk (groups_of (mapped numbered_value s)) closing ending sizes ≡ t → s' ≡ s → mk (groups_of (mapped numbered_value s')) closing ending sizes ≡ t
+still_table s s' closing ending sizes t view same = ap (λ (x : Stack K). mk (groups_of (mapped numbered_value x)) closing ending sizes) same ∙ view

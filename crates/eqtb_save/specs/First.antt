@@ -13,7 +13,7 @@ use Rattle.equivalents.specs.declared.values.Val.{Val}
 use Rattle.equivalents.specs.declared.values.Val.TheVariants as val
 use Rattle.equivalents.specs.Locations.{V, zero_glue}
 use Rattle.equivalents.specs.First.{first_lowercase, first_uppercase, first_space_factor, first_math_code, first_delimiter, first_integer}
-use Rattle.eqtb_save.specs.Values.{numbered}
+use Rattle.eqtb_save.specs.Values.{numbered_value}
 
 -- these locations more, each assigned at the outermost level
 abbrev pub with_all : Stack V → List V → Stack V
@@ -22,7 +22,7 @@ with_all s (v ∷ vs) = with_all (extended s v) vs
 
 -- what the new locations have is this
 pub record Adds (old new : Stack (Val (Option ListRef))) (row : List V) : Type 0 where
-  pub after : mapped numbered new ≡ with_all (mapped numbered old) row
+  pub after : mapped numbered_value new ≡ with_all (mapped numbered_value old) row
 
 -- a character's code of this kind
 abbrev pub first_code : CodeKind → ℕ → ℤ

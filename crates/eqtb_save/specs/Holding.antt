@@ -12,7 +12,7 @@ use Rattle.equivalents.specs.Tables.{get}
 use Rattle.equivalents.specs.Groups.{Groups, is_present}
 use Rattle.equivalents.specs.Holding.{value_list, lists_held}
 use Rattle.meanings.specs.Holding.{list_holds}
-use Rattle.eqtb_save.specs.Values.{numbered}
+use Rattle.eqtb_save.specs.Values.{numbered_value}
 use Rattle.eqtb_save.specs.Table.{Table}
 
 -- how often a value holds the list of a number
@@ -30,7 +30,7 @@ replaced_list g l = cond (is_present g l) (value_list (get g.now l)) None
 -- how often a saved value holds it; a mark holds nothing
 abbrev pub entry_holds : Option (Saved (Val (Option ListRef))) → ℕ → ℕ
 entry_holds None h = 0
-entry_holds (Some e) h = val_holds (numbered e.value) h
+entry_holds (Some e) h = val_holds (numbered_value e.value) h
 
 -- no list has more holders among values than there are locations with lists and saved values
 abbrev pub most_holders : Table → ℕ

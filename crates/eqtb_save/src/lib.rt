@@ -21,9 +21,9 @@ ghost use Rattle.equivalents.specs.Locations.{Suits, index, locations_without_na
 ghost use Rattle.equivalents.specs.Groups.{saves, kind_of, depth as groups_depth, set_demands, group_demands, token_demands, IsLocation};
 ghost use Rattle.equivalents.specs.Holding.{list_of, value_list, lists_held, lists_outside};
 ghost use Rattle.equivalents.specs.Laws.{AreAlike};
-ghost use Rattle.meanings.specs.Kept.{numbered as numbered_meaning};
+ghost use Rattle.meanings.specs.Kept.{numbered_meaning};
 ghost use Rattle.meanings.specs.Holding.{meaning_holds, with_holder, without_holder, Lasts};
-ghost use Rattle.eqtb_save.specs.Values.{numbered, categories_in};
+ghost use Rattle.eqtb_save.specs.Values.{numbered_value, categories_in};
 ghost use Rattle.eqtb_save.specs.Holding.{val_holds, held, replaced_list, entry_holds, most_holders, MarksLast};
 ghost use Rattle.eqtb_save.specs.Table.{Table, first_table, begun_by, GivesNext, set_at, set_all, group_opened, name_entered, token_kept, IsAssignable, HasRoom, CanClose, Closes, noted};
 
@@ -61,14 +61,14 @@ impl Model for Eqtb {
     ghost use Rattle.std.specs.Prelude.{drop, vec_capacity};
     ghost use Rattle.save_stack.specs.Mapped.{mapped};
     ghost use Rattle.equivalents.specs.Flat.{groups_of};
-    ghost use Rattle.eqtb_save.specs.Values.{numbered};
+    ghost use Rattle.eqtb_save.specs.Values.{numbered_value};
     ghost use Rattle.eqtb_save.specs.Table.{Table, IsSound};
 
     ghost Value = { Table };
 
-    ghost view = { λ e. record { groups = groups_of (mapped numbered e.groups); closing = drop e.given e.closing.items; ending = e.ending; sizes = e.sizes } };
+    ghost view = { λ e. record { groups = groups_of (mapped numbered_value e.groups); closing = drop e.given e.closing.items; ending = e.ending; sizes = e.sizes } };
 
-    ghost invariant = { λ e. IsSound e.categories (mapped numbered e.groups) e.closing.items (vec_capacity e.closing) e.given e.ending e.sizes };
+    ghost invariant = { λ e. IsSound e.categories (mapped numbered_value e.groups) e.closing.items (vec_capacity e.closing) e.given e.ending e.sizes };
 }
 
 /// The location of what a name means, if the name has one.
@@ -84,7 +84,7 @@ pub fn name_loc(name: Name) -> Option<Loc>
 // Where a location has a category code, that of its value.
 fn note(categories: &mut [u8; 256], groups: &Groups<Value>, at: u32)
     requires { at < length groups.now.levels }
-    ensures { categories.new ≡ noted categories.old (top (mapped numbered groups.now).maps) at }
+    ensures { categories.new ≡ noted categories.old (top (mapped numbered_value groups.now).maps) at }
 {
     if at < 256 {
         categories[at as usize] = category_of(groups.get(at));
@@ -94,7 +94,7 @@ fn note(categories: &mut [u8; 256], groups: &Groups<Value>, at: u32)
 // The category codes among the values.
 fn codes_of(groups: &Groups<Value>) -> [u8; 256]
     requires { 256 ≤ length groups.now.levels }
-    ensures { result ≡ categories_in (top (mapped numbered groups.now).maps) }
+    ensures { result ≡ categories_in (top (mapped numbered_value groups.now).maps) }
 {
     groups.recall();
     let mut codes = [0; 256];
@@ -191,8 +191,8 @@ impl Eqtb {
     /// What stands at a location.
     pub fn get(&self, loc: Loc) -> &Value
         requires { IsLocation self.now.groups loc }
-        ensures value { numbered result.now ≡ get self.now.groups.now loc }
-        ensures held { (h : ℕ) → val_holds (numbered result.now) h ≤ held self.now h }
+        ensures value { numbered_value result.now ≡ get self.now.groups.now loc }
+        ensures held { (h : ℕ) → val_holds (numbered_value result.now) h ≤ held self.now h }
     {
         self.groups.get(self.place(loc))
     }
@@ -231,9 +231,9 @@ impl Eqtb {
         requires within { IsLocation self.now.groups loc }
         requires covered { Covers lists.old (held self.now) }
         requires countable { IfSome (value_list (get self.now.groups.now loc)) (λ id. holders_at lists.old id + 1 < 2 ^ 32) }
-        ensures same { numbered result ≡ get self.now.groups.now loc }
+        ensures same { numbered_value result ≡ get self.now.groups.now loc }
         ensures after { lists.new ≡ with_holder (value_list (get self.now.groups.now loc)) lists.old }
-        ensures account { Moves lists.old lists.new none (val_holds (numbered result)) }
+        ensures account { Moves lists.old lists.new none (val_holds (numbered_value result)) }
         ensures kept { Keeps lists.old lists.new none }
     {
         share(lists, self.get(loc))
@@ -258,15 +258,15 @@ impl Eqtb {
     /// and the new one was let go.
     pub fn define(&mut self, lists: &mut Lists, loc: Loc, value: Value) -> Result<(), Full>
         requires within { IsLocation self.old.groups loc }
-        requires suits { Suits loc (numbered value) }
-        requires covered { Covers lists.old (λ h. val_holds (numbered value) h + held self.old h) }
+        requires suits { Suits loc (numbered_value value) }
+        requires covered { Covers lists.old (λ h. val_holds (numbered_value value) h + held self.old h) }
         ensures refused { MatchResult result (λ _. refused self.old.sizes (set_demands false self.old.groups loc) ≡ None) (λ full. refused self.old.sizes (set_demands false self.old.groups loc) ≡ Some full) }
-        ensures ok { OnOk result (self.new ≡ set_at self.old loc (numbered value)) }
+        ensures ok { OnOk result (self.new ≡ set_at self.old loc (numbered_value value)) }
         ensures err { OnErr result (self.new ≡ self.old) }
         ensures let_go { OnOk result (lists.new ≡ without_holder (replaced_list self.old.groups loc) lists.old) }
-        ensures unused { OnErr result (lists.new ≡ without_holder (value_list (numbered value)) lists.old) }
-        ensures account { Moves lists.old lists.new (λ h. val_holds (numbered value) h + held self.old h) (held self.new) }
-        ensures kept { Keeps lists.old lists.new (λ h. val_holds (numbered value) h + held self.old h) }
+        ensures unused { OnErr result (lists.new ≡ without_holder (value_list (numbered_value value)) lists.old) }
+        ensures account { Moves lists.old lists.new (λ h. val_holds (numbered_value value) h + held self.old h) (held self.new) }
+        ensures kept { Keeps lists.old lists.new (λ h. val_holds (numbered_value value) h + held self.old h) }
         ensures lasting { Lasts lists.old lists.new }
     {
         let at = self.place(loc);
@@ -290,12 +290,12 @@ impl Eqtb {
     /// A global assignment. It saves nothing and can't be refused.
     pub fn gdefine(&mut self, lists: &mut Lists, loc: Loc, value: Value)
         requires within { IsLocation self.old.groups loc }
-        requires suits { Suits loc (numbered value) }
-        requires covered { Covers lists.old (λ h. val_holds (numbered value) h + held self.old h) }
-        ensures after { self.new ≡ set_all self.old loc (numbered value) }
+        requires suits { Suits loc (numbered_value value) }
+        requires covered { Covers lists.old (λ h. val_holds (numbered_value value) h + held self.old h) }
+        ensures after { self.new ≡ set_all self.old loc (numbered_value value) }
         ensures let_go { lists.new ≡ without_holder (value_list (get self.old.groups.now loc)) lists.old }
-        ensures account { Moves lists.old lists.new (λ h. val_holds (numbered value) h + held self.old h) (held self.new) }
-        ensures kept { Keeps lists.old lists.new (λ h. val_holds (numbered value) h + held self.old h) }
+        ensures account { Moves lists.old lists.new (λ h. val_holds (numbered_value value) h + held self.old h) (held self.new) }
+        ensures kept { Keeps lists.old lists.new (λ h. val_holds (numbered_value value) h + held self.old h) }
         ensures lasting { Lasts lists.old lists.new }
     {
         let at = self.place(loc);

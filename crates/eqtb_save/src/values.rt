@@ -4,11 +4,11 @@ ghost use Rattle.token_lists.specs.Table.{IsHeld, holders_at};
 ghost use Rattle.token_lists.specs.Accounts.{Moves, Keeps, none};
 ghost use Rattle.token_lists.specs.Ids.{id_of};
 ghost use Rattle.equivalents.specs.declared.values.Val.TheVariants as val;
-ghost use Rattle.equivalents.specs.Locations.{category_of, number_of, first_code, first_register, index, value_seen, IsMeaning};
+ghost use Rattle.equivalents.specs.Locations.{category_of, number_value, first_code, first_register, index, value_seen, IsMeaning};
 ghost use Rattle.equivalents.specs.Holding.{value_list};
-ghost use Rattle.meanings.specs.Kept.{numbered as numbered_meaning};
+ghost use Rattle.meanings.specs.Kept.{numbered_meaning};
 ghost use Rattle.meanings.specs.Holding.{with_holder, without_holder, Lasts};
-ghost use Rattle.eqtb_save.specs.Values.{numbered};
+ghost use Rattle.eqtb_save.specs.Values.{numbered_value};
 ghost use Rattle.eqtb_save.specs.Holding.{val_holds};
 
 use equivalents::{CodeKind, Loc, Val};
@@ -62,7 +62,7 @@ pub fn index(loc: Loc) -> u32
 
 // The category code that a value is.
 pub fn category_of(value: &Value) -> u8
-    ensures { result ≡ category_of (numbered value.now) }
+    ensures { result ≡ category_of (numbered_value value.now) }
 {
     match value {
         Val::Number(n) if *n >= 0 && *n < 16 => *n as u8,
@@ -72,7 +72,7 @@ pub fn category_of(value: &Value) -> u8
 
 // The meaning that a value is.
 pub fn meant(value: &Value) -> Option<&Kept>
-    ensures { MatchOption result (IsMeaning (numbered value.now) → ⊥) (λ kept. numbered value.now ≡ val.Meant (numbered_meaning kept.now)) }
+    ensures { MatchOption result (IsMeaning (numbered_value value.now) → ⊥) (λ kept. numbered_value value.now ≡ val.Meant (numbered_meaning kept.now)) }
 {
     match value {
         Val::Meant(kept) => Some(kept),
@@ -82,7 +82,7 @@ pub fn meant(value: &Value) -> Option<&Kept>
 
 // A value as readings see it: without its list.
 pub fn value_seen(value: &Value) -> Val<()>
-    ensures { result ≡ value_seen (numbered value.now) }
+    ensures { result ≡ value_seen (numbered_value value.now) }
 {
     match value {
         Val::Number(n) => Val::Number(*n),
@@ -94,7 +94,7 @@ pub fn value_seen(value: &Value) -> Val<()>
 
 // The number that a value is.
 pub fn number(value: &Value) -> i32
-    ensures { result ≡ number_of (numbered value.now) }
+    ensures { result ≡ number_value (numbered_value value.now) }
 {
     match value {
         Val::Number(n) => *n,
@@ -104,10 +104,10 @@ pub fn number(value: &Value) -> i32
 
 // Lets the list of a value go, if it has one.
 pub fn release(lists: &mut Lists, value: Value)
-    requires { IfSome (value_list (numbered value)) (λ id. IsHeld lists.old id) }
-    ensures after { lists.new ≡ without_holder (value_list (numbered value)) lists.old }
-    ensures account { Moves lists.old lists.new (val_holds (numbered value)) none }
-    ensures kept { Keeps lists.old lists.new (val_holds (numbered value)) }
+    requires { IfSome (value_list (numbered_value value)) (λ id. IsHeld lists.old id) }
+    ensures after { lists.new ≡ without_holder (value_list (numbered_value value)) lists.old }
+    ensures account { Moves lists.old lists.new (val_holds (numbered_value value)) none }
+    ensures kept { Keeps lists.old lists.new (val_holds (numbered_value value)) }
     ensures lasting { Lasts lists.old lists.new }
 {
     match value {
@@ -120,11 +120,11 @@ pub fn release(lists: &mut Lists, value: Value)
 
 // The same value, where its list has one more holder.
 pub fn share(lists: &mut Lists, value: &Value) -> Value
-    requires held { IfSome (value_list (numbered value.now)) (λ id. IsHeld lists.old id) }
-    requires countable { IfSome (value_list (numbered value.now)) (λ id. holders_at lists.old id + 1 < 2 ^ 32) }
-    ensures same { numbered result ≡ numbered value.now }
-    ensures after { lists.new ≡ with_holder (value_list (numbered value.now)) lists.old }
-    ensures account { Moves lists.old lists.new none (val_holds (numbered result)) }
+    requires held { IfSome (value_list (numbered_value value.now)) (λ id. IsHeld lists.old id) }
+    requires countable { IfSome (value_list (numbered_value value.now)) (λ id. holders_at lists.old id + 1 < 2 ^ 32) }
+    ensures same { numbered_value result ≡ numbered_value value.now }
+    ensures after { lists.new ≡ with_holder (value_list (numbered_value value.now)) lists.old }
+    ensures account { Moves lists.old lists.new none (val_holds (numbered_value result)) }
     ensures kept { Keeps lists.old lists.new none }
 {
     match value {

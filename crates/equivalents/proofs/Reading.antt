@@ -8,7 +8,7 @@ use Rattle.equivalents.specs.declared.values.CodeKind.TheVariants as code
 use Rattle.equivalents.specs.declared.values.Loc.{Loc}
 use Rattle.equivalents.specs.declared.values.Loc.TheVariants as loc
 use Rattle.equivalents.specs.declared.values.Val.TheVariants as val
-use Rattle.equivalents.specs.Locations.{V, IsInRow, index, Suits, category_of, number_of, glue_of, tokens_of, meaning_of, zero_value, zero_glue}
+use Rattle.equivalents.specs.Locations.{V, IsInRow, index, Suits, category_of, number_value, glue_of, tokens_of, meaning_of, zero_value, zero_glue}
 use Rattle.equivalents.specs.Tables.{get}
 use Rattle.equivalents.specs.Flat.{row, tables_of, AreSuited}
 use Rattle.equivalents.proofs.Rows.{row_at, last_at}
@@ -17,7 +17,7 @@ use Rattle.equivalents.proofs.Sorts.{Sort, category, number, glue, tokens, meani
 -- a value as its kind
 abbrev seen : Sort → V → V
 seen category v = val.Number (pos (category_of v))
-seen number v = val.Number (number_of v)
+seen number v = val.Number (number_value v)
 seen glue v = val.Skip (glue_of v)
 seen tokens v = val.Tokens (tokens_of v)
 seen meaning v = val.Meant (meaning_of v)
@@ -46,8 +46,8 @@ kept meaning (val.Meant m) is = refl
 kept meaning (val.Tokens t) is = absurd is
 
 module _ (cells : List V) (d : V) where
-  numbers_at : (a n i : ℕ) → i < n → a + i < length cells → ◌≡◌ {A = V} (val.Number (get_or (map number_of (row a n cells)) i (pos 0))) (val.Number (number_of (get_or cells (a + i) d)))
-  numbers_at a n i within placed = ap val.Number (row_at number_of cells a n i (pos 0) d within placed)
+  numbers_at : (a n i : ℕ) → i < n → a + i < length cells → ◌≡◌ {A = V} (val.Number (get_or (map number_value (row a n cells)) i (pos 0))) (val.Number (number_value (get_or cells (a + i) d)))
+  numbers_at a n i within placed = ap val.Number (row_at number_value cells a n i (pos 0) d within placed)
 
   glues_at : (a n i : ℕ) → i < n → a + i < length cells → ◌≡◌ {A = V} (val.Skip (get_or (map glue_of (row a n cells)) i zero_glue)) (val.Skip (glue_of (get_or cells (a + i) d)))
   glues_at a n i within placed = ap val.Skip (row_at glue_of cells a n i zero_glue d within placed)

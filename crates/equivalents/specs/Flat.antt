@@ -2,7 +2,7 @@
 use Rattle.std.specs.Prelude.{◌≡◌, ℕ, ◌<◌, ◌≤◌, List, [], ◌∷◌, length, map, take, drop, slice_index_or}
 use Rattle.save_stack.specs.Groups.{Stack, top, below}
 use Rattle.equivalents.specs.declared.values.Loc.{Loc}
-use Rattle.equivalents.specs.Locations.{V, index, IsInRow, Suits, locations_without_names, zero_value, category_of, number_of, glue_of, tokens_of, meaning_of}
+use Rattle.equivalents.specs.Locations.{V, index, IsInRow, Suits, locations_without_names, zero_value, category_of, number_value, glue_of, tokens_of, meaning_of}
 use Rattle.equivalents.specs.Tables.{Tables}
 use Rattle.equivalents.specs.Groups.{Groups}
 
@@ -12,16 +12,16 @@ row start count cells = take count (drop start cells)
 abbrev pub tables_of : List V → Tables
 tables_of cells = record {
   categories = map category_of (row 0 256 cells);
-  lowercase = map number_of (row 256 256 cells);
-  uppercase = map number_of (row 512 256 cells);
-  space_factors = map number_of (row 768 256 cells);
-  math_codes = map number_of (row 1024 256 cells);
-  delimiters = map number_of (row 1280 256 cells);
-  integers = map number_of (row 1536 55 cells);
-  dimensions = map number_of (row 1591 21 cells);
+  lowercase = map number_value (row 256 256 cells);
+  uppercase = map number_value (row 512 256 cells);
+  space_factors = map number_value (row 768 256 cells);
+  math_codes = map number_value (row 1024 256 cells);
+  delimiters = map number_value (row 1280 256 cells);
+  integers = map number_value (row 1536 55 cells);
+  dimensions = map number_value (row 1591 21 cells);
   glues = map glue_of (row 1612 18 cells);
-  counts = map number_of (row 1630 256 cells);
-  dimens = map number_of (row 1886 256 cells);
+  counts = map number_value (row 1630 256 cells);
+  dimens = map number_value (row 1886 256 cells);
   skips = map glue_of (row 2142 256 cells);
   muskips = map glue_of (row 2398 256 cells);
   toks = map tokens_of (row 2654 256 cells);

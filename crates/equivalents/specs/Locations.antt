@@ -75,9 +75,9 @@ abbrev pub category_of : V → ℕ
 category_of (val.Number n) = small n
 category_of v = 0
 
-abbrev pub number_of : V → ℤ
-number_of (val.Number n) = n
-number_of v = pos 0
+abbrev pub number_value : V → ℤ
+number_value (val.Number n) = n
+number_value v = pos 0
 
 abbrev pub glue_of : V → Glue
 glue_of (val.Skip g) = g

@@ -8,7 +8,7 @@ use Rattle.equivalents.specs.declared.values.Glue.{Glue}
 use Rattle.equivalents.specs.declared.values.Loc.{Loc}
 use Rattle.equivalents.specs.declared.values.Loc.TheVariants as loc
 use Rattle.equivalents.specs.declared.values.Val.TheVariants as val
-use Rattle.equivalents.specs.Locations.{V, zero_glue, category_of, number_of, glue_of, tokens_of, meaning_of}
+use Rattle.equivalents.specs.Locations.{V, zero_glue, category_of, number_value, glue_of, tokens_of, meaning_of}
 
 -- A macro and a token list have the numbers of their lists; what names mean stands by the names' locations.
 pub record Tables : Type 0 where
@@ -36,16 +36,16 @@ pub record Tables : Type 0 where
 -- one location gets this value
 abbrev pub put : Tables → Loc → V → Tables
 put m (loc.Code code.Category c) v = record m { categories = slice_set m.categories c (category_of v) }
-put m (loc.Code code.Lowercase c) v = record m { lowercase = slice_set m.lowercase c (number_of v) }
-put m (loc.Code code.Uppercase c) v = record m { uppercase = slice_set m.uppercase c (number_of v) }
-put m (loc.Code code.SpaceFactor c) v = record m { space_factors = slice_set m.space_factors c (number_of v) }
-put m (loc.Code code.Math c) v = record m { math_codes = slice_set m.math_codes c (number_of v) }
-put m (loc.Code code.Delimiter c) v = record m { delimiters = slice_set m.delimiters c (number_of v) }
-put m (loc.Integer i) v = record m { integers = slice_set m.integers i (number_of v) }
-put m (loc.Dimension i) v = record m { dimensions = slice_set m.dimensions i (number_of v) }
+put m (loc.Code code.Lowercase c) v = record m { lowercase = slice_set m.lowercase c (number_value v) }
+put m (loc.Code code.Uppercase c) v = record m { uppercase = slice_set m.uppercase c (number_value v) }
+put m (loc.Code code.SpaceFactor c) v = record m { space_factors = slice_set m.space_factors c (number_value v) }
+put m (loc.Code code.Math c) v = record m { math_codes = slice_set m.math_codes c (number_value v) }
+put m (loc.Code code.Delimiter c) v = record m { delimiters = slice_set m.delimiters c (number_value v) }
+put m (loc.Integer i) v = record m { integers = slice_set m.integers i (number_value v) }
+put m (loc.Dimension i) v = record m { dimensions = slice_set m.dimensions i (number_value v) }
 put m (loc.Glue i) v = record m { glues = slice_set m.glues i (glue_of v) }
-put m (loc.Register register.Count n) v = record m { counts = slice_set m.counts n (number_of v) }
-put m (loc.Register register.Dimen n) v = record m { dimens = slice_set m.dimens n (number_of v) }
+put m (loc.Register register.Count n) v = record m { counts = slice_set m.counts n (number_value v) }
+put m (loc.Register register.Dimen n) v = record m { dimens = slice_set m.dimens n (number_value v) }
 put m (loc.Register register.Skip n) v = record m { skips = slice_set m.skips n (glue_of v) }
 put m (loc.Register register.Muskip n) v = record m { muskips = slice_set m.muskips n (glue_of v) }
 put m (loc.Register register.Toks n) v = record m { toks = slice_set m.toks n (tokens_of v) }

@@ -12,7 +12,7 @@ use Rattle.plain_tokens.specs.Arguments.{ParMode, arguments_in, work_in, call, s
 use Rattle.plain_tokens.specs.Meanings.{is_listed, name_meaning}
 use Rattle.equivalents.specs.Holding.{lists_held}
 use Rattle.plain_tokens.specs.Names.{name_of}
-use Rattle.plain_tokens.specs.Pending.{settle, all_puts}
+use Rattle.plain_tokens.specs.Pending.{end_token_lists, all_puts}
 use Rattle.plain_tokens.specs.Puts.{Item, Put, call_put}
 use Rattle.plain_readings.specs.Readings as reading
 use Rattle.plain_readings.specs.Calls.{call_fed, mode_of as reading_mode}
@@ -32,7 +32,7 @@ use Rattle.input_state.specs.declared.answer.CallKind.TheVariants as kind
 use Rattle.input_state.specs.Callings.{Calling, Gathering, call_lists, scan_lists}
 use Rattle.input_state.specs.Calls.{after_call, begun_lists, call_kind, called_put, macro_text, text_of}
 use Rattle.input_state.specs.Macros.{list_at}
-use Rattle.input_state.specs.Stored.{KeepsMacros, call_refusal, words}
+use Rattle.input_state.specs.Stored.{KeepsShared, call_refusal, words}
 use Rattle.engine_state.specs.declared.broken.Broken.TheVariants as broken
 use Rattle.engine_state.specs.declared.engine.Engine.{Engine}
 use Rattle.engine_state.specs.Book.{Book, with_work}
@@ -233,12 +233,12 @@ module _ (sizes : Sizes) (e : Engine) (book : Book) (t : Token) (name : Name) (i
 
   calling_stands : has_parameters ts ≡ true → AllStand sizes calling (with_work (fresh K ∷ book.work) book)
   calling_stands places = record {
-    sound = sound_still sizes e calling book.number book.macros refl refl refl refl refl (store_scan e.input calling.input (Gathering name scan) refl) st.sound;
+    sound = sound_still sizes e calling book.number book.all_lists refl refl refl refl refl (store_scan e.input calling.input (Gathering name scan) refl) st.sound;
     idle = st.idle;
     all = (call_stands places, record { frames = st.readings.frames; shallow = st.readings.shallow });
   }
 
-  module _ (long : Bool) (e2 : Engine) (same : long ≡ h.long) (after : e2 ≡ record e { call = Some (open_call name); input = record e.input { call = Gathering name (first_scan (text_of e.input.lists e.input.groups.now.meanings name) (mode_of long)); lists = e2.input.lists } }) (macros : KeepsMacros e.input e2.input) where
+  module _ (long : Bool) (e2 : Engine) (same : long ≡ h.long) (after : e2 ≡ record e { call = Some (open_call name); input = record e.input { call = Gathering name (first_scan (text_of e.input.lists e.input.groups.now.meanings name) (mode_of long)); lists = e2.input.lists } }) (all_lists : KeepsShared e.input e2.input) where
     now : e2 ≡ record calling { input = record calling.input { lists = e2.input.lists } }
     now =
         after
@@ -252,7 +252,7 @@ module _ (sizes : Sizes) (e : Engine) (book : Book) (t : Token) (name : Name) (i
       closing = ap (λ (y : Engine). y.input.closing) now;
       ending = ap (λ (y : Engine). y.input.ending) now;
       puts = λ n g. subst (λ (y : Engine). is_put n (all_puts y.input.pending) ≡ true) now g;
-      lists = record { tokens = macros.tokens };
+      lists = record { tokens = all_lists.tokens };
     }
 
     frames_same : SameFrames calling e2
@@ -266,7 +266,7 @@ module _ (sizes : Sizes) (e : Engine) (book : Book) (t : Token) (name : Name) (i
     begun_stands : has_parameters ts ≡ true → AllStand sizes e2 (with_work (fresh K ∷ book.work) book)
     begun_stands places = let was = calling_stands places in
         all_still sizes calling e2 (with_work (fresh K ∷ book.work) book) frames_same store
-        (sound_still sizes calling e2 book.number book.macros (ap (λ (y : Engine). y.sizes) now) (ap (λ (y : Engine). y.readings.size) now) (ap (λ (y : Engine). y.conditionals) now) (ap (λ (y : Engine). y.names) now) (ap (λ (y : Engine). y.reports) now) store was.sound)
+        (sound_still sizes calling e2 book.number book.all_lists (ap (λ (y : Engine). y.sizes) now) (ap (λ (y : Engine). y.readings.size) now) (ap (λ (y : Engine). y.conditionals) now) (ap (λ (y : Engine). y.names) now) (ap (λ (y : Engine). y.reports) now) store was.sound)
         (ap (λ (y : Engine). y.input.making) now ∙ st.idle) was
 
     begun_state : made (Begun K) (state_of e book) ≡ state_of e2 (with_work (fresh K ∷ book.work) book)
@@ -302,20 +302,20 @@ module _ (sizes : Sizes) (e : Engine) (book : Book) (t : Token) (name : Name) (i
       called_list ∙ ap (λ (b : Bool). if b then Begun K ∷ [] else body_put P p.items) (gathers_none (has_parameters ts) (sym kind_is ∙ is))
 
   pub called_cuts : (e2 : Engine) (w : World) (full : Full) → call_kind e.input.lists (name_meaning e.input.groups.now.meanings name) ≡ kind.AtOnce →
-      e2 ≡ record e { input = record e.input { pending = settle e.input.pending; lists = e2.input.lists } } → call_refusal (called_put e.input.lists (name_meaning e.input.groups.now.meanings name)) e.input ≡ Some full →
+      e2 ≡ record e { input = record e.input { pending = end_token_lists e.input.pending; lists = e2.input.lists } } → call_refusal (called_put e.input.lists (name_meaning e.input.groups.now.meanings name)) e.input ≡ Some full →
       Cuts sizes (state_of e book) e2 book w w (called (page_of e book) t) (broken.Full full)
   called_cuts e2 w full is after refuses =
       cuts_by sizes _ e2 book w w _ _ (broken.Full full) (put_moves is ∙ sym (append-nil (body_put P p.items)))
       (shared_cuts sizes e book st.sound h.id p refl meant e2 w full [] after (ap (λ (x : Put). call_refusal x e.input) (sym what) ∙ refuses))
 
   pub called_went : (e2 : Engine) (w : World) → call_kind e.input.lists (name_meaning e.input.groups.now.meanings name) ≡ kind.AtOnce →
-      e2 ≡ record e { input = record e.input { pending = after_call (called_put e.input.lists (name_meaning e.input.groups.now.meanings name)) e.input.pending; lists = e2.input.lists } } → KeepsMacros e.input e2.input →
+      e2 ≡ record e { input = record e.input { pending = after_call (called_put e.input.lists (name_meaning e.input.groups.now.meanings name)) e.input.pending; lists = e2.input.lists } } → KeepsShared e.input e2.input →
       call_refusal (called_put e.input.lists (name_meaning e.input.groups.now.meanings name)) e.input ≡ None → Went sizes (state_of e book) e2 w w (called (page_of e book) t) 0
-  called_went e2 w is after macros fits =
+  called_went e2 w is after all_lists fits =
       let here = after ∙ ap (λ (x : Put). record e { input = record e.input { pending = after_call x e.input.pending; lists = e2.input.lists } }) what in
       went_by sizes _ e2 w w _ _ 0 (put_moves is) (record {
         book' = book;
-        stands = all_of sizes e2 book (pending_stands sizes e e2 book (after_call p e.input.pending) here (shared_sound sizes e book st.sound h.id p refl meant e2 here macros) st);
-        did = shared_did sizes e book st.sound h.id p refl meant e2 here macros w (ap (λ (x : Put). call_refusal x e.input) (sym what) ∙ fits);
+        stands = all_of sizes e2 book (pending_stands sizes e e2 book (after_call p e.input.pending) here (shared_sound sizes e book st.sound h.id p refl meant e2 here all_lists) st);
+        did = shared_did sizes e book st.sound h.id p refl meant e2 here all_lists w (ap (λ (x : Put). call_refusal x e.input) (sym what) ∙ fits);
         count = body_silent P p.items;
       })

@@ -22,7 +22,7 @@ use Rattle.plain_machine.specs.States.{Move, Feeds, Written, Reported, made}
 use Rattle.plain_machine.specs.Plan.{Page, told, noting, noting_kind, put_one, reported}
 use Rattle.plain_machine.specs.Does.{Did}
 use Rattle.plain_machine.proofs.Doing.{did_join, did_one}
-use Rattle.world_io.specs.Told.{FilesTold, SinkTold, world}
+use Rattle.world_io.specs.Contents.{FilesTold, SinkTold, world}
 use Rattle.macro_call.specs.PlainScans.{Scan, resume_scan, scan_work, settled_scan}
 use Rattle.macro_call.specs.Stages.{Stage, kept_in, read_in}
 use Rattle.macro_call.proofs.PlainScans.{scans_gather}
@@ -201,7 +201,7 @@ module _ (sizes : Sizes) (e e1 e2 : Engine) (f : FilesTold) (s0 : SinkTold) (nam
             went_by sizes _ e4 _ _ _ moves 0 whole (record {
               book' = with_work work book;
               stands = record {
-                sound = sound_still sizes e3 e4 book.number book.macros (ap (λ (y : Engine). y.sizes) after) (ap (λ (y : Engine). y.readings.size) after) (ap (λ (y : Engine). y.conditionals) after) (ap (λ (y : Engine). y.names) after) (ap (λ (y : Engine). y.reports) after)
+                sound = sound_still sizes e3 e4 book.number book.all_lists (ap (λ (y : Engine). y.sizes) after) (ap (λ (y : Engine). y.readings.size) after) (ap (λ (y : Engine). y.conditionals) after) (ap (λ (y : Engine). y.names) after) (ap (λ (y : Engine). y.reports) after)
                     (store_scan e3.input e4.input (with_scan settled_scan e3.input.call) (ap (λ (y : Engine). y.input) after)) st.sound;
                 idle = ap (λ (y : Engine). y.input.making) after ∙ st.idle;
                 all = subst (λ (y : Engine). ReadingsStand y.call y book.number work) (sym after) (b.stands _ refl, record { frames = k.1.frames; shallow = k.1.shallow });

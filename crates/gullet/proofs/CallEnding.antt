@@ -15,9 +15,9 @@ use Rattle.plain_machine.specs.Does.{Did}
 use Rattle.plain_machine.specs.Runs.{steps}
 use Rattle.plain_machine.proofs.Doing.{did_join, did_one}
 use Rattle.plain_machine.proofs.Joins.{steps_join}
-use Rattle.world_io.specs.Told.{FilesTold, SinkTold}
+use Rattle.world_io.specs.Contents.{FilesTold, SinkTold}
 use Rattle.input_state.specs.Callings.{NotCalling, call_lists}
-use Rattle.input_state.specs.Stored.{Stored, KeepsMacros, gathered}
+use Rattle.input_state.specs.Stored.{Stored, KeepsShared, gathered}
 use Rattle.engine_state.specs.declared.call.Call.{Call}
 use Rattle.engine_state.specs.declared.engine.Engine.{Engine}
 use Rattle.engine_state.specs.Book.{Book, with_work}
@@ -53,19 +53,19 @@ lists_gone i held is = ap (λ (l : List (List Token)). drop (length l) (gathered
 
 -- the engine without its call
 module _ (sizes : Sizes) (e e2 : Engine) (book : Book) (r : Reading) (rs : List Reading) (c : Call) (is : e.call ≡ Some c) (st : AllStand sizes e (with_work (r ∷ rs) book))
-    (after : e2 ≡ record e { call = None; input = record e.input { call = NotCalling; lists = e2.input.lists } }) (macros : KeepsMacros e.input e2.input) where
+    (after : e2 ≡ record e { call = None; input = record e.input { call = NotCalling; lists = e2.input.lists } }) (all_lists : KeepsShared e.input e2.input) where
   abbrev ended : Engine
   ended = record e { call = None; input = record e.input { call = NotCalling; lists = e2.input.lists } }
 
   store : SameStore e.input e2.input
-  store = store_call e.input e2.input NotCalling (ap (λ (x : Engine). x.input) after) macros
+  store = store_call e.input e2.input NotCalling (ap (λ (x : Engine). x.input) after) all_lists
 
   k : ReadingsStand (Some c) e book.number (r ∷ rs)
   k = here sizes e book c r rs is st
 
   pub closed_stands : AllStand sizes e2 (with_work rs book)
   closed_stands = record {
-    sound = sound_still sizes e e2 book.number book.macros (ap (λ (x : Engine). x.sizes) after) (ap (λ (x : Engine). x.readings.size) after) (ap (λ (x : Engine). x.conditionals) after) (ap (λ (x : Engine). x.names) after) (ap (λ (x : Engine). x.reports) after) store st.sound;
+    sound = sound_still sizes e e2 book.number book.all_lists (ap (λ (x : Engine). x.sizes) after) (ap (λ (x : Engine). x.readings.size) after) (ap (λ (x : Engine). x.conditionals) after) (ap (λ (x : Engine). x.names) after) (ap (λ (x : Engine). x.reports) after) store st.sound;
     idle = ap (λ (x : Engine). x.input.making) after ∙ st.idle;
     all = subst (λ (x : Engine). ReadingsStand x.call x book.number rs) (sym after) (record { frames = k.1.frames; shallow = k.1.shallow }, refl);
   }
@@ -92,13 +92,13 @@ reported_stands sizes e e1 book same input sized st =
     all_still sizes e e1 book same (store_is e.input e1.input input) (input_sound sizes e e1 book input sized st.sound) (ap (λ (i : Stored). i.making) input ∙ st.idle) st
 
 pub failed_went : (sizes : Sizes) (e e1 e2 : Engine) (book : Book) (r : Reading) (rs : List Reading) (c : Call) (f : FilesTold) (s0 s1 : SinkTold) (report : Report) → e.call ≡ Some c → AllStand sizes e (with_work (r ∷ rs) book) →
-    SameFrames e e1 → e1.input ≡ e.input → (IsSized sizes e → IsSized sizes e1) → e2 ≡ record e1 { call = None; input = record e1.input { call = NotCalling; lists = e2.input.lists } } → KeepsMacros e1.input e2.input →
+    SameFrames e e1 → e1.input ≡ e.input → (IsSized sizes e → IsSized sizes e1) → e2 ≡ record e1 { call = None; input = record e1.input { call = NotCalling; lists = e2.input.lists } } → KeepsShared e1.input e2.input →
     Reports sizes (state_of e (with_work (r ∷ rs) book)) (state_of e1 (with_work (r ∷ rs) book)) (world_of f s0 e) (world_of f s1 e1) (page_of e book) report (Closed ∷ []) →
     Went sizes (state_of e (with_work (r ∷ rs) book)) e2 (world_of f s0 e) (world_of f s1 e2) (failed (page_of e book) report) 0
-failed_went sizes e e1 e2 book r rs c f s0 s1 report is st same input sized after macros h =
+failed_went sizes e e1 e2 book r rs c f s0 s1 report is st same input sized after all_lists h =
     let written : List Move = Written Transcript (report_bytes (own_style e) e.in_line e.input.pending.number report) ∷ Reported ∷ [] in
     went_by sizes _ e2 _ _ (written ++ Closed ∷ []) (failed (page_of e book) report) 0 h.moves
-    (closed_went sizes e1 e2 book r rs c (same.call ∙ is) (reported_stands sizes e e1 (with_work (r ∷ rs) book) same input sized st) after macros _ f s1 _ written h.did refl)
+    (closed_went sizes e1 e2 book r rs c (same.call ∙ is) (reported_stands sizes e e1 (with_work (r ∷ rs) book) same input sized st) after all_lists _ f s1 _ written h.did refl)
 
 pub failed_halts : (sizes : Sizes) (e e1 : Engine) (book : Book) (w w' : World) (report : Report) (o : Outcome) → Halts sizes (state_of e book) e1 book w w' (reported (page_of e book) report (Closed ∷ [])) o 0 →
     Halts sizes (state_of e book) e1 book w w' (failed (page_of e book) report) o 1

@@ -24,7 +24,7 @@ use Rattle.input_state.specs.Callings as calls
 use Rattle.input_state.specs.Callings.{Calling, call_lists}
 use Rattle.input_state.specs.Calls.{macro_text, text_of}
 use Rattle.input_state.specs.Macros.{list_at}
-use Rattle.input_state.specs.Stored.{KeepsMacros, words as stored_words}
+use Rattle.input_state.specs.Stored.{KeepsShared, words as stored_words}
 use Rattle.input_state.specs.declared.answer.CallTold.{CallTold}
 use Rattle.engine_state.specs.declared.engine.Engine.{Engine}
 use Rattle.engine_state.specs.Book.{Book, with_work}
@@ -103,7 +103,7 @@ module _ (e : Engine) (number : ℕ → ℕ) (name : Name) (r : Reading) (x : Se
 -- THE CALL GOES ON
 
 module _ (sizes : Sizes) (e e2 : Engine) (book : Book) (r : Reading) (rs : List Reading) (name : Name) (x : Seen) (answer : CallTold) (is : e.call ≡ Some (open_call name)) (st : AllStand sizes e (with_work (r ∷ rs) book))
-    (behind : e2 ≡ record e { call = Some (record { name = name; ask = ask_behind answer }); last = x; input = record e.input { call = e2.input.call; lists = e2.input.lists } }) (macros : KeepsMacros e.input e2.input)
+    (behind : e2 ≡ record e { call = Some (record { name = name; ask = ask_behind answer }); last = x; input = record e.input { call = e2.input.call; lists = e2.input.lists } }) (all_lists : KeepsShared e.input e2.input)
     (comes : Feeds (text_of e.input.lists e.input.groups.now.meanings) x.token answer e.input.call e2.input.call) where
   abbrev W : Book
   W = with_work (r ∷ rs) book
@@ -129,10 +129,10 @@ module _ (sizes : Sizes) (e e2 : Engine) (book : Book) (r : Reading) (rs : List 
       subst (λ (ts : List Token). Comes ts x.token answer name k.scan e2.input.call) (text_is e book.number name r h) at
 
   store : SameStore e.input e2.input
-  store = store_call e.input e2.input e2.input.call (ap (λ (y : Engine). y.input) behind) macros
+  store = store_call e.input e2.input e2.input.call (ap (λ (y : Engine). y.input) behind) all_lists
 
-  sound : IsSound sizes e2 book.number book.macros
-  sound = sound_still sizes e e2 book.number book.macros (ap (λ (y : Engine). y.sizes) behind) (ap (λ (y : Engine). y.readings.size) behind) (ap (λ (y : Engine). y.conditionals) behind) (ap (λ (y : Engine). y.names) behind) (ap (λ (y : Engine). y.reports) behind) store st.sound
+  sound : IsSound sizes e2 book.number book.all_lists
+  sound = sound_still sizes e e2 book.number book.all_lists (ap (λ (y : Engine). y.sizes) behind) (ap (λ (y : Engine). y.readings.size) behind) (ap (λ (y : Engine). y.conditionals) behind) (ap (λ (y : Engine). y.names) behind) (ap (λ (y : Engine). y.reports) behind) store st.sound
 
   -- the reading behind the token
   abbrev fed : Reading

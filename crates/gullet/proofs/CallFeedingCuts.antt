@@ -32,7 +32,7 @@ use Rattle.input_state.specs.Callings as calls
 use Rattle.input_state.specs.Callings.{Calling, call_lists, last_first}
 use Rattle.input_state.specs.Calls.{text_of}
 use Rattle.input_state.specs.Macros.{list_at}
-use Rattle.input_state.specs.Stored.{KeepsMacros, words as stored_words}
+use Rattle.input_state.specs.Stored.{KeepsShared, words as stored_words}
 use Rattle.engine_state.specs.declared.broken.Broken.TheVariants as broken
 use Rattle.engine_state.specs.declared.call.Call.{Call}
 use Rattle.engine_state.specs.declared.engine.Engine.{Engine}
@@ -83,7 +83,7 @@ arg_words was [] args some = omega (arith, some, length-drop {A = Token} (length
 arg_words was (t ∷ ts) args some = omega (arith, some, length-drop {A = Token} (length was) (t ∷ ts), sum_by-cons list_words (t ∷ ts) args, sum_by-cons list_words was args)
 
 module _ (sizes : Sizes) (e e2 : Engine) (book : Book) (r : Reading) (rs : List Reading) (name : Name) (x : Seen) (full : Full) (w : World) (is : e.call ≡ Some (open_call name)) (st : AllStand sizes e (with_work (r ∷ rs) book))
-    (behind : e2 ≡ record e { last = e2.last; input = record e.input { call = e2.input.call; lists = e2.input.lists } }) (macros : KeepsMacros e.input e2.input)
+    (behind : e2 ≡ record e { last = e2.last; input = record e.input { call = e2.input.call; lists = e2.input.lists } }) (all_lists : KeepsShared e.input e2.input)
     (within : stored_words e2.input ≤ e2.input.sizes.main_memory_size) (refuses : refused e2.input.sizes (memory 1 (stored_words e2.input) ∷ []) ≡ Some full) where
   abbrev W : Book
   W = with_work (r ∷ rs) book
@@ -107,10 +107,10 @@ module _ (sizes : Sizes) (e e2 : Engine) (book : Book) (r : Reading) (rs : List 
   complete = drop (length k.scan.args) (arguments_in a)
 
   store : SameStore e.input e2.input
-  store = store_call e.input e2.input e2.input.call (ap (λ (y : Engine). y.input) behind) macros
+  store = store_call e.input e2.input e2.input.call (ap (λ (y : Engine). y.input) behind) all_lists
 
-  sound : IsSound sizes e2 book.number book.macros
-  sound = sound_still sizes e e2 book.number book.macros (ap (λ (y : Engine). y.sizes) behind) (ap (λ (y : Engine). y.readings.size) behind) (ap (λ (y : Engine). y.conditionals) behind) (ap (λ (y : Engine). y.names) behind) (ap (λ (y : Engine). y.reports) behind) store st.sound
+  sound : IsSound sizes e2 book.number book.all_lists
+  sound = sound_still sizes e e2 book.number book.all_lists (ap (λ (y : Engine). y.sizes) behind) (ap (λ (y : Engine). y.readings.size) behind) (ap (λ (y : Engine). y.conditionals) behind) (ap (λ (y : Engine). y.names) behind) (ap (λ (y : Engine). y.reports) behind) store st.sound
 
   start : state_at (state_of e W) (r ∷ rs) e.last (lists_of k.scan.args (scan_work k.scan) ++ e.input.builds) ≡ state_of e W
   start = ap (λ (l : List (List Token)). record (state_of e W) { gathered = l ++ e.input.builds }) (sym (lists_before e book.number name r x h))

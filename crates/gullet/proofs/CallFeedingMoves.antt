@@ -46,7 +46,7 @@ state_at s work last lists = record s { work = work; last = last; gathered = lis
 
 -- the words of its other lists
 abbrev pub other_words : State → ℕ
-other_words s = shared_words 0 (lists_held s.groups) (all_puts s.pending) s.macros + (put_words (all_puts s.pending) + made_words s.making)
+other_words s = shared_words 0 (lists_held s.groups) (all_puts s.pending) s.all_lists + (put_words (all_puts s.pending) + made_words s.making)
 
 pub words_at : (s : State) (work : List Reading) (last : Seen) (lists : List (List Token)) → words (state_at s work last lists) ≡ other_words s + lists_words lists
 words_at s work last lists = omega arith

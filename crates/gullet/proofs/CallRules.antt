@@ -6,7 +6,7 @@ use Rattle.tex_syntax.specs.declared.words.Scanned.TheVariants as scanned
 use Rattle.tex_syntax.specs.declared.words.Report.TheVariants as reports
 use Rattle.tex_defs.specs.declared.Name.{Name}
 use Rattle.tex_defs.specs.declared.Token.{Token}
-use Rattle.plain_readings.specs.Scanning.{Builds, scanning, innermost_scanned, scanned_at, unless_unguarded, status, first_of}
+use Rattle.plain_readings.specs.Scanning.{Builds, scanning, innermost_scanned, scanned_at, unless_unguarded, status, list_on_top}
 use Rattle.plain_readings.specs.Readings.{Kind, Reading, lists}
 use Rattle.plain_machine.specs.Plan.{failed_away}
 use Rattle.input_state.specs.CallFeeds.{call_work}
@@ -33,25 +33,25 @@ call_wants e name is = subst (λ (c : Option Call). WantsHere c (Some Raw) e) (s
 
 -- AN ARGUMENT THAT RUNS AWAY
 
-first_work : (o : Option (List Token)) (rest builds : List (List Token)) (n : ℕ) → n ≡ length (option_to_list o ++ rest) → (o ≡ None → rest ≡ []) → first_of n ((option_to_list o ++ rest) ++ builds) ≡ work_or_none o
-first_work (Some work) rest builds n is none = ap (λ (k : ℕ). first_of k (work ∷ (rest ++ builds))) is
-first_work None rest builds n is none = ap (λ (k : ℕ). first_of k (rest ++ builds)) (is ∙ ap (length {A = List Token}) (none refl))
+first_work : (o : Option (List Token)) (rest builds : List (List Token)) (n : ℕ) → n ≡ length (option_to_list o ++ rest) → (o ≡ None → rest ≡ []) → list_on_top n ((option_to_list o ++ rest) ++ builds) ≡ work_or_none o
+first_work (Some work) rest builds n is none = ap (λ (k : ℕ). list_on_top k (work ∷ (rest ++ builds))) is
+first_work None rest builds n is none = ap (λ (k : ℕ). list_on_top k (rest ++ builds)) (is ∙ ap (length {A = List Token}) (none refl))
 
 no_args : (scan : Scan) → HasWork scan → scan_work scan ≡ None → last_first scan.args [] ≡ []
 no_args scan h none = ap (λ (args : List (List Token)). last_first args []) (h none)
 
-stopped_list : (name : Name) (k : Calling) (builds : List (List Token)) (n : ℕ) → IsStopped name k → n ≡ length (call_lists k) → first_of n (call_lists k ++ builds) ≡ work_or_none (call_work k)
+stopped_list : (name : Name) (k : Calling) (builds : List (List Token)) (n : ℕ) → IsStopped name k → n ≡ length (call_lists k) → list_on_top n (call_lists k ++ builds) ≡ work_or_none (call_work k)
 stopped_list name calls.NotCalling builds n h is = absurd h
 stopped_list name (calls.Gathering m scan) builds n h is = absurd h
 stopped_list name (calls.Stopped m scan) builds n h is = first_work (scan_work scan) (last_first scan.args []) builds n is (no_args scan h.1)
 stopped_list name (calls.Gathered m args) builds n h is = absurd h
 
 -- the call is what is read
-call_scanned : (e : Engine) (number : ℕ → ℕ) (c : Call) (r : Reading) (rs : List Reading) (list : List Token) → CallStands e number c r → first_of (length (call_lists e.input.call)) (gathered e.input) ≡ list →
+call_scanned : (e : Engine) (number : ℕ → ℕ) (c : Call) (r : Reading) (rs : List Reading) (list : List Token) → CallStands e number c r → list_on_top (length (call_lists e.input.call)) (gathered e.input) ≡ list →
     scanning (r ∷ rs) (gathered e.input) ≡ Some (Builds scanned.Use c.name list)
 call_scanned e number c r rs list h is =
-    ap (λ (k : Kind). unless_unguarded (status k) (scanned_at (status k) (first_of (length (lists r.kind r.fed)) (gathered e.input)) (innermost_scanned rs (drop (length (lists r.kind r.fed)) (gathered e.input))))) h.kind
-    ∙ ap (λ (l : List (List Token)). Some (Builds scanned.Use c.name (first_of (length l) (gathered e.input)))) h.holds
+    ap (λ (k : Kind). unless_unguarded (status k) (scanned_at (status k) (list_on_top (length (lists r.kind r.fed)) (gathered e.input)) (innermost_scanned rs (drop (length (lists r.kind r.fed)) (gathered e.input))))) h.kind
+    ∙ ap (λ (l : List (List Token)). Some (Builds scanned.Use c.name (list_on_top (length l) (gathered e.input)))) h.holds
     ∙ ap (λ (l : List Token). Some (Builds scanned.Use c.name l)) is
 
 pub away_is : (e : Engine) (book : Book) (number : ℕ → ℕ) (name : Name) (r : Reading) (rs : List Reading) → CallStands e number (record { name = name; ask = asked.ParEnded false }) r →

@@ -28,7 +28,7 @@ use Rattle.engine_state.specs.declared.outcome.Ruled.TheVariants as ruled
 use Rattle.engine_state.specs.Book.{Book, with_work}
 use Rattle.engine_state.specs.Stands.{SameFrames, SameReadings, Stands, state_of, page_of}
 use Rattle.engine_state.proofs.Uncalled.{all_of}
-use Rattle.world_io.specs.Told.{FilesTold, SinkTold}
+use Rattle.world_io.specs.Contents.{FilesTold, SinkTold}
 use Rattle.engine_state.specs.Rules.{world_of, Went, Halts, onward_of, feeds_of, Takes, Comes, DoesOnward}
 use Rattle.engine_state.specs.Steps.{IsHalted}
 use Rattle.engine_state.proofs.Joining.{quiet_wrote, went_by}

@@ -38,7 +38,7 @@ naming_stands sizes e book st =
     let next : Engine = record e { naming = true } in
     framed sizes next book st.uncalled.none
     (all_still sizes e next book (record { readings = refl; lists = refl; call = refl; calling = refl }) (store_same e.input)
-    (sound_still sizes e next book.number book.macros refl refl refl refl refl (store_same e.input) st.sound) st.idle (all_of sizes e book st))
+    (sound_still sizes e next book.number book.all_lists refl refl refl refl refl (store_same e.input) st.sound) st.idle (all_of sizes e book st))
 
 pub name_begins : (sizes : Sizes) (e e1 : Engine) (book : Book) (w : World) (t : Token) (c : Call) → e.naming ≡ false → refusal sizes (Begun (FileName c)) (state_of e book) ≡ None →
     made (Begun (FileName c)) (state_of e book) ≡ state_of e1 (with_work (opened (FileName c) book.work) book) → Stands sizes e1 (with_work (opened (FileName c) book.work) book) →

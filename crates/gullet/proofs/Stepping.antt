@@ -16,7 +16,7 @@ use Rattle.rows.specs.Readings.{Ask, More, Inner, Done, Acts, ActsOn, Defines, E
 use Rattle.plain_readings.specs.Readings.{Reading, ask}
 use Rattle.plain_readings.specs.Scanning.{Scanning, scanning}
 use Rattle.reading_frames.specs.declared.frame.Frame.{Frame}
-use Rattle.reading_frames.specs.Sees.{Lists}
+use Rattle.reading_frames.specs.Views.{Lists}
 use Rattle.reading_frames.specs.Stack.{asks_in, asked_in}
 use Rattle.reading_frames.specs.Stands as frames
 use Rattle.plain_machine.specs.States.{State, Move, Handed, Taken}

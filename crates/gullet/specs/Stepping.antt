@@ -15,7 +15,7 @@ use Rattle.conditionals.specs.Skipping.{first_conditional, or_primitive}
 use Rattle.rows.specs.declared.words.Kind.TheVariants.{Command}
 use Rattle.rows.specs.declared.command.Call.{Call}
 use Rattle.plain_readings.specs.Readings.{Kind, Reads}
-use Rattle.reading_frames.specs.Sees.{kind_of}
+use Rattle.reading_frames.specs.Views.{kind_of}
 use Rattle.reading_frames.specs.Weights.{begun_weight}
 use Rattle.plain_machine.specs.States.{State, Move, Begun, Closed, FileEnds}
 use Rattle.plain_machine.specs.Plan.{Page, reported, called, input_met, is_expandable_primitive, job_in, put_characters, conditional_met, conditional_begun, ender_met}

@@ -16,7 +16,7 @@ ghost use Rattle.input_state.specs.declared.answer.CallKind.TheVariants.{Gathers
 ghost use Rattle.input_state.specs.Callings.{NotCalling};
 ghost use Rattle.input_state.specs.Callings as calls;
 ghost use Rattle.input_state.specs.Calls.{call_kind, text_of};
-ghost use Rattle.input_state.specs.Stored.{KeepsMacros};
+ghost use Rattle.input_state.specs.Stored.{KeepsShared};
 ghost use Rattle.engine_state.specs.Book.{Book};
 ghost use Rattle.engine_state.specs.Calls.{open_call};
 ghost use Rattle.engine_state.specs.Clauses.{GoesFree};
@@ -69,7 +69,7 @@ fn begin_call(engine: &mut Engine, name: Name, long: bool) -> Result<(), Full>
     ensures fits { OnOk result ((sizes : Sizes) (book : Book) (number : ℕ) → Counts sizes engine.old book → refusal sizes (Begun (Arguments name long number (text_of engine.old.input.lists engine.old.input.groups.now.meanings name))) (state_of engine.old book) ≡ None) }
     ensures refused { IfErr result (λ full. (sizes : Sizes) (book : Book) (number : ℕ) → Counts sizes engine.old book → refusal sizes (Begun (Arguments name long number (text_of engine.old.input.lists engine.old.input.groups.now.meanings name))) (state_of engine.old book) ≡ Some full) }
     ensures err { OnErr result (engine.new ≡ engine.old) }
-    ensures macros { KeepsMacros engine.old.input engine.new.input }
+    ensures all_lists { KeepsShared engine.old.input engine.new.input }
 {
     if let Some(full) = engine.depth_refusal() {
         return Err(full);

@@ -4,11 +4,11 @@ ghost use Rattle.std.specs.Prelude.{◌≡◌, ◌<◌, ◌≤◌, ◌+◌, not,
 ghost use Rattle.tex_defs.specs.declared.Sizes.{Sizes};
 ghost use Rattle.plain_tokens.specs.Pending.{pulled};
 ghost use Rattle.plain_readings.specs.Weights.{act_weight};
-ghost use Rattle.reading_frames.specs.Sees.{kind_of};
+ghost use Rattle.reading_frames.specs.Views.{kind_of};
 ghost use Rattle.reading_frames.specs.Weights.{frames_weight, innermost_weight, begun_weight};
 ghost use Rattle.plain_machine.specs.States.{Move};
 ghost use Rattle.plain_machine.specs.Plan.{Page, call_of as plain_call, expanded, expansion as plain_expansion, input_met, is_expandable_primitive};
-ghost use Rattle.world_io.specs.Told.{FilesTold};
+ghost use Rattle.world_io.specs.Contents.{FilesTold};
 ghost use Rattle.input_state.specs.Reads.{gives_step};
 ghost use Rattle.engine_state.specs.Book.{Book};
 ghost use Rattle.engine_state.specs.Clauses.{GoesFree, CutsFree};

@@ -8,13 +8,13 @@ ghost use Rattle.rows.specs.Readings.{Told};
 ghost use Rattle.plain_readings.specs.Readings.{Reading};
 ghost use Rattle.plain_machine.specs.States.{Feeds};
 ghost use Rattle.plain_machine.specs.Plan.{failed, put_one, reported};
-ghost use Rattle.world_io.specs.Told.{FilesTold};
+ghost use Rattle.world_io.specs.Contents.{FilesTold};
 ghost use Rattle.macro_call.specs.PlainScans.{settled_scan};
 ghost use Rattle.input_state.specs.CallFeeds.{with_scan};
-ghost use Rattle.plain_tokens.specs.Pending.{settle};
+ghost use Rattle.plain_tokens.specs.Pending.{end_token_lists};
 ghost use Rattle.input_state.specs.Callings.{NotCalling, IsComplete};
 ghost use Rattle.input_state.specs.Calls.{after_call, put_of};
-ghost use Rattle.input_state.specs.Stored.{KeepsMacros, put_refusal};
+ghost use Rattle.input_state.specs.Stored.{KeepsShared, put_refusal};
 ghost use Rattle.engine_state.specs.Book.{Book, with_work};
 ghost use Rattle.engine_state.specs.Calls.{AllStand, argument_bytes, brace_call, open_call, call_away_moves};
 ghost use Rattle.engine_state.specs.CutReadings.{CutsIn};
@@ -114,8 +114,8 @@ fn put_call(engine: &mut Engine) -> Result<(), Full>
     ensures fits { OnOk result (IsComplete engine.old.input.call → put_refusal (put_of engine.old.input.lists engine.old.input.groups.now.meanings engine.old.input.call) engine.old.input ≡ None) }
     ensures light { OnOk result ((call : Call) → engine.old.call ≡ Some call → call_asks_more call.ask ≡ false → weight engine.new < weight engine.old) }
     ensures refused { IfErr result (λ full. put_refusal (put_of engine.old.input.lists engine.old.input.groups.now.meanings engine.old.input.call) engine.old.input ≡ Some full) }
-    ensures err { OnErr result (engine.new ≡ record engine.old { input = record engine.old.input { pending = settle engine.old.input.pending; lists = engine.new.input.lists } }) }
-    ensures macros { KeepsMacros engine.old.input engine.new.input }
+    ensures err { OnErr result (engine.new ≡ record engine.old { input = record engine.old.input { pending = end_token_lists engine.old.input.pending; lists = engine.new.input.lists } }) }
+    ensures all_lists { KeepsShared engine.old.input engine.new.input }
     ensures idle { engine.new.input.making ≡ engine.old.input.making }
     ensures column { engine.new.in_line ≡ engine.old.in_line }
 {
@@ -203,7 +203,7 @@ fn go_on_behind_brace(engine: &mut Engine, name: Name)
 /// The call ends without its arguments, and its lists go.
 fn close_call(engine: &mut Engine)
     ensures after { engine.new ≡ record engine.old { call = None; input = record engine.old.input { call = NotCalling; lists = engine.new.input.lists } } }
-    ensures macros { KeepsMacros engine.old.input engine.new.input }
+    ensures all_lists { KeepsShared engine.old.input engine.new.input }
 {
     engine.input.drop_call();
     engine.call = None;

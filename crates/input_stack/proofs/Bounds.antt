@@ -18,7 +18,7 @@ use Rattle.input_stack.specs.Pending.{levels, arguments}
 use Rattle.input_stack.specs.View.{pending, innermost, held, held_in, level_holds, level_open, open_in, level_arguments, arguments_of}
 use Rattle.input_stack.specs.Standing.{Fits, Stands}
 use Rattle.input_stack.proofs.Kept.{held_cons}
-use Rattle.input_stack.proofs.Settled.{open_cons, arguments_cons, levels_are, arguments_are}
+use Rattle.input_stack.proofs.ListsEnded.{open_cons, arguments_cons, levels_are, arguments_are}
 
 once : (b : Bool) → cond b 1 0 ≤ 1
 once true = omega arith

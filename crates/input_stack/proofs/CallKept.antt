@@ -14,7 +14,7 @@ use Rattle.input_stack.specs.declared.reader.Reader.{Reader}
 use Rattle.input_stack.specs.declared.call.Call.{Call}
 use Rattle.input_stack.specs.Puts.{Item, Put, Later, numbers, lists_of}
 use Rattle.input_stack.specs.Pending.{times}
-use Rattle.input_stack.specs.Calls.{Argument, number_of, substituted}
+use Rattle.input_stack.specs.Calls.{Argument, argument_list, substituted}
 use Rattle.input_stack.specs.Rest.{number, rest, IsAt}
 use Rattle.input_stack.specs.CallViews.{argument_in, arguments_in, arguments_hold, open_items, open_number, open_holds, put_of_call, call_holds, IsCall}
 
@@ -47,7 +47,7 @@ open_same old new None same = refl
 open_same old new (Some r) same = ap (map (Later (number r))) (rest_same old new r same)
 
 abbrev put_from : Call → List (Option Argument) → List Item → List Token → Put
-put_from c args front ts = record { list = number c.body; body = true; arguments = map number_of args; reading = open_number c.argument; items = front ++ substituted args ts }
+put_from c args front ts = record { list = number c.body; body = true; arguments = map argument_list args; reading = open_number c.argument; items = front ++ substituted args ts }
 
 pub call_same : (old new : List (Option Entry)) (c : Call) → Same old new (call_holds c) → put_of_call new c ≡ put_of_call old c
 call_same old new c same =
@@ -103,11 +103,11 @@ pub open_held : (table : List (Option Entry)) (o : Option Reader) → ((h : ℕ)
 open_held table None covers = tt
 open_held table (Some r) covers = omega (arith, covers (number r), holds_itself (number r))
 
-cells_numbers : (table : List (Option Entry)) (cells : List (Option ListRef)) (h : ℕ) → cells_hold cells h ≡ times h (numbers (map number_of (map (argument_in table) cells)))
+cells_numbers : (table : List (Option Entry)) (cells : List (Option ListRef)) (h : ℕ) → cells_hold cells h ≡ times h (numbers (map argument_list (map (argument_in table) cells)))
 cells_numbers table [] h = refl
 cells_numbers table (None ∷ cells) h = omega (arith, sum_by-cons (λ (c : Option ListRef). cell_holds c h) None cells, cells_numbers table cells h)
 cells_numbers table (Some r ∷ cells) h =
-    let ns = numbers (map number_of (map (argument_in table) cells)) in
+    let ns = numbers (map argument_list (map (argument_in table) cells)) in
     omega (arith, sum_by-cons (λ (c : Option ListRef). cell_holds c h) (Some r) cells, cells_numbers table cells h, sum_by-cons (λ (n : ℕ). holds n h) (id_of r) ns)
 
 open_numbers : (o : Option Reader) (cells : List (Option ℕ)) (h : ℕ) → times h (numbers (open_number o ∷ cells)) ≡ open_holds o h + times h (numbers cells)
@@ -117,5 +117,5 @@ open_numbers (Some r) cells h = sum_by-cons (λ (n : ℕ). holds n h) (number r)
 -- a call holds the lists of its Put
 pub call_lists : (table : List (Option Entry)) (c : Call) (h : ℕ) → call_holds c h ≡ times h (lists_of (put_of_call table c))
 call_lists table c h =
-    let cells = map number_of (arguments_in table c.args) in
+    let cells = map argument_list (arguments_in table c.args) in
     omega (arith, sum_by-cons (λ (n : ℕ). holds n h) (number c.body) (numbers (open_number c.argument ∷ cells)), open_numbers c.argument cells h, cells_numbers table (take c.args.count c.args.lists) h)

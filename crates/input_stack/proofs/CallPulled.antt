@@ -10,7 +10,7 @@ use Rattle.macro_args.specs.declared.args.Args.{Args}
 use Rattle.input_stack.specs.declared.reader.Reader.{Reader}
 use Rattle.input_stack.specs.declared.call.Call.{Call}
 use Rattle.input_stack.specs.Puts.{Item, Text, First, Later, Gap, first, without_gaps, count_of}
-use Rattle.input_stack.specs.Calls.{Argument, number_of, spread, placed_argument, token_items, substituted}
+use Rattle.input_stack.specs.Calls.{Argument, argument_list, spread, placed_argument, token_items, substituted}
 use Rattle.input_stack.specs.Rest.{number, rest, IsAt}
 use Rattle.input_stack.specs.CallViews.{arguments_in, open_items, open_number, open_tokens, open_holds, items_of, is_gap, IsCall, IsSettled, IsCountable, Hands, HandsOn, CallGives, CallPulls, Closes}
 use Rattle.input_stack.proofs.CallKept.{arguments_same, at_same}
@@ -84,7 +84,7 @@ module _ (table : List (Option Entry)) (b : Reader) (args : Args) (r r' : Reader
 
   later_gives : (t : Token) (vs : List Token) → rest table r' ≡ vs → IsCall table whole → CallGives table table whole later (Later (number r) t) (map (Later (number r)) vs ++ behind)
   later_gives t vs left is = record {
-    after = ap₂ (λ (k : ℕ) (us : List Token). record { list = number b; body = true; arguments = map number_of (arguments_in table args); reading = Some k; items = map (Later k) us ++ substituted (arguments_in table args) (rest table b) }) same left;
+    after = ap₂ (λ (k : ℕ) (us : List Token). record { list = number b; body = true; arguments = map argument_list (arguments_in table args); reading = Some k; items = map (Later k) us ++ substituted (arguments_in table args) (rest table b) }) same left;
     stands = record { body = is.body; argument = at; filled = is.filled; held = is.held };
     shares = record { size = refl; tokens = λ h. refl; places = λ h. refl; holders = λ h. omega arith; held = λ h some. absurd (omega (arith, some)) };
     held = λ h. omega (arith, ap (λ (k : ℕ). holds k h) same);
@@ -178,8 +178,8 @@ module _ (old new : List (Option Entry)) (c : Call) (m : Reader) (argument : Opt
       ∙ ap (λ (ts : List Token). xs ++ substituted (arguments_in old c.args) (drop m.read ts)) (s.tokens (number m)) in
       record {
         after =
-            ap₂ (λ (n : ℕ) (ys : List Item). record { list = n; body = true; arguments = map number_of (arguments_in new c.args); reading = open_number argument; items = ys }) same left
-            ∙ ap₂ (λ (o : Option ℕ) (args : List (Option Argument)). record { list = number c.body; body = true; arguments = map number_of args; reading = o; items = xs ++ substituted (arguments_in old c.args) (rest old m) }) hands.reading a;
+            ap₂ (λ (n : ℕ) (ys : List Item). record { list = n; body = true; arguments = map argument_list (arguments_in new c.args); reading = open_number argument; items = ys }) same left
+            ∙ ap₂ (λ (o : Option ℕ) (args : List (Option Argument)). record { list = number c.body; body = true; arguments = map argument_list args; reading = o; items = xs ++ substituted (arguments_in old c.args) (rest old m) }) hands.reading a;
         stands = record {
           body = at_same old new m (s.tokens (number m)) (s.places (number m)) (omega (arith, s.holders (number m), at.held)) at;
           argument = hands.at_next;

@@ -15,9 +15,9 @@ use Rattle.input_stack.specs.declared.call.Call.{Call}
 use Rattle.input_stack.specs.declared.level.Level.{Level}
 use Rattle.input_stack.specs.declared.level.Level.TheVariants as level
 use Rattle.input_stack.specs.Puts.{Item, Put, put_top, is_empty}
-use Rattle.input_stack.specs.Calls.{number_of, substituted, body_of, call_put}
+use Rattle.input_stack.specs.Calls.{argument_list, substituted, body_of, call_put}
 use Rattle.input_stack.specs.Rest.{number, rest, IsAt}
-use Rattle.input_stack.specs.Pending.{Pending, with_puts, settle, put, room, used_levels, used_parameters, parameter_room, either, call_refusal}
+use Rattle.input_stack.specs.Pending.{Pending, with_puts, end_token_lists, put, room, used_levels, used_parameters, parameter_room, either, call_refusal}
 use Rattle.input_stack.specs.CallViews.{arguments_in, call_holds, put_of_call, IsCall}
 use Rattle.input_stack.specs.Pushes.{pushed_holds}
 use Rattle.input_stack.specs.View.{pending_in, in_front, held_in}
@@ -29,7 +29,7 @@ use Rattle.input_stack.proofs.Kept.{Stay, leaves, pending_stays, read_stays}
 put_none : (x : Put) (xs : List Item) (p : Pending) → xs ≡ [] → with_puts (put_top x xs p.puts) p ≡ p
 put_none x xs p is = ap (λ (ys : List Item). with_puts (put_top x ys p.puts) p) is
 
-put_some : (x : Put) (xs : List Item) (p : Pending) → is_empty xs ≡ false → in_front x (settle p) ≡ with_puts (put_top x xs p.puts) p
+put_some : (x : Put) (xs : List Item) (p : Pending) → is_empty xs ≡ false → in_front x (end_token_lists p) ≡ with_puts (put_top x xs p.puts) p
 put_some x [] p is = cc
 put_some x (y ∷ ys) p is = refl
 
@@ -57,7 +57,7 @@ module _ (old : List (Option Entry)) (f : ℕ → ℕ) (body : ListRef) (args : 
   pub call_is : put_of_call old call ≡ put_is
   call_is =
       ap (put_of_call old) is
-      ∙ ap₂ (λ (n : ℕ) (ts : List Token). record { list = n; body = true; arguments = map number_of (arguments_in old args); reading = None; items = substituted (arguments_in old args) ts }) same left
+      ∙ ap₂ (λ (n : ℕ) (ts : List Token). record { list = n; body = true; arguments = map argument_list (arguments_in old args); reading = None; items = substituted (arguments_in old args) ts }) same left
 
   pub holds_are : (h : ℕ) → call_holds call h ≡ pushed_holds body args h
   holds_are h = omega (arith, ap (λ (c : Call). call_holds c h) is, ap (λ (n : ℕ). holds n h) same, filled_holds args h filled)
@@ -109,7 +109,7 @@ module _ (old : List (Option Entry)) (f : ℕ → ℕ) (body : ListRef) (args : 
       pub call_level : IsCall mid call
       call_level = call_stands old mid (call_holds call) tokens (λ h some. keeps.places h (omega (arith, some, covers h, holds_are h))) (λ h some. omega (arith, some, covers h, holds_are h, moves h)) call (λ h. omega arith) stands_old
 
-      pub call_pending : (xs ls : List Level) (p : Pending) → xs ≡ level.Call call ∷ ls → pending_in mid ls ≡ settle p → pending_in mid xs ≡ put put_is p
+      pub call_pending : (xs ls : List Level) (p : Pending) → xs ≡ level.Call call ∷ ls → pending_in mid ls ≡ end_token_lists p → pending_in mid xs ≡ put put_is p
       call_pending xs ls p at_top after =
           ap (pending_in mid) at_top
           ∙ ap₂ in_front (call_same old mid call tokens ∙ call_is) after

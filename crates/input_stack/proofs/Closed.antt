@@ -14,14 +14,14 @@ use Rattle.input_stack.specs.declared.level.Level.TheVariants as level
 use Rattle.input_stack.specs.Puts.{Item, Put, Text, Later, is_empty, is_finished}
 use Rattle.input_stack.specs.Calls.{Argument, spread, placed_argument, token_items, substituted}
 use Rattle.input_stack.specs.Rest.{number, rest}
-use Rattle.input_stack.specs.Pending.{Pending, settle}
+use Rattle.input_stack.specs.Pending.{Pending, end_token_lists}
 use Rattle.input_stack.specs.CallViews.{arguments_in, open_items, open_tokens, open_number, open_holds, call_holds, items_of, put_of_call, IsCall, IsSettled, Closes}
 use Rattle.input_stack.specs.Levels.{LevelCloses, is_level_finished}
 use Rattle.input_stack.specs.View.{pending_in, in_front, level_holds, level_open, level_arguments, held_in}
 use Rattle.input_stack.specs.Standing.{IsLevel, IsUnfinished, AreUnfinished, AreRead}
 use Rattle.input_stack.proofs.CallKept.{call_same, call_stands}
 use Rattle.input_stack.proofs.Kept.{Stay, leave, held_cons, pending_stays, levels_stay, unfinished_stay}
-use Rattle.input_stack.proofs.Settled.{head_settle, closed_settle}
+use Rattle.input_stack.proofs.ListsEnded.{head_settle, closed_settle}
 
 -- A BODY'S ITEMS
 
@@ -84,7 +84,7 @@ module _ (old new : List (Option Entry)) (c : Call) (f : ℕ → ℕ) (covers : 
   pub closed_unfinished : IsSettled None (items_of new after)
   closed_unfinished = subst (λ (p : Put). IsSettled None p.items) (sym same) settled
 
-  pub closed_pending : (q : Pending) → in_front (put_of_call new after) q ≡ settle (in_front (put_of_call old c) q)
+  pub closed_pending : (q : Pending) → in_front (put_of_call new after) q ≡ end_token_lists (in_front (put_of_call old c) q)
   closed_pending q = ap (λ (p : Put). in_front p q) same ∙ sym (closed_settle (put_of_call old c) (put_of_call old after) q refl refl refl items (subst (IsSettled None) items settled))
 
 -- LEVELS
@@ -93,7 +93,7 @@ module _ (old new : List (Option Entry)) (c : Call) (f : ℕ → ℕ) (covers : 
 pub record IsClosed (old new : List (Option Entry)) (l l' : Level) (ls : List Level) (b : Bool) : Type 0 where
   pub level : IsLevel new l'
   pub unfinished : IsUnfinished new l'
-  pub after : pending_in new (l' ∷ ls) ≡ settle (pending_in old (l ∷ ls))
+  pub after : pending_in new (l' ∷ ls) ≡ end_token_lists (pending_in old (l ∷ ls))
   pub levels : level_open l ≡ level_open l' + cond b 1 0
   pub counts : level_arguments l' ≡ level_arguments l
   pub stays : Stay old new (held_in ls)
@@ -174,8 +174,8 @@ module _ (old new : List (Option Entry)) (l l' : Level) (xs ys ls : List Level) 
   pub closed_all : AreUnfinished new ys
   closed_all = subst (AreUnfinished new) (sym at) (All-cons (IsUnfinished new) l' ls k.unfinished below)
 
-  pub closed_after : pending_in new ys ≡ settle (pending_in old xs)
-  closed_after = ap (pending_in new) at ∙ k.after ∙ ap (λ (zs : List Level). settle (pending_in old zs)) (sym is)
+  pub closed_after : pending_in new ys ≡ end_token_lists (pending_in old xs)
+  closed_after = ap (pending_in new) at ∙ k.after ∙ ap (λ (zs : List Level). end_token_lists (pending_in old zs)) (sym is)
 
   pub closed_held : Moves old new (held_in xs) (held_in ys)
   closed_held h = omega (arith, k.moves h, held_cons l ls h, held_cons l' ls h, ap (λ (zs : List Level). held_in zs h) is, ap (λ (zs : List Level). held_in zs h) at)

@@ -13,11 +13,11 @@ use Rattle.input_stack.specs.Pulls.{Passes}
 use Rattle.input_stack.specs.View.{pending_in, put_of}
 
 -- the first of some items, or of those behind gaps
-abbrev pub first_of : List Item → List Item → Option Item
-first_of [] ys = first (without_gaps ys)
-first_of (x ∷ xs) ys = Some x
+abbrev pub first_item : List Item → List Item → Option Item
+first_item [] ys = first (without_gaps ys)
+first_item (x ∷ xs) ys = Some x
 
-pub gaps_first : (xs ys : List Item) → first (without_gaps (xs ++ ys)) ≡ first_of (without_gaps xs) ys
+pub gaps_first : (xs ys : List Item) → first (without_gaps (xs ++ ys)) ≡ first_item (without_gaps xs) ys
 gaps_first [] ys = refl
 gaps_first (Text t ∷ xs) ys = refl
 gaps_first (First n t ∷ xs) ys = refl
@@ -33,7 +33,7 @@ gaps_none (Gap ∷ xs) ys is = gaps_none xs ys is
 
 -- what is next, where a list on top has an item that is no gap
 pub next_top : (p : Put) (ps : List Put) (x : Item) (left : List Item) → without_gaps p.items ≡ x ∷ left → next_item (p ∷ ps) ≡ Some x
-next_top p ps x left is = gaps_first p.items (flat ps) ∙ ap (λ (xs : List Item). first_of xs (flat ps)) is
+next_top p ps x left is = gaps_first p.items (flat ps) ∙ ap (λ (xs : List Item). first_item xs (flat ps)) is
 
 pub pulled_is : (p : Put) (ps : List Put) (x : Item) (left : List Item) → without_gaps p.items ≡ x ∷ left → pulled (p ∷ ps) ≡ record { list = p.list; body = p.body; arguments = p.arguments; reading = argument_of x; items = left } ∷ ps
 pulled_is p ps x left is = ap (λ (xs : List Item). pulled_top p xs (pulled ps) ps) is

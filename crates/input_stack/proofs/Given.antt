@@ -8,7 +8,7 @@ use Rattle.tex_defs.specs.declared.Full.{Full}
 use Rattle.token_lists.specs.Table.{Entry, tokens_at, holders_at}
 use Rattle.token_lists.specs.Accounts.{holds, Covers}
 use Rattle.macro_args.specs.declared.args.Args.{Args}
-use Rattle.input_stack.specs.Puts.{Put, Item, Text, First, Later, Gap, first, without_gaps, flat, next_item, later_of, argument_of, settled, settled_top, pulled, pulled_top}
+use Rattle.input_stack.specs.Puts.{Put, Item, Text, First, Later, Gap, first, without_gaps, flat, next_item, later_of, argument_of, without_ended, settled_top, pulled, pulled_top}
 use Rattle.input_stack.specs.CallViews.{put_of_call, met, is_opening, opened, Shares, IsCountable}
 use Rattle.input_stack.specs.declared.level.Level.{Level}
 use Rattle.input_stack.specs.declared.level.Level.TheVariants as level
@@ -16,13 +16,13 @@ use Rattle.input_stack.specs.declared.level.Pulled.{Pulled}
 use Rattle.input_stack.specs.declared.level.Pulled.TheVariants as pulled_as
 use Rattle.input_stack.specs.Rest.{number, rest, IsAt}
 use Rattle.input_stack.specs.Lasting.{LastsBut}
-use Rattle.input_stack.specs.Pending.{Pending, Below, with_puts, settle, plain_put, room, used_levels}
+use Rattle.input_stack.specs.Pending.{Pending, Below, with_puts, end_token_lists, plain_put, room, used_levels}
 use Rattle.input_stack.specs.Pulls.{Pulls, PullsTop, Passes, token_in, is_line_end, HandsOn, refused_at, PullsItem, PullsFrom, IsInBuffer}
 use Rattle.input_stack.specs.Levels.{LevelPulls, level_item, IsLevelInBuffer}
 use Rattle.input_stack.specs.View.{pending_in, in_front, over, level_holds, level_open, level_arguments, held_in, IsSourceOnTop}
 use Rattle.input_stack.specs.Standing.{IsLevel, IsUnfinished, AreUnfinished, AreRead}
 use Rattle.input_stack.proofs.Kept.{Stay, held_cons, pending_stays, levels_stay, unfinished_stay}
-use Rattle.input_stack.proofs.Settled.{used_settle}
+use Rattle.input_stack.proofs.ListsEnded.{used_settle}
 use Rattle.input_stack.proofs.Backs.{settle_twice}
 use Rattle.input_stack.proofs.Gaps.{next_top, pulled_is}
 use Rattle.input_stack.proofs.Tops.{no_levels}
@@ -31,11 +31,11 @@ top_flat : (p : Put) (xs : List Item) (below rest : List Put) → flat below ≡
 top_flat p [] below rest is = is
 top_flat p (x ∷ xs) below rest is = refl
 
-flat_settled : (ps : List Put) → flat (settled ps) ≡ flat ps
+flat_settled : (ps : List Put) → flat (without_ended ps) ≡ flat ps
 flat_settled [] = refl
-flat_settled (p ∷ ps) = top_flat p p.items (settled ps) ps (flat_settled ps)
+flat_settled (p ∷ ps) = top_flat p p.items (without_ended ps) ps (flat_settled ps)
 
-pub next_settled : (ps : List Put) → next_item (settled ps) ≡ next_item ps
+pub next_settled : (ps : List Put) → next_item (without_ended ps) ≡ next_item ps
 next_settled ps = ap (λ (xs : List Item). first (without_gaps xs)) (flat_settled ps)
 
 same_top : (p q : Put) (xs : List Item) (below rest : List Put) → q.list ≡ p.list → q.body ≡ p.body → q.arguments ≡ p.arguments → pulled_top q xs below rest ≡ pulled_top p xs below rest
@@ -46,29 +46,29 @@ top_pulled : (p : Put) (xs : List Item) (below rest : List Put) → pulled below
 top_pulled p [] below rest is = is
 top_pulled p (x ∷ xs) below rest is = same_top p (record { list = p.list; body = p.body; arguments = p.arguments; reading = later_of x; items = x ∷ xs }) (without_gaps (x ∷ xs)) (pulled rest) rest refl refl refl
 
-pulled_settled : (ps : List Put) → pulled (settled ps) ≡ pulled ps
+pulled_settled : (ps : List Put) → pulled (without_ended ps) ≡ pulled ps
 pulled_settled [] = refl
-pulled_settled (p ∷ ps) = top_pulled p p.items (settled ps) ps (pulled_settled ps)
+pulled_settled (p ∷ ps) = top_pulled p p.items (without_ended ps) ps (pulled_settled ps)
 
-refused_settled : (size : ℕ) (x : Item) (p : Pending) → refused_at size x (settle p) ≡ refused_at size x p
+refused_settled : (size : ℕ) (x : Item) (p : Pending) → refused_at size x (end_token_lists p) ≡ refused_at size x p
 refused_settled size (Text t) p = refl
 refused_settled size (First n t) p = ap (room size) (used_settle p)
 refused_settled size (Later n t) p = refl
 refused_settled size Gap p = refl
 
-hands_settled : (b d : List ℕ) (p q : Pending) (x : Item) (o : Option Full) (r : Result Pulled Full) → HandsOn b d (settle p) q x o r → HandsOn b d p q x o r
+hands_settled : (b d : List ℕ) (p q : Pending) (x : Item) (o : Option Full) (r : Result Pulled Full) → HandsOn b d (end_token_lists p) q x o r → HandsOn b d p q x o r
 hands_settled b d p q x None r h = (h.0, h.1 ∙ ap (λ (ps : List Put). with_puts ps p) (pulled_settled p.puts), h.2)
 hands_settled b d p q x (Some f) r h = (h.0, h.1 ∙ settle_twice p, h.2)
 
-item_settled : (size : ℕ) (c b d : List ℕ) (p q : Pending) (o : Option Item) (r : Result Pulled Full) → PullsItem size c b d (settle p) q o r → PullsItem size c b d p q o r
+item_settled : (size : ℕ) (c b d : List ℕ) (p q : Pending) (o : Option Item) (r : Result Pulled Full) → PullsItem size c b d (end_token_lists p) q o r → PullsItem size c b d p q o r
 item_settled size c b d p q None r h = h
 item_settled size c b d p q (Some x) r h =
-    hands_settled b d p q x (refused_at size x p) r (subst (λ (o : Option Full). HandsOn b d (settle p) q x o r) (refused_settled size x p) h)
+    hands_settled b d p q x (refused_at size x p) r (subst (λ (o : Option Full). HandsOn b d (end_token_lists p) q x o r) (refused_settled size x p) h)
 
-pub pulls_settled : (size : ℕ) (c b d : List ℕ) (p q s : Pending) (r : Result Pulled Full) → s ≡ settle p → Pulls size c b d s q r → Pulls size c b d p q r
+pub pulls_settled : (size : ℕ) (c b d : List ℕ) (p q s : Pending) (r : Result Pulled Full) → s ≡ end_token_lists p → Pulls size c b d s q r → Pulls size c b d p q r
 pulls_settled size c b d p q s r is h =
-    let k : Pulls size c b d (settle p) q r = subst (λ (x : Pending). Pulls size c b d x q r) is h in
-    item_settled size c b d p q (next_item p.puts) r (subst (λ (o : Option Item). PullsItem size c b d (settle p) q o r) (next_settled p.puts) k)
+    let k : Pulls size c b d (end_token_lists p) q r = subst (λ (x : Pending). Pulls size c b d x q r) is h in
+    item_settled size c b d p q (next_item p.puts) r (subst (λ (o : Option Item). PullsItem size c b d (end_token_lists p) q o r) (next_settled p.puts) k)
 
 -- WHAT STANDS ON TOP
 
@@ -222,13 +222,13 @@ has_room true o is t = is
 has_room false o is t = cc
 
 -- an item is handed on, or the innermost line gives something
-pub pull_ok : (size n : ℕ) (c b d : List ℕ) (p p1 p2 q : Pending) (r : Pulled) (opening : Bool) → p1 ≡ settle p → Passes p1 p2 → opening ≡ is_opening (met (next_item p1.puts)) → n ≡ used_levels p → cond opening (room size n) None ≡ None → PullsTop c b d p2 q (next_item p2.puts) r → Pulls size c b d p q (Ok r)
+pub pull_ok : (size n : ℕ) (c b d : List ℕ) (p p1 p2 q : Pending) (r : Pulled) (opening : Bool) → p1 ≡ end_token_lists p → Passes p1 p2 → opening ≡ is_opening (met (next_item p1.puts)) → n ≡ used_levels p → cond opening (room size n) None ≡ None → PullsTop c b d p2 q (next_item p2.puts) r → Pulls size c b d p q (Ok r)
 pull_ok size n c b d p p1 p2 q r opening at passes is used free h =
     let k = passes_item c b d p1 p2 q (next_item p1.puts) r passes (subst (λ (o : Option Item). PullsTop c b d p2 q o r) passes.next h) in
     let levels : used_levels p1 ≡ n = ap used_levels at ∙ used_settle p ∙ sym used in
     pulls_settled size c b d p q p1 (Ok r) at (top_item size c b d p1 q (next_item p1.puts) r (λ t. ap (room size) levels ∙ has_room opening (room size n) free (is ∙ t)) k)
 
-err_item : (size : ℕ) (c b : List ℕ) (p q : Pending) (o : Option Item) (f : Full) → is_opening (met o) ≡ true → room size (used_levels p) ≡ Some f → q ≡ settle p → PullsItem size c b b p q o (Err f)
+err_item : (size : ℕ) (c b : List ℕ) (p q : Pending) (o : Option Item) (f : Full) → is_opening (met o) ≡ true → room size (used_levels p) ≡ Some f → q ≡ end_token_lists p → PullsItem size c b b p q o (Err f)
 err_item size c b p q None f t is after = cc
 err_item size c b p q (Some (Text u)) f t is after = cc
 err_item size c b p q (Some (First n u)) f t is after = subst (λ (g : Option Full). HandsOn b b p q (First n u) g (Err f)) (sym is) (refl, after, refl)
@@ -240,11 +240,11 @@ refused_by true o f is = (refl, is)
 refused_by false o f is = absurd (none-some f is)
 
 -- an argument's level has no room
-pub pull_err : (size n : ℕ) (c b : List ℕ) (p p1 : Pending) (f : Full) (opening : Bool) → p1 ≡ settle p → opening ≡ is_opening (met (next_item p1.puts)) → n ≡ used_levels p → cond opening (room size n) None ≡ Some f → Pulls size c b b p p1 (Err f)
+pub pull_err : (size n : ℕ) (c b : List ℕ) (p p1 : Pending) (f : Full) (opening : Bool) → p1 ≡ end_token_lists p → opening ≡ is_opening (met (next_item p1.puts)) → n ≡ used_levels p → cond opening (room size n) None ≡ Some f → Pulls size c b b p p1 (Err f)
 pull_err size n c b p p1 f opening at is used full =
     let k = refused_by opening (room size n) f full in
     let levels : used_levels p1 ≡ n = ap used_levels at ∙ used_settle p ∙ sym used in
-    pulls_settled size c b b p p1 p1 (Err f) at (err_item size c b p1 p1 (next_item p1.puts) f (sym is ∙ k.0) (ap (room size) levels ∙ k.1) (at ∙ sym (settle_twice p) ∙ ap settle (sym at)))
+    pulls_settled size c b b p p1 p1 (Err f) at (err_item size c b p1 p1 (next_item p1.puts) f (sym is ∙ k.0) (ap (room size) levels ∙ k.1) (at ∙ sym (settle_twice p) ∙ ap end_token_lists (sym at)))
 
 -- an argument's level that opens has room
 pub opening_fits : (opening : Bool) (len lv size more other : ℕ) → more ≡ cond opening 1 0 → (IsTrue opening → len + lv < size) → len + lv ≤ size → other ≡ len → other + (lv + more) ≤ size
@@ -263,7 +263,7 @@ countable_less old new (Some Gap) fewer a = tt
 pub countable_stays : (old new : List (Option Entry)) (o p : Option Item) → ((h : ℕ) → holders_at new h ≤ holders_at old h) → p ≡ o → IsCountable old o → IsCountable new p
 countable_stays old new o p fewer is a = subst (IsCountable new) (sym is) (countable_less old new o fewer a)
 
-pub next_same : (p p1 p2 : Pending) → p1 ≡ settle p → Passes p1 p2 → next_item p2.puts ≡ next_item p.puts
+pub next_same : (p p1 p2 : Pending) → p1 ≡ end_token_lists p → Passes p1 p2 → next_item p2.puts ≡ next_item p.puts
 next_same p p1 p2 at passes = passes.next ∙ ap (λ (x : Pending). next_item x.puts) at ∙ next_settled p.puts
 
 held_before : (more held : ℕ) → 0 < held + more → (0 < more → 0 < held) → 0 < held

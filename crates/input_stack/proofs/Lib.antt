@@ -7,7 +7,7 @@ pub mod CallPulled
 pub mod LevelItems
 pub mod Rests
 pub mod Kept
-pub mod Settled
+pub mod ListsEnded
 pub mod Closed
 pub mod Tops
 pub mod Pushed

@@ -12,18 +12,18 @@ use Rattle.token_lists.specs.Accounts.{holds, none, Moves, Keeps, Covers}
 use Rattle.macro_args.specs.declared.args.Args.{Args}
 use Rattle.input_stack.specs.declared.call.Call.{Call}
 use Rattle.input_stack.specs.Puts.{Item, Put, Text}
-use Rattle.input_stack.specs.Calls.{number_of, substituted}
+use Rattle.input_stack.specs.Calls.{argument_list, substituted}
 use Rattle.input_stack.specs.CallViews.{argument_in, put_of_call}
 use Rattle.input_stack.specs.declared.reader.Reader.{Reader}
 use Rattle.input_stack.specs.declared.level.Level.{Level}
 use Rattle.input_stack.specs.declared.stack.InputStack.{InputStack}
 use Rattle.input_stack.specs.Rest.{number, rest}
-use Rattle.input_stack.specs.Pending.{Pending, settle, put, listed_put, shared_put, refusal, room, parameter_room, either, used_levels, used_parameters}
+use Rattle.input_stack.specs.Pending.{Pending, end_token_lists, put, listed_put, shared_put, refusal, room, parameter_room, either, used_levels, used_parameters}
 use Rattle.input_stack.specs.View.{pending_in, in_front, innermost, level_holds, held_in}
 use Rattle.input_stack.specs.Standing.{IsLevel, AreUnfinished, AreRead, Fits}
 use Rattle.input_stack.proofs.Kept.{Stay, leaves, pending_stays, read_stays, held_cons, holds_itself}
 use Rattle.input_stack.proofs.CallItems.{without_arguments}
-use Rattle.input_stack.proofs.Settled.{levels_used, used_settle, arguments_used, parameters_settle}
+use Rattle.input_stack.proofs.ListsEnded.{levels_used, used_settle, arguments_used, parameters_settle}
 
 pub no_tokens : (o : Option ℕ) (b : Bool) (ts : List Token) → is_some o ≡ not b → b ≡ true → IsSome o ↔ (0 < length ts) → ts ≡ []
 no_tokens o b [] k is ends = refl
@@ -56,10 +56,10 @@ pub refused : (n size : ℕ) (ts : List Token) (p : Pending) → 0 < length ts �
 refused n size [] p some is = absurd (omega arith)
 refused n size (t ∷ ts) p some is = rw is refl
 
-pub used_is : (table : List (Option Entry)) (s : InputStack) (p : Pending) → Fits s → AreUnfinished table (innermost s) → pending_in table (innermost s) ≡ settle p → length s.levels.items + s.argument_levels ≡ used_levels p
+pub used_is : (table : List (Option Entry)) (s : InputStack) (p : Pending) → Fits s → AreUnfinished table (innermost s) → pending_in table (innermost s) ≡ end_token_lists p → length s.levels.items + s.argument_levels ≡ used_levels p
 used_is table s p f a is = omega (arith, length-reverse s.levels.items, f.opens, levels_used table (innermost s) a, ap used_levels is, used_settle p)
 
-pub parameters_are : (table : List (Option Entry)) (s : InputStack) (p : Pending) → Fits s → AreRead table (innermost s) → AreUnfinished table (innermost s) → pending_in table (innermost s) ≡ settle p → s.arguments ≡ used_parameters p
+pub parameters_are : (table : List (Option Entry)) (s : InputStack) (p : Pending) → Fits s → AreRead table (innermost s) → AreUnfinished table (innermost s) → pending_in table (innermost s) ≡ end_token_lists p → s.arguments ≡ used_parameters p
 parameters_are table s p f a u is = omega (arith, f.counts, arguments_used table (innermost s) a.levels u, ap used_parameters is, parameters_settle p)
 
 room_test : (size used : ℕ) (b : Bool) → nat_lt used size ≡ b → room size used ≡ None → used < size
@@ -89,11 +89,11 @@ neither (Some full) b is = absurd (none-some full (sym is))
 pub put_tokens : (old mid : List (Option Entry)) (n : ℕ) (f : ℕ → ℕ) → Covers old (λ h. holds n h + f h) → Keeps old mid f → tokens_at mid n ≡ tokens_at old n
 put_tokens old mid n f covers keeps = keeps.tokens n (omega (arith, covers n, holds_itself n))
 
-put_is : (shared : Bool) (n : ℕ) (ts : List Token) (p : Pending) → 0 < length ts → in_front (listed_put shared n ts) (settle p) ≡ put (listed_put shared n ts) p
+put_is : (shared : Bool) (n : ℕ) (ts : List Token) (p : Pending) → 0 < length ts → in_front (listed_put shared n ts) (end_token_lists p) ≡ put (listed_put shared n ts) p
 put_is shared n [] p some = absurd (omega arith)
 put_is shared n (t ∷ ts) p some = refl
 
-pub put_ok : (shared : Bool) (mid : List (Option Entry)) (l : Level) (n : ℕ) (us ts : List Token) (xs ls : List Level) (p : Pending) → xs ≡ l ∷ ls → pending_in mid (l ∷ ls) ≡ in_front (listed_put shared n us) (pending_in mid ls) → us ≡ ts → 0 < length ts → pending_in mid ls ≡ settle p → pending_in mid xs ≡ put (listed_put shared n ts) p
+pub put_ok : (shared : Bool) (mid : List (Option Entry)) (l : Level) (n : ℕ) (us ts : List Token) (xs ls : List Level) (p : Pending) → xs ≡ l ∷ ls → pending_in mid (l ∷ ls) ≡ in_front (listed_put shared n us) (pending_in mid ls) → us ≡ ts → 0 < length ts → pending_in mid ls ≡ end_token_lists p → pending_in mid xs ≡ put (listed_put shared n ts) p
 put_ok shared mid l n us ts xs ls p is at same some q =
     ap (pending_in mid) is ∙ at ∙ ap₂ (λ (vs : List Token) (r : Pending). in_front (listed_put shared n vs) r) same q ∙ put_is shared n ts p some
 
@@ -101,7 +101,7 @@ put_ok shared mid l n us ts xs ls p is at same some q =
 pub shared_is : (table : List (Option Entry)) (call : Call) (r : Reader) (args : Args) (n : ℕ) (ts : List Token) → call ≡ record { body = r; argument = None; args = args } → args.count ≡ 0 → number r ≡ n → rest table r ≡ ts → put_of_call table call ≡ shared_put n ts
 shared_is table call r args n ts is few a b =
     ap (put_of_call table) is
-    ∙ ap (λ (k : ℕ). let xs = map (argument_in table) (take k args.lists) in let x : Put = record { list = number r; body = true; arguments = map number_of xs; reading = None; items = substituted xs (rest table r) } in x) few
+    ∙ ap (λ (k : ℕ). let xs = map (argument_in table) (take k args.lists) in let x : Put = record { list = number r; body = true; arguments = map argument_list xs; reading = None; items = substituted xs (rest table r) } in x) few
     ∙ ap₂ (λ (k : ℕ) (us : List Token). let x : Put = record { list = k; body = true; arguments = []; reading = None; items = substituted [] us } in x) a b
     ∙ ap (λ (xs : List Item). let x : Put = record { list = n; body = true; arguments = []; reading = None; items = xs } in x) (without_arguments ts)
 

@@ -16,7 +16,7 @@ use Rattle.input_stack.specs.Pending.{Pending, Below, plain_put}
 use Rattle.line_lexer.specs.declared.Ahead.{Ahead}
 use Rattle.input_stack.specs.Puts.{Item, Put, next_item, first, without_gaps, flat}
 use Rattle.input_stack.specs.CallViews.{put_of_call}
-use Rattle.input_stack.proofs.Gaps.{first_of, gaps_first, gaps_none}
+use Rattle.input_stack.proofs.Gaps.{first_item, gaps_first, gaps_none}
 use Rattle.input_stack.specs.Pulls.{looks, is_ready, item_looks, item_ready, line_looks, line_ready, is_token, IsInBuffer}
 use Rattle.input_stack.specs.Levels.{level_looks, when_left, when_met, is_ahead, IsLevelInBuffer}
 use Rattle.input_stack.specs.View.{pending_in, in_front}
@@ -45,7 +45,7 @@ item_ready_is c b bs (Some x) = refl
 pub ready_is : (c b : List ℕ) (p : Pending) → is_ahead (looks c b p) ≡ is_ready c b p
 ready_is c b p = item_ready_is c b p.sources (next_item p.puts)
 
-items_some : (c b : List ℕ) (bs : List Below) (xs ys : List Item) (r : Ahead) → when_met (first xs) ≡ Some r → r ≡ item_looks c b bs (first_of xs ys)
+items_some : (c b : List ℕ) (bs : List Below) (xs ys : List Item) (r : Ahead) → when_met (first xs) ≡ Some r → r ≡ item_looks c b bs (first_item xs ys)
 items_some c b bs [] ys r is = absurd (none-some r is)
 items_some c b bs (x ∷ xs) ys r is = sym (same_Some _ _ is)
 

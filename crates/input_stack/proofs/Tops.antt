@@ -8,18 +8,18 @@ use Rattle.std.proofs.Math.Seq.{take-suc}
 use Rattle.tex_defs.specs.declared.Token.{Token}
 use Rattle.token_lists.specs.Table.{Entry, holders_at}
 use Rattle.token_lists.specs.Accounts.{none, Moves, Keeps}
-use Rattle.input_stack.specs.Puts.{Put, Item, Text, is_empty, is_finished, settled, when_some, used_arguments}
+use Rattle.input_stack.specs.Puts.{Put, Item, Text, is_empty, is_finished, without_ended, when_some, used_arguments}
 use Rattle.input_stack.specs.declared.level.Level.{Level}
 use Rattle.input_stack.specs.declared.level.Level.TheVariants as level
 use Rattle.input_stack.specs.declared.stack.InputStack.{InputStack}
-use Rattle.input_stack.specs.Pending.{Pending, Below, settle, with_puts, without_top, used_parameters}
+use Rattle.input_stack.specs.Pending.{Pending, Below, end_token_lists, with_puts, without_top, used_parameters}
 use Rattle.input_stack.specs.Rest.{rest}
 use Rattle.input_stack.specs.CallViews.{put_of_call}
 use Rattle.input_stack.specs.Levels.{is_level_finished, is_level_passed, is_top_passed}
 use Rattle.input_stack.specs.View.{pending_in, put_of, innermost, held_in, level_holds, level_open, open_in, level_arguments, arguments_of}
 use Rattle.input_stack.specs.Standing.{IsLevel, AreUnfinished, AreRead, Fits, IsSized, Stands}
 use Rattle.input_stack.proofs.Kept.{beneath_read, held_cons}
-use Rattle.input_stack.proofs.Settled.{finished_goes, open_cons, arguments_cons, arguments_used, put_count}
+use Rattle.input_stack.proofs.ListsEnded.{finished_goes, open_cons, arguments_cons, arguments_used, put_count}
 
 -- the last level is innermost
 pub top_is : (ls : List Level) (i : ℕ) (l : Level) → i + 1 ≡ length ls → l ≡ get_or ls i l → reverse ls ≡ l ∷ reverse (take i ls)
@@ -89,11 +89,11 @@ pub top_covers : (table : List (Option Entry)) (xs ls : List Level) (l : Level) 
 top_covers table xs ls l is a h = omega (arith, a.covers h, ap (λ (ys : List Level). held_in ys h) is, held_cons l ls h)
 
 -- settling takes a finished list on top away
-finished_top : (ps : List Put) → is_finished ps ≡ true → settled (drop 1 ps) ≡ settled ps
+finished_top : (ps : List Put) → is_finished ps ≡ true → without_ended (drop 1 ps) ≡ without_ended ps
 finished_top [] is = cc
-finished_top (p ∷ ps) is = sym (finished_goes p p.items (settled ps) ps is)
+finished_top (p ∷ ps) is = sym (finished_goes p p.items (without_ended ps) ps is)
 
-pub without_finished : (p : Pending) → is_finished p.puts ≡ true → settle (without_top p) ≡ settle p
+pub without_finished : (p : Pending) → is_finished p.puts ≡ true → end_token_lists (without_top p) ≡ end_token_lists p
 without_finished p is = ap (λ (ps : List Put). with_puts ps p) (finished_top p.puts is)
 
 pub finished_some : (ps : List Put) → is_finished ps ≡ true → 0 < length ps

@@ -13,7 +13,7 @@ use Rattle.input_stack.specs.declared.call.Call.{Call}
 use Rattle.input_stack.specs.declared.met.Met.{Met}
 use Rattle.input_stack.specs.declared.met.Met.TheVariants as met_as
 use Rattle.input_stack.specs.Puts.{Item, Text, First, Later, Gap, Put, later_of, argument_of, count_of}
-use Rattle.input_stack.specs.Calls.{Argument, number_of, substituted}
+use Rattle.input_stack.specs.Calls.{Argument, argument_list, substituted}
 use Rattle.input_stack.specs.Pulls.{token_in}
 use Rattle.input_stack.specs.Rest.{rest, number, IsAt}
 
@@ -47,7 +47,7 @@ abbrev pub items_of : List (Option Entry) → Call → List Item
 items_of table c = open_items table c.argument ++ substituted (arguments_in table c.args) (rest table c.body)
 
 abbrev pub put_of_call : List (Option Entry) → Call → Put
-put_of_call table c = record { list = number c.body; body = true; arguments = map number_of (arguments_in table c.args); reading = open_number c.argument; items = items_of table c }
+put_of_call table c = record { list = number c.body; body = true; arguments = map argument_list (arguments_in table c.args); reading = open_number c.argument; items = items_of table c }
 
 -- how often the arguments hold the list of a number
 abbrev pub arguments_hold : Args → ℕ → ℕ
@@ -115,7 +115,7 @@ pub record Shares (old new : List (Option Entry)) (more : ℕ → ℕ) : Type 0 
 
 -- the gaps in front are passed over and the item behind them is handed on
 pub record CallGives (old new : List (Option Entry)) (c c' : Call) (item : Item) (left : List Item) : Type 0 where
-  pub after : put_of_call new c' ≡ record { list = number c.body; body = true; arguments = map number_of (arguments_in old c.args); reading = argument_of item; items = left }
+  pub after : put_of_call new c' ≡ record { list = number c.body; body = true; arguments = map argument_list (arguments_in old c.args); reading = argument_of item; items = left }
   pub stands : IsCall new c'
   pub shares : Shares old new (opened (Some item))
   pub held : (h : ℕ) → call_holds c' h ≡ call_holds c h + opened (Some item) h

@@ -9,9 +9,9 @@ pub record Argument : Type 0 where
   pub list : ℕ
   pub tokens : List Token
 
-abbrev pub number_of : Option Argument → Option ℕ
-number_of None = None
-number_of (Some a) = Some a.list
+abbrev pub argument_list : Option Argument → Option ℕ
+argument_list None = None
+argument_list (Some a) = Some a.list
 
 abbrev pub tokens_of : Option Argument → List Token
 tokens_of None = []
@@ -52,7 +52,7 @@ body_of (t ∷ ts) = body_of ts
 
 -- a call of the macro whose list has this number and these tokens
 abbrev pub call_put : ℕ → List Token → List (Option Argument) → Put
-call_put n ts arguments = record { list = n; body = true; arguments = map number_of arguments; reading = None; items = substituted arguments (body_of ts) }
+call_put n ts arguments = record { list = n; body = true; arguments = map argument_list arguments; reading = None; items = substituted arguments (body_of ts) }
 
 -- THE TOKENS OF A CALL
 

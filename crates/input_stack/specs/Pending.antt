@@ -4,7 +4,7 @@ use Rattle.std.specs.Prelude.{◌≡◌, ℕ, ◌+◌, List, [], ◌∷◌, ◌+
 use Rattle.tex_defs.specs.declared.Token.{Token}
 use Rattle.tex_defs.specs.declared.Full.{Full}
 use Rattle.tex_defs.specs.declared.Table.TheVariants.{InputStackSize, ParameterStackSize}
-use Rattle.input_stack.specs.Puts.{Item, Text, Put, used, used_arguments, standing, standing_arguments, settled, put_in_front, lists_of}
+use Rattle.input_stack.specs.Puts.{Item, Text, Put, used, used_arguments, standing, standing_arguments, without_ended, put_in_front, lists_of}
 use Rattle.token_lists.specs.Accounts.{holds}
 use Rattle.line_lexer.specs.declared.Line.{Line}
 use Rattle.world_io.specs.declared.traits.InId.{InId}
@@ -55,8 +55,8 @@ abbrev pub shared_put : ℕ → List Token → Put
 shared_put n ts = listed_put true n ts
 
 -- the finished lists at the top go
-abbrev pub settle : Pending → Pending
-settle p = with_puts (settled p.puts) p
+abbrev pub end_token_lists : Pending → Pending
+end_token_lists p = with_puts (without_ended p.puts) p
 
 -- the list on top goes
 abbrev pub without_top : Pending → Pending

@@ -14,7 +14,7 @@ use Rattle.line_lexer.specs.declared.Ahead.TheVariants as ahead
 use Rattle.input_stack.specs.declared.level.Source.{Source}
 use Rattle.input_stack.specs.declared.level.Pulled.{Pulled}
 use Rattle.input_stack.specs.declared.level.Pulled.TheVariants as pulled_as
-use Rattle.input_stack.specs.Pending.{Pending, Below, with_puts, settle, room, used_levels}
+use Rattle.input_stack.specs.Pending.{Pending, Below, with_puts, end_token_lists, room, used_levels}
 
 abbrev pub token_in : Item → Token
 token_in (Text t) = t
@@ -61,7 +61,7 @@ refused_at size Gap p = None
 
 abbrev pub HandsOn : (old new : List ℕ) → Pending → Pending → Item → Option Full → Result Pulled Full → Type 0
 HandsOn old new p p' x None result = (result ≡ Ok (pulled_as.Token (token_in x))) × (p' ≡ with_puts (pulled p.puts) p) × (new ≡ old)
-HandsOn old new p p' x (Some full) result = (result ≡ Err full) × (p' ≡ settle p) × (new ≡ old)
+HandsOn old new p p' x (Some full) result = (result ≡ Err full) × (p' ≡ end_token_lists p) × (new ≡ old)
 
 abbrev pub PullsItem : ℕ → (categories old new : List ℕ) → Pending → Pending → Option Item → Result Pulled Full → Type 0
 PullsItem size categories old new p p' (Some x) result = HandsOn old new p p' x (refused_at size x p) result

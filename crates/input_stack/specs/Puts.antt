@@ -88,9 +88,9 @@ settled_top p [] below rest = below
 settled_top p (x ∷ xs) below rest = record { list = p.list; body = p.body; arguments = p.arguments; reading = later_of x; items = x ∷ xs } ∷ rest
 
 -- A finished Put stays, without items, until it is settled: as the next reading or the next push begins.
-abbrev pub settled : List Put → List Put
-settled [] = []
-settled (p ∷ ps) = settled_top p p.items (settled ps) ps
+abbrev pub without_ended : List Put → List Put
+without_ended [] = []
+without_ended (p ∷ ps) = settled_top p p.items (without_ended ps) ps
 
 abbrev pub without_gaps : List Item → List Item
 without_gaps [] = []
@@ -124,7 +124,7 @@ pulled (p ∷ ps) = pulled_top p (without_gaps p.items) (pulled ps) ps
 -- a Put in front; one without items is none
 abbrev pub put_top : Put → List Item → List Put → List Put
 put_top p [] puts = puts
-put_top p (x ∷ xs) puts = p ∷ settled puts
+put_top p (x ∷ xs) puts = p ∷ without_ended puts
 
 abbrev pub put_in_front : Put → List Put → List Put
 put_in_front p puts = put_top p p.items puts

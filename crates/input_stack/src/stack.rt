@@ -8,7 +8,7 @@ ghost use Rattle.input_stack.specs.Calls.{call_put};
 ghost use Rattle.input_stack.specs.CallViews.{arguments_in, met, is_opening, opened, Shares, IsCountable};
 ghost use Rattle.input_stack.specs.Pushes.{pushed_holds, call_refused};
 ghost use Rattle.input_stack.specs.Levels.{is_top_passed};
-ghost use Rattle.input_stack.specs.Pending.{levels, arguments, used_parameters, without_top, either, parameter_room, settle, put, plain_put, shared_put, listed_put, refusal, room, used_levels, open_over, at_line, Ends};
+ghost use Rattle.input_stack.specs.Pending.{levels, arguments, used_parameters, without_top, either, parameter_room, end_token_lists, put, plain_put, shared_put, listed_put, refusal, room, used_levels, open_over, at_line, Ends};
 ghost use Rattle.input_stack.specs.Backs.{begun_holds, IsBegun, LacksMemory, PutsBack, Refuses};
 ghost use Rattle.input_stack.specs.View.{pending, pending_in, in_front, held, innermost, IsSourceOnTop, level_at, level_holds, level_open, level_arguments};
 ghost use Rattle.input_stack.specs.Pulls.{Pulls, PullsTop, Passes, IsInBuffer, looks, is_ready, is_line_end};
@@ -206,7 +206,7 @@ impl InputStack {
         requires stands { Stands lists.old self.old }
         requires unfinished { is_finished (pending lists.old self.old).puts ≡ false }
         ensures stands { Stands lists.new self.new }
-        ensures after { pending lists.new self.new ≡ settle (pending lists.old self.old) }
+        ensures after { pending lists.new self.new ≡ end_token_lists (pending lists.old self.old) }
         ensures unfinished { AreUnfinished lists.new (innermost self.new) }
         ensures account { Moves lists.old lists.new (held self.old) (held self.new) }
         ensures kept { Keeps lists.old lists.new (held self.old) }
@@ -225,7 +225,7 @@ impl InputStack {
     pub fn drop_finished(&mut self, lists: &mut Lists)
         requires { Stands lists.old self.old }
         ensures stands { Stands lists.new self.new }
-        ensures after { pending lists.new self.new ≡ settle (pending lists.old self.old) }
+        ensures after { pending lists.new self.new ≡ end_token_lists (pending lists.old self.old) }
         ensures unfinished { AreUnfinished lists.new (innermost self.new) }
         ensures account { Moves lists.old lists.new (held self.old) (held self.new) }
         ensures kept { Keeps lists.old lists.new (held self.old) }
@@ -317,7 +317,7 @@ impl InputStack {
     pub fn room(&mut self, lists: &mut Lists) -> Option<Full>
         requires { Stands lists.old self.old }
         ensures stands { Stands lists.new self.new }
-        ensures after { pending lists.new self.new ≡ settle (pending lists.old self.old) }
+        ensures after { pending lists.new self.new ≡ end_token_lists (pending lists.old self.old) }
         ensures refused { result ≡ room self.old.size (used_levels (pending lists.old self.old)) }
         ensures account { Moves lists.old lists.new (held self.old) (held self.new) }
         ensures kept { Keeps lists.old lists.new (held self.old) }
@@ -338,7 +338,7 @@ impl InputStack {
         requires held { Covers lists.old (λ h. holds (id_of list) h + held self.old h) }
         ensures stands { Stands lists.new self.new }
         ensures ok { OnOk result (pending lists.new self.new ≡ put (plain_put (id_of list) (tokens_at lists.old (id_of list))) (pending lists.old self.old)) }
-        ensures err { OnErr result (pending lists.new self.new ≡ settle (pending lists.old self.old)) }
+        ensures err { OnErr result (pending lists.new self.new ≡ end_token_lists (pending lists.old self.old)) }
         ensures refused { MatchResult result (λ _. refusal self.old.size (map Text (tokens_at lists.old (id_of list))) (pending lists.old self.old) ≡ None) (λ e. (refusal self.old.size (map Text (tokens_at lists.old (id_of list))) (pending lists.old self.old) ≡ Some e.0) × (e.1 ≡ list)) }
         ensures tokens { 0 < length (tokens_at lists.old (id_of list)) → tokens_at lists.new (id_of list) ≡ tokens_at lists.old (id_of list) }
         ensures account { MatchResult result (λ _. Moves lists.old lists.new (λ h. holds (id_of list) h + held self.old h) (held self.new)) (λ _. Moves lists.old lists.new (held self.old) (held self.new)) }
@@ -360,7 +360,7 @@ impl InputStack {
         requires held { Covers lists.old (λ h. holds (id_of list) h + held self.old h) }
         ensures stands { Stands lists.new self.new }
         ensures ok { OnOk result (pending lists.new self.new ≡ put (shared_put (id_of list) (tokens_at lists.old (id_of list))) (pending lists.old self.old)) }
-        ensures err { OnErr result (pending lists.new self.new ≡ settle (pending lists.old self.old)) }
+        ensures err { OnErr result (pending lists.new self.new ≡ end_token_lists (pending lists.old self.old)) }
         ensures refused { MatchResult result (λ _. refusal self.old.size (map Text (tokens_at lists.old (id_of list))) (pending lists.old self.old) ≡ None) (λ e. (refusal self.old.size (map Text (tokens_at lists.old (id_of list))) (pending lists.old self.old) ≡ Some e.0) × (e.1 ≡ list)) }
         ensures tokens { 0 < length (tokens_at lists.old (id_of list)) → tokens_at lists.new (id_of list) ≡ tokens_at lists.old (id_of list) }
         ensures account { MatchResult result (λ _. Moves lists.old lists.new (λ h. holds (id_of list) h + held self.old h) (held self.new)) (λ _. Moves lists.old lists.new (held self.old) (held self.new)) }
@@ -383,7 +383,7 @@ impl InputStack {
         requires held { Covers lists.old (λ h. holds (id_of list) h + held self.old h) }
         ensures stands { Stands lists.new self.new }
         ensures ok { OnOk result (pending lists.new self.new ≡ put (listed_put shared (id_of list) (tokens_at lists.old (id_of list))) (pending lists.old self.old)) }
-        ensures err { OnErr result (pending lists.new self.new ≡ settle (pending lists.old self.old)) }
+        ensures err { OnErr result (pending lists.new self.new ≡ end_token_lists (pending lists.old self.old)) }
         ensures refused { MatchResult result (λ _. refusal self.old.size (map Text (tokens_at lists.old (id_of list))) (pending lists.old self.old) ≡ None) (λ e. (refusal self.old.size (map Text (tokens_at lists.old (id_of list))) (pending lists.old self.old) ≡ Some e.0) × (e.1 ≡ list)) }
         ensures tokens { 0 < length (tokens_at lists.old (id_of list)) → tokens_at lists.new (id_of list) ≡ tokens_at lists.old (id_of list) }
         ensures account { MatchResult result (λ _. Moves lists.old lists.new (λ h. holds (id_of list) h + held self.old h) (held self.new)) (λ _. Moves lists.old lists.new (held self.old) (held self.new)) }
@@ -438,7 +438,7 @@ impl InputStack {
         requires held { Covers lists.old (λ h. pushed_holds body args h + held self.old h) }
         ensures stands { Stands lists.new self.new }
         ensures ok { OnOk result (pending lists.new self.new ≡ put (call_put (id_of body) (tokens_at lists.old (id_of body)) (arguments_in lists.old args)) (pending lists.old self.old)) }
-        ensures err { OnErr result (pending lists.new self.new ≡ settle (pending lists.old self.old)) }
+        ensures err { OnErr result (pending lists.new self.new ≡ end_token_lists (pending lists.old self.old)) }
         ensures refused { MatchResult result (λ _. call_refused self.old lists.old body args ≡ None) (λ e. (call_refused self.old lists.old body args ≡ Some e.0) × (e.1 ≡ body) × (e.2 ≡ args)) }
         ensures account { MatchResult result (λ _. Moves lists.old lists.new (λ h. pushed_holds body args h + held self.old h) (held self.new)) (λ _. Moves lists.old lists.new (held self.old) (held self.new)) }
         ensures kept { MatchResult result (λ _. Keeps lists.old lists.new (λ h. pushed_holds body args h + held self.old h)) (λ _. Keeps lists.old lists.new (held self.old)) }
@@ -469,7 +469,7 @@ impl InputStack {
         requires stands { Stands lists.old self.old }
         ensures stands { Stands lists.new self.new }
         ensures ok { OnOk result (PutsBack lists.old lists.new (held self.old) (pending lists.old self.old) (pending lists.new self.new) token) }
-        ensures err { OnErr result (pending lists.new self.new ≡ settle (pending lists.old self.old)) }
+        ensures err { OnErr result (pending lists.new self.new ≡ end_token_lists (pending lists.old self.old)) }
         ensures refused { IfErr result (λ e. Refuses lists.new self.old.size (used_levels (pending lists.old self.old)) token e.0 e.1) }
         ensures begun { IfErr result (λ e. IsBegun lists.new e.1) }
         ensures room { OnOk result (used_levels (pending lists.old self.old) < self.old.size) }
@@ -496,9 +496,9 @@ impl InputStack {
     pub fn push_file(&mut self, lists: &mut Lists, id: Option<InId>, line: Line) -> Result<(), Full>
         requires { Stands lists.old self.old }
         ensures stands { Stands lists.new self.new }
-        ensures ok { OnOk result (pending lists.new self.new ≡ open_over id line (settle (pending lists.old self.old))) }
+        ensures ok { OnOk result (pending lists.new self.new ≡ open_over id line (end_token_lists (pending lists.old self.old))) }
         ensures on_top { OnOk result (IsSourceOnTop (innermost self.new)) }
-        ensures err { OnErr result (pending lists.new self.new ≡ settle (pending lists.old self.old)) }
+        ensures err { OnErr result (pending lists.new self.new ≡ end_token_lists (pending lists.old self.old)) }
         ensures refused { MatchResult result (λ _. room self.old.size (used_levels (pending lists.old self.old)) ≡ None) (λ f. room self.old.size (used_levels (pending lists.old self.old)) ≡ Some f) }
         ensures account { Moves lists.old lists.new (held self.old) (held self.new) }
         ensures kept { Keeps lists.old lists.new (held self.old) }

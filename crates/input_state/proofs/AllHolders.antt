@@ -189,7 +189,7 @@ holders_are table stack making gathered m shared is =
     omega (arith, times_append h made (call_numbers m.call ++ built_up), times_append h (call_numbers m.call) built_up, call_times table m.table m.call h is, build_times (option_to_list making) h, build_times (reverse gathered) h, built_append (option_to_list making) (reverse gathered) h) in
     let own_are : (h : ℕ) → times h (own_numbers ns others) ≡ times h (owns ps) + (built (all_builds making gathered) h + call_holds m.call h) =
     λ h. omega (arith, times_append h (flat_map (λ (n : Numbers). n.own ++ n.arguments) ns) others, ap (times h) (owns_are ps), rest_are h) in
-    let macros = shared_numbers (lists_held m.table.groups) (fronts table ps) in
+    let all_lists = shared_numbers (lists_held m.table.groups) (fronts table ps) in
     let others_are = option_to_list (made_text table making) ++ (call_lists (calling_of table m.call) ++ map (text table) (reverse gathered)) in
     subst (λ (qs : List plain.Put). HaveHolders table (lists_held m.table.groups) qs others_are) (fronts_in table (pending table stack))
     (record {
@@ -202,9 +202,9 @@ holders_are table stack making gathered m shared is =
           ∙ ap₂ (λ (us vs : List (List Token)). us ++ vs) (made_shown table making)
           (map-append (tokens_at table) (call_numbers m.call) built_up ∙ ap₂ (λ (us vs : List (List Token)). us ++ vs) (call_shown table m.table m.call is) (builds_shown table (reverse gathered)));
       counts = λ h.
-          omega (arith, shared.counted h, held_parts table stack h, times_append h macros (own_numbers ns others ++ reading_numbers ns), times_append h (own_numbers ns others) (reading_numbers ns), shared_are table (lists_held m.table.groups) ps h, own_are h, ap (times h) (opens_are ps));
+          omega (arith, shared.counted h, held_parts table stack h, times_append h all_lists (own_numbers ns others ++ reading_numbers ns), times_append h (own_numbers ns others) (reading_numbers ns), shared_are table (lists_held m.table.groups) ps h, own_are h, ap (times h) (opens_are ps));
       sole = λ h some.
           let all = own_are h in
           let none = shared.apart.apart h (omega (arith, some, all)) in
-          omega (arith, times_append h macros (own_numbers ns others), shared_are table (lists_held m.table.groups) ps h, all, some, none, shared.apart.sole h);
+          omega (arith, times_append h all_lists (own_numbers ns others), shared_are table (lists_held m.table.groups) ps h, all, some, none, shared.apart.sole h);
     })

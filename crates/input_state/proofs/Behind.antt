@@ -7,7 +7,7 @@ use Rattle.plain_tokens.specs.Tables.{is_put, is_whole}
 use Rattle.equivalents.specs.Holding.{lists_held}
 use Rattle.input_state.specs.Macros.{KeepsLists}
 use Rattle.input_state.specs.Reads.{TakesLine}
-use Rattle.input_state.specs.Stored.{Stored, KeepsMacros}
+use Rattle.input_state.specs.Stored.{Stored, KeepsShared}
 
 next_of : Pending → Pulled → Pending
 next_of p (LineTaken line next) = next
@@ -40,7 +40,7 @@ taken_puts end p new t =
     ap all_puts t.ended ∙ sym (ap (λ (q : Pending). q.puts ++ outer_puts q.outer) is)
 
 -- no list of a macro's is another
-pub over_keeps : (old mid new : Stored) → KeepsMacros old mid → mid.pending.puts ≡ [] → new ≡ record mid { pending = beneath mid.pending.outer } → KeepsMacros old new
+pub over_keeps : (old mid new : Stored) → KeepsShared old mid → mid.pending.puts ≡ [] → new ≡ record mid { pending = beneath mid.pending.outer } → KeepsShared old new
 over_keeps old mid new keeps none is =
     let same : all_puts (beneath mid.pending.outer) ≡ all_puts mid.pending = beneath_puts mid.pending.outer ∙ sym (ap (λ (ps : List Put). ps ++ outer_puts mid.pending.outer) none) in
-    subst (λ (v : Stored). KeepsMacros old v) (sym is) (subst (λ (ps : List Put). KeepsLists (lists_held mid.groups) ps old.lists mid.lists) (sym same) keeps)
+    subst (λ (v : Stored). KeepsShared old v) (sym is) (subst (λ (ps : List Put). KeepsLists (lists_held mid.groups) ps old.lists mid.lists) (sym same) keeps)

@@ -22,9 +22,9 @@ use Rattle.input_stack.specs.Calls.{Argument, call_put, substituted, body_of}
 use Rattle.input_stack.specs.CallViews.{argument_in, arguments_in, Shares}
 use Rattle.input_stack.specs.Pushes.{pushed_holds, call_refused}
 use Rattle.input_stack.specs.Pending as stack
-use Rattle.input_stack.specs.Pending.{Pending, Below, settle, put, listed_put, used_parameters, used_levels, parameters_full, either, room}
+use Rattle.input_stack.specs.Pending.{Pending, Below, end_token_lists, put, listed_put, used_parameters, used_levels, parameters_full, either, room}
 use Rattle.input_stack.specs.View.{pending, held, innermost}
-use Rattle.input_stack.proofs.Settled.{arguments_are}
+use Rattle.input_stack.proofs.ListsEnded.{arguments_are}
 use Rattle.input_stack.specs.Standing.{Stands}
 use Rattle.input_stack.specs.Lasting.{Lasts}
 use Rattle.input_stack.specs.declared.stack.InputStack.{InputStack}
@@ -157,7 +157,7 @@ back_held old mid new s t bs m body back shared shares same moves =
     let here : 0 < holders_at new k = omega (arith, moves k, shares.holders k, shared.counted k, holds_itself k) in
     subst (λ (r : ListRef). IsHeld new (id_of r)) (sym same) here
 
-module _ (old mid new last : List (Option Entry)) (s t : InputStack) (making : Option Build) (gathered : List Build) (m : Named) (sizes : Sizes) (capacity : ℕ) (sound : IsSound old s making gathered m sizes capacity) (body back : ListRef) (shares : Shares old mid (holds (id_of body))) (same : back ≡ body) (stands : Stands new t) (after : pending new t ≡ settle (pending mid s)) (moves : Moves mid new (held s) (held t)) (keeps : Keeps mid new (held s)) (lasts : Lasts mid new) (gives : Moves new last (holds (id_of back)) none) (leaves : Keeps new last (holds (id_of back))) (lets : Lasts new last) (size : t.size ≡ s.size) (parameters : t.parameter_size ≡ s.parameter_size) where
+module _ (old mid new last : List (Option Entry)) (s t : InputStack) (making : Option Build) (gathered : List Build) (m : Named) (sizes : Sizes) (capacity : ℕ) (sound : IsSound old s making gathered m sizes capacity) (body back : ListRef) (shares : Shares old mid (holds (id_of body))) (same : back ≡ body) (stands : Stands new t) (after : pending new t ≡ end_token_lists (pending mid s)) (moves : Moves mid new (held s) (held t)) (keeps : Keeps mid new (held s)) (lasts : Lasts mid new) (gives : Moves new last (holds (id_of back)) none) (leaves : Keeps new last (holds (id_of back))) (lets : Lasts new last) (size : t.size ≡ s.size) (parameters : t.parameter_size ≡ s.parameter_size) where
   own : (h : ℕ) → holds (id_of back) h ≡ holds (id_of body) h
   own h = ap (λ (r : ListRef). holds (id_of r) h) same
 
@@ -180,13 +180,13 @@ module _ (old mid new last : List (Option Entry)) (s t : InputStack) (making : O
     tokens = λ h some. lets.tokens h some ∙ lasts.tokens h (omega (arith, some, lets.fewer h)) ∙ shares.tokens h;
   }
 
-  after_now : pending last t ≡ settle (pending old s)
-  after_now = last_stands.1 ∙ after ∙ ap settle (shared_stands old mid s (all_builds making gathered) m (id_of body) sound.shared shares).1
+  after_now : pending last t ≡ end_token_lists (pending old s)
+  after_now = last_stands.1 ∙ after ∙ ap end_token_lists (shared_stands old mid s (all_builds making gathered) m (id_of body) sound.shared shares).1
 
   pub refused_sound : IsSound last t making gathered m sizes capacity
   refused_sound = settled_sound old last s t making gathered m sizes capacity sound last_stands.0 moves_now keeps_now lasts_now size parameters after_now
 
-  pub refused_view : (v : HeldLists) → lists_of old (pending old s) making gathered m sizes ≡ v → lists_of last (pending last t) making gathered m sizes ≡ record v { puts = plain.settled v.puts; lists = texts last }
+  pub refused_view : (v : HeldLists) → lists_of old (pending old s) making gathered m sizes ≡ v → lists_of last (pending last t) making gathered m sizes ≡ record v { puts = plain.without_ended v.puts; lists = texts last }
   refused_view v is = settled_view old last s t making gathered m sizes capacity sound last_stands.0 moves_now keeps_now lasts_now size parameters after_now v is
 
   pub refused_macros : (v : HeldLists) → lists_of old (pending old s) making gathered m sizes ≡ v → KeepsLists (lists_held m.table.groups) (all_fronts last (pending last t)) v.lists (texts last)

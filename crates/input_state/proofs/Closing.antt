@@ -115,7 +115,7 @@ module _ (old new : List (Option Entry)) (s : InputStack) (making : Option Build
 
   macros_now : (h : ℕ) → 0 < eqtb.held n h → IsDefined (tokens_at new h)
   macros_now h more =
-      subst IsDefined (sym (lasting.tokens h (omega (arith, more, moves h, sound.shared.counted h)))) (sound.shared.macros h (held_before h more))
+      subst IsDefined (sym (lasting.tokens h (omega (arith, more, moves h, sound.shared.counted h)))) (sound.shared.all_lists h (held_before h more))
 
   moved_now : Moved old new s (named n k) (all_builds making items)
   moved_now =

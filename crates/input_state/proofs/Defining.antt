@@ -61,7 +61,7 @@ front_shared table stack xs ys b m s =
         sole = λ h. omega (arith, s.apart.sole h, same h);
         apart = λ h more. s.apart.apart h (omega (arith, more, same h));
       };
-      macros = s.macros;
+      all_lists = s.all_lists;
       listed = s.listed;
     }
 
@@ -103,7 +103,7 @@ module _ (old new : List (Option Entry)) (s : InputStack) (m n : Named) (b : Bui
       let same = assigned.lasting.tokens h (still_held h more) in
       elim (cases_eq h (build_id b)) [
         | inl is ↦ subst IsDefined (sym same) (subst (λ (k : ℕ). IsDefined (tokens_at old k)) (sym is) text_is)
-        | inr other ↦ subst IsDefined (sym same) (shared.macros h (omega (arith, more, held_now h, holds_other (build_id b) h (λ e. other (sym e)))))
+        | inr other ↦ subst IsDefined (sym same) (shared.all_lists h (omega (arith, more, held_now h, holds_other (build_id b) h (λ e. other (sym e)))))
       ]
 
   own_holds : (h : ℕ) → built (b ∷ []) h ≡ holds (build_id b) h

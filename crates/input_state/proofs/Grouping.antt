@@ -55,7 +55,7 @@ module _ (table : List (Option Entry)) (s : InputStack) (making : Option Build) 
         sole = λ h. sound.shared.apart.sole h;
         apart = λ h more. omega (arith, sound.shared.apart.apart h more, same h);
       };
-      macros = λ h some. sound.shared.macros h (omega (arith, some, same h));
+      all_lists = λ h some. sound.shared.all_lists h (omega (arith, some, same h));
       listed = sound.shared.listed;
     };
     sized = record {

@@ -45,8 +45,8 @@ pub words_recalled : (v : HeldLists) (c : Calling) (lists : List (List Token)) �
     words_held (record v { call = c; lists = lists }) + lists_words (call_lists v.call) ≡ words_held v + lists_words (call_lists c)
 words_recalled v c lists keeps l =
     let start : (h : ℕ) → 0 + h ≡ h = λ h. omega arith in
-    let macros = macros_same 0 (lists_held v.groups) (puts_held v) lists v.lists l (λ h is. keeps.tokens h (sym (ap (λ (k : ℕ). is_shared k (lists_held v.groups) (puts_held v)) (start h)) ∙ is)) in
-    omega (arith, macros, sum_by-append list_words (call_lists c) v.builds, sum_by-append list_words (call_lists v.call) v.builds)
+    let all_lists = macros_same 0 (lists_held v.groups) (puts_held v) lists v.lists l (λ h is. keeps.tokens h (sym (ap (λ (k : ℕ). is_shared k (lists_held v.groups) (puts_held v)) (start h)) ∙ is)) in
+    omega (arith, all_lists, sum_by-append list_words (call_lists c) v.builds, sum_by-append list_words (call_lists v.call) v.builds)
 
 -- ARGUMENTS
 

@@ -16,7 +16,7 @@ use Rattle.input_state.specs.FileLeft.{FilesLeft}
 use Rattle.input_state.specs.HeldLists as held
 use Rattle.input_state.specs.HeldLists.{HeldLists, KeepsHeld, words_held, covered_puts, puts_held, settle_held, level_held, gathered_held, pending_of}
 use Rattle.input_state.specs.InputViews.{stored_of, IsTied}
-use Rattle.input_state.specs.Stored.{Stored, KeepsMacros, words, call_refusal, put_refusal}
+use Rattle.input_state.specs.Stored.{Stored, KeepsShared, words, call_refusal, put_refusal}
 use Rattle.input_state.specs.Counted.{HaveHolders, AreCounted}
 use Rattle.input_state.specs.Macros.{KeepsLists}
 use Rattle.input_state.specs.Calls.{Defines, when_called, when_put}
@@ -28,7 +28,7 @@ use Rattle.input_state.proofs.Rooms.{all_puts_are, level_is, rooms_length}
 -- MACROS
 
 module _ (h now : HeldLists) (b d : List ℕ) (f g : FilesLeft) (s : Stored) (is : stored_of h b f ≡ s) where
-  pub keeps : KeepsHeld h now → KeepsMacros s (stored_of now d g)
+  pub keeps : KeepsHeld h now → KeepsShared s (stored_of now d g)
   keeps k =
       subst (λ (ps : List Put). KeepsLists (lists_held now.groups) ps s.lists now.lists) (sym (all_puts_are now d g.files g.next))
       (subst (λ (v : Stored). KeepsLists (lists_held now.groups) (puts_held now) v.lists now.lists) is k)
@@ -107,7 +107,7 @@ made_put : (id : ℕ) (ts : List Token) (ps qs : List Put) → is_put id (with_p
 made_put id [] ps qs is = is
 made_put id (t ∷ ts) ps qs is = is
 
-pub made_keeps : (h mid now : HeldLists) (b : List ℕ) (f : FilesLeft) (s : Stored) (ts : List Token) → stored_of h b f ≡ s → KeepsHeld h mid → KeepsHeld mid now → now ≡ record mid { puts = with_put (token_put ts) mid.puts; making = None; lists = now.lists } → KeepsMacros s (stored_of now b f)
+pub made_keeps : (h mid now : HeldLists) (b : List ℕ) (f : FilesLeft) (s : Stored) (ts : List Token) → stored_of h b f ≡ s → KeepsHeld h mid → KeepsHeld mid now → now ≡ record mid { puts = with_put (token_put ts) mid.puts; making = None; lists = now.lists } → KeepsShared s (stored_of now b f)
 made_keeps h mid now b f s ts is first second now_is =
     keeps_twice s (stored_of mid b f) (stored_of now b f) (keeps h mid b b f f s is first) (keeps mid now b b f f (stored_of mid b f) refl second) (ap (λ (w : HeldLists). w.groups) now_is)
     (λ id put.

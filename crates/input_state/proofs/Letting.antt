@@ -108,7 +108,7 @@ module _ (old mid new : List (Option Entry)) (s : InputStack) (m n : Named) (mak
 
   macros_now : (h : ℕ) → 0 < eqtb.held n.table h → IsDefined (tokens_at new h)
   macros_now h more =
-      subst IsDefined (sym (lasts_all h (omega (arith, more, moves_all h, sound.shared.counted h)))) (sound.shared.macros h (omega (arith, more, held_now h, within h)))
+      subst IsDefined (sym (lasts_all h (omega (arith, more, moves_all h, sound.shared.counted h)))) (sound.shared.all_lists h (omega (arith, more, held_now h, within h)))
 
   moved_now : Moved old new s n bs
   unfolding bs

@@ -9,8 +9,8 @@ use Rattle.token_lists.specs.Accounts.{holds}
 use Rattle.plain_tokens.specs.Puts.{list_of_tokens}
 use Rattle.plain_tokens.specs.Tables.{put_words, whole_words, argument_words, list_words, lists_words}
 use Rattle.token_lists.specs.Table.{Entry, tokens_at}
-use Rattle.input_stack.specs.Puts.{Put, Item, Text, First, Later, Gap, argument_of, later_of, numbers, used_of, settled, settled_top, put_top, put_in_front, without_gaps, pulled, pulled_top}
-use Rattle.input_stack.specs.Pending.{Pending, Below, settle, put, listed_put, used_levels, times}
+use Rattle.input_stack.specs.Puts.{Put, Item, Text, First, Later, Gap, argument_of, later_of, numbers, used_of, without_ended, settled_top, put_top, put_in_front, without_gaps, pulled, pulled_top}
+use Rattle.input_stack.specs.Pending.{Pending, Below, end_token_lists, put, listed_put, used_levels, times}
 use Rattle.input_stack.proofs.Kept.{holds_itself}
 use Rattle.input_state.specs.HeldLists.{Covered}
 use Rattle.input_state.specs.HeldViews.{plain_item, whole_of, argument_text, front, fronts, own_of, owns, opens, cells_of, covers, puts_below, puts_in, IsOf, AreOf, IsFront, AreFronts}
@@ -38,9 +38,9 @@ settled_is : (p : Put) (xs : List Item) (below rest : List Put) → AreOf p.argu
 settled_is p [] below rest a b c = b
 settled_is p (x ∷ xs) below rest a b c = (record { reading = later_is p.arguments x a.0; items = a }, c)
 
-pub fronts_settle : (ps : List Put) → AreFronts ps → AreFronts (settled ps)
+pub fronts_settle : (ps : List Put) → AreFronts ps → AreFronts (without_ended ps)
 fronts_settle [] a = tt
-fronts_settle (p ∷ ps) a = settled_is p p.items (settled ps) ps a.0.items (fronts_settle ps a.1) a.1
+fronts_settle (p ∷ ps) a = settled_is p p.items (without_ended ps) ps a.0.items (fronts_settle ps a.1) a.1
 
 fronts_first : (ps qs : List Put) → AreFronts (ps ++ qs) → AreFronts ps
 fronts_first [] qs a = tt
@@ -58,8 +58,8 @@ fronts_both (p ∷ ps) qs a b = (a.0, fronts_both ps qs a.1 b)
 pub fronts_behind : (ps qs rs : List Put) → (AreFronts ps → AreFronts qs) → AreFronts (ps ++ rs) → AreFronts (qs ++ rs)
 fronts_behind ps qs rs f a = fronts_both qs rs (f (fronts_first ps rs a)) (fronts_rest ps rs a)
 
-pub simple_settled : (p : Pending) → AreFronts (puts_in p) → AreFronts (puts_in (settle p))
-simple_settled p a = fronts_behind p.puts (settled p.puts) (puts_below p.sources) (fronts_settle p.puts) a
+pub simple_settled : (p : Pending) → AreFronts (puts_in p) → AreFronts (puts_in (end_token_lists p))
+simple_settled p a = fronts_behind p.puts (without_ended p.puts) (puts_below p.sources) (fronts_settle p.puts) a
 
 put_is : (p : Put) (xs : List Item) (ps : List Put) → IsFront p → AreFronts ps → AreFronts (put_top p xs ps)
 put_is p [] ps a b = b

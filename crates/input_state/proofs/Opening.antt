@@ -10,8 +10,8 @@ use Rattle.token_lists.specs.Accounts.{Moves, Keeps, none}
 use Rattle.line_lexer.specs.declared.Line.{Line}
 use Rattle.world_io.specs.declared.traits.InId.{InId}
 use Rattle.equivalents.specs.Holding.{lists_held}
-use Rattle.input_stack.specs.Puts.{Put, settled}
-use Rattle.input_stack.specs.Pending.{Pending, settle, open_over}
+use Rattle.input_stack.specs.Puts.{Put, without_ended}
+use Rattle.input_stack.specs.Pending.{Pending, end_token_lists, open_over}
 use Rattle.input_stack.specs.View.{pending, held}
 use Rattle.input_stack.specs.Standing.{Stands}
 use Rattle.input_stack.specs.Lasting.{Lasts}
@@ -27,9 +27,9 @@ use Rattle.input_state.proofs.Sharing.{Moved}
 use Rattle.input_state.proofs.ListViews.{moved_view, macros_moved}
 use Rattle.input_state.proofs.Sounds.{levels_moved, levels_sound, lasts_none}
 
-module _ (old new : List (Option Entry)) (s t : InputStack) (making : Option Build) (gathered : List Build) (m : Named) (sizes : Sizes) (capacity : ℕ) (sound : IsSound old s making gathered m sizes capacity) (stands : Stands new t) (moves : Moves old new (held s) (held t)) (keeps : Keeps old new (held s)) (lasts : Lasts old new) (size : t.size ≡ s.size) (parameters : t.parameter_size ≡ s.parameter_size) (v : HeldLists) (is : lists_of old (pending old s) making gathered m sizes ≡ v) (settled_already : plain.settled v.puts ≡ v.puts) (id : Option InId) (line : Line) (r : Result Unit Full) (ok : OnOk r (pending new t ≡ open_over id line (settle (pending old s)))) (err : OnErr r (pending new t ≡ settle (pending old s))) where
+module _ (old new : List (Option Entry)) (s t : InputStack) (making : Option Build) (gathered : List Build) (m : Named) (sizes : Sizes) (capacity : ℕ) (sound : IsSound old s making gathered m sizes capacity) (stands : Stands new t) (moves : Moves old new (held s) (held t)) (keeps : Keeps old new (held s)) (lasts : Lasts old new) (size : t.size ≡ s.size) (parameters : t.parameter_size ≡ s.parameter_size) (v : HeldLists) (is : lists_of old (pending old s) making gathered m sizes ≡ v) (settled_already : plain.without_ended v.puts ≡ v.puts) (id : Option InId) (line : Line) (r : Result Unit Full) (ok : OnOk r (pending new t ≡ open_over id line (end_token_lists (pending old s)))) (err : OnErr r (pending new t ≡ end_token_lists (pending old s))) where
   -- the lists in front of all lines are those that were
-  same_puts : (x : Result Unit Full) → OnOk x (pending new t ≡ open_over id line (settle (pending old s))) → OnErr x (pending new t ≡ settle (pending old s)) → puts_in (pending new t) ≡ puts_in (settle (pending old s))
+  same_puts : (x : Result Unit Full) → OnOk x (pending new t ≡ open_over id line (end_token_lists (pending old s))) → OnErr x (pending new t ≡ end_token_lists (pending old s)) → puts_in (pending new t) ≡ puts_in (end_token_lists (pending old s))
   same_puts (Ok u) after refused = ap puts_in after
   same_puts (Err f) after refused = ap puts_in refused
 
@@ -49,8 +49,8 @@ module _ (old new : List (Option Entry)) (s t : InputStack) (making : Option Bui
   open_macros = macros_moved old new t m sizes (all_builds making gathered) v.lists moved_now (ap (λ (w : HeldLists). w.lists) is)
 
   -- the finished lists are gone already
-  quiet : fronts old (settled (pending old s).puts) ≡ v.puts
-  quiet = fronts_settled old (pending old s).puts ∙ ap (λ (w : HeldLists). plain.settled w.puts) is ∙ settled_already
+  quiet : fronts old (without_ended (pending old s).puts) ≡ v.puts
+  quiet = fronts_settled old (pending old s).puts ∙ ap (λ (w : HeldLists). plain.without_ended w.puts) is ∙ settled_already
 
   -- the lists are as they were, in front of what is pending then
   open_view : lists_of new (pending new t) making gathered m sizes ≡ record v { puts = fronts old (pending new t).puts; below = covers old (pending new t).sources; lists = texts new }
@@ -61,23 +61,23 @@ module _ (old new : List (Option Entry)) (s t : InputStack) (making : Option Bui
   below_is : covers old (pending old s).sources ≡ v.below
   below_is = ap (λ (w : HeldLists). w.below) is
 
-  opened_view : pending new t ≡ open_over id line (settle (pending old s)) → ◌≡◌ {A = HeldLists} (record v { puts = fronts old (pending new t).puts; below = covers old (pending new t).sources; lists = texts new }) (record (opened_over line v) { lists = texts new })
+  opened_view : pending new t ≡ open_over id line (end_token_lists (pending old s)) → ◌≡◌ {A = HeldLists} (record v { puts = fronts old (pending new t).puts; below = covers old (pending new t).sources; lists = texts new }) (record (opened_over line v) { lists = texts new })
   opened_view after =
       ap (λ (p : Pending). let w : HeldLists = record v { puts = fronts old p.puts; below = covers old p.sources; lists = texts new } in w) after
       ∙ ap (λ (ps : List plain.Put). let w : HeldLists = record v { puts = []; below = record { line = line; puts = ps } ∷ covers old (pending old s).sources; lists = texts new } in w) quiet
       ∙ ap (λ (bs : List Covered). let w : HeldLists = record v { puts = []; below = record { line = line; puts = v.puts } ∷ bs; lists = texts new } in w) below_is
 
-  closed_view : pending new t ≡ settle (pending old s) → ◌≡◌ {A = HeldLists} (record v { puts = fronts old (pending new t).puts; below = covers old (pending new t).sources; lists = texts new }) (record v { lists = texts new })
+  closed_view : pending new t ≡ end_token_lists (pending old s) → ◌≡◌ {A = HeldLists} (record v { puts = fronts old (pending new t).puts; below = covers old (pending new t).sources; lists = texts new }) (record v { lists = texts new })
   closed_view after =
       ap (λ (p : Pending). let w : HeldLists = record v { puts = fronts old p.puts; below = covers old p.sources; lists = texts new } in w) after
       ∙ ap (λ (ps : List plain.Put). let w : HeldLists = record v { puts = ps; below = covers old (pending old s).sources; lists = texts new } in w) quiet
       ∙ ap (λ (bs : List Covered). let w : HeldLists = record v { below = bs; lists = texts new } in w) below_is
 
-  ok_by : (x : Result Unit Full) → OnOk x (pending new t ≡ open_over id line (settle (pending old s))) → OnOk x (lists_of new (pending new t) making gathered m sizes ≡ record (opened_over line v) { lists = texts new })
+  ok_by : (x : Result Unit Full) → OnOk x (pending new t ≡ open_over id line (end_token_lists (pending old s))) → OnOk x (lists_of new (pending new t) making gathered m sizes ≡ record (opened_over line v) { lists = texts new })
   ok_by (Ok u) after = open_view ∙ opened_view after
   ok_by (Err f) after = tt
 
-  err_by : (x : Result Unit Full) → OnErr x (pending new t ≡ settle (pending old s)) → OnErr x (lists_of new (pending new t) making gathered m sizes ≡ record v { lists = texts new })
+  err_by : (x : Result Unit Full) → OnErr x (pending new t ≡ end_token_lists (pending old s)) → OnErr x (lists_of new (pending new t) making gathered m sizes ≡ record v { lists = texts new })
   err_by (Ok u) after = tt
   err_by (Err f) after = open_view ∙ closed_view after
 

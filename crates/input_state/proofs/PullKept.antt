@@ -7,7 +7,7 @@ use Rattle.token_lists.specs.Table.{Entry}
 use Rattle.token_lists.specs.Accounts.{Moves, Keeps}
 use Rattle.equivalents.specs.Holding.{lists_held}
 use Rattle.input_stack.specs.Puts.{Put, next_item}
-use Rattle.input_stack.specs.Pending.{Pending, settle}
+use Rattle.input_stack.specs.Pending.{Pending, end_token_lists}
 use Rattle.plain_tokens.specs.Puts as plain
 use Rattle.input_state.proofs.Fronts.{fronts_settled}
 use Rattle.input_stack.specs.Pulls.{Pulls}
@@ -67,12 +67,12 @@ module _ (old new : List (Option Entry)) (s t : InputStack) (making : Option Bui
       ∙ ap (λ (w : HeldLists). outer_in b w.below fs) is
 
   -- nothing was read
-  pub refused_view : (v : HeldLists) → lists_of old (pending old s) making gathered m sizes ≡ v → pending new t ≡ settle (pending old s) → lists_of new (pending new t) making gathered m sizes ≡ record v { puts = plain.settled v.puts; lists = texts new }
+  pub refused_view : (v : HeldLists) → lists_of old (pending old s) making gathered m sizes ≡ v → pending new t ≡ end_token_lists (pending old s) → lists_of new (pending new t) making gathered m sizes ≡ record v { puts = plain.without_ended v.puts; lists = texts new }
   refused_view v is after =
       pulled_view
       ∙ ap (λ (p : Pending). record (lists_of old p making gathered m sizes) { lists = texts new }) after
       ∙ ap (λ (ps : List plain.Put). held_lists ps (made_text old making) (calling_of old m.call) (map (text old) (reverse gathered)) (covers old (pending old s).sources) m.table sizes (texts new)) (fronts_settled old (pending old s).puts)
-      ∙ ap (λ (w : HeldLists). record w { puts = plain.settled w.puts; lists = texts new }) is
+      ∙ ap (λ (w : HeldLists). record w { puts = plain.without_ended w.puts; lists = texts new }) is
 
   -- no list is left in front
   pub passed_view : (v : HeldLists) → lists_of old (pending old s) making gathered m sizes ≡ v → (pending new t).puts ≡ [] → lists_of new (pending new t) making gathered m sizes ≡ record v { puts = []; below = covers new (pending new t).sources; lists = texts new }

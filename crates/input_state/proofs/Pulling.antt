@@ -15,8 +15,8 @@ use Rattle.line_lexer.specs.declared.Ahead.TheVariants as ahead
 use Rattle.line_lexer.specs.Answers.{state_of, rest_of, span, given, looks_of, Takes}
 use Rattle.token_lists.specs.Table.{Entry, holders_at}
 use Rattle.input_stack.specs.CallViews.{IsCountable}
-use Rattle.input_stack.specs.Puts.{Put, Item, Text, First, Later, Gap, next_item, pulled, settled}
-use Rattle.input_stack.specs.Pending.{Pending, Below, settle, used_levels, with_puts}
+use Rattle.input_stack.specs.Puts.{Put, Item, Text, First, Later, Gap, next_item, pulled, without_ended}
+use Rattle.input_stack.specs.Pending.{Pending, Below, end_token_lists, used_levels, with_puts}
 use Rattle.input_stack.specs.Pulls.{Pulls, PullsItem, PullsFrom, HandsOn, refused_at, LineGives, answer_of, looks, item_looks, line_looks, token_in}
 use Rattle.input_stack.specs.View.{pending_in}
 use Rattle.world_io.specs.declared.traits.InId.{InId}
@@ -215,7 +215,7 @@ module _ (t s : List (Option Entry)) (c b d : List ℕ) (ls : List Level) (q : P
   -- what is given, or that nothing is
   abbrev pub IsPulled : Result Given Full → Type 0
   IsPulled (Ok g) = IsRead c d sizes (seen t (pending_in s ls) b files opened) (seen t q d files opened) (Ok g)
-  IsPulled (Err f) = (q ≡ settle (pending_in s ls)) × (d ≡ b)
+  IsPulled (Err f) = (q ≡ end_token_lists (pending_in s ls)) × (d ≡ b)
 
   handed : (size : ℕ) (x : Item) (o : Option Full) (r : Result Given Full) → next_item (pending_in s ls).puts ≡ Some x → HandsOn b d (pending_in s ls) q x o r → IsPulled r
   handed size x None r is h = subst IsPulled (sym h.0) (item_seen x (Ok (given_as.Token (token_in x))) is refl h.1 h.2)
@@ -299,7 +299,7 @@ module _ (t s : List (Option Entry)) (c b d : List ℕ) (ls : List Level) (q : P
   told_more (Ok g) is = is.more
   told_more (Err f) is = tt
 
-  pub told_settles : (r : Result Given Full) → IsPulled t s c b d ls q sizes files opened more same r → OnErr (answers.told r) ((q ≡ settle (pending_in s ls)) × (d ≡ b))
+  pub told_settles : (r : Result Given Full) → IsPulled t s c b d ls q sizes files opened more same r → OnErr (answers.told r) ((q ≡ end_token_lists (pending_in s ls)) × (d ≡ b))
   told_settles (Ok g) is = tt
   told_settles (Err f) is = is
 
@@ -354,7 +354,7 @@ from_puts c b d (x ∷ xs) after r h = ap puts_below h.after
 
 hands_fronts : (b d : List ℕ) (p q : Pending) (x : Item) (o : Option Full) (r : Result Given Full) → AreFronts (puts_in p) → HandsOn b d p q x o r → AreFronts (puts_in q)
 hands_fronts b d p q x None r a h = subst (λ (z : Pending). AreFronts (puts_in z)) (sym h.1) (fronts_behind p.puts (pulled p.puts) (puts_below p.sources) (fronts_pull p.puts) a)
-hands_fronts b d p q x (Some f) r a h = subst (λ (z : Pending). AreFronts (puts_in z)) (sym h.1) (fronts_behind p.puts (settled p.puts) (puts_below p.sources) (fronts_settle p.puts) a)
+hands_fronts b d p q x (Some f) r a h = subst (λ (z : Pending). AreFronts (puts_in z)) (sym h.1) (fronts_behind p.puts (without_ended p.puts) (puts_below p.sources) (fronts_settle p.puts) a)
 
 -- where a line gives something, no list is in front of it
 line_puts : (p q : Pending) → puts_below q.sources ≡ puts_below p.sources → q.puts ≡ [] → puts_in q ≡ puts_below p.sources

@@ -16,7 +16,7 @@ use Rattle.macro_args.specs.declared.args.Args.{Args}
 use Rattle.macro_args.specs.Args.{args_in, args_hold, cell_tokens, IsFilled}
 use Rattle.equivalents.specs.Holding.{list_of}
 use Rattle.input_stack.specs.Puts.{Put, Item, Later, numbers, put_in_front, put_top}
-use Rattle.input_stack.specs.Calls.{Argument, call_put, substituted, body_of, spread, argument_items, placed_argument, token_items, number_of, tokens_of}
+use Rattle.input_stack.specs.Calls.{Argument, call_put, substituted, body_of, spread, argument_items, placed_argument, token_items, argument_list, tokens_of}
 use Rattle.input_stack.specs.CallViews.{argument_in, arguments_in}
 use Rattle.input_stack.specs.Pending.{times}
 use Rattle.input_stack.proofs.CallKept.{filled_holds}
@@ -30,15 +30,15 @@ use Rattle.input_state.proofs.Fronts.{fronts_settled}
 
 -- THE ARGUMENTS' LISTS
 
-cells_numbers : (table : List (Option Entry)) (cells : List (Option ListRef)) (h : ℕ) → times h (numbers (map number_of (map (argument_in table) cells))) ≡ cells_hold cells h
+cells_numbers : (table : List (Option Entry)) (cells : List (Option ListRef)) (h : ℕ) → times h (numbers (map argument_list (map (argument_in table) cells))) ≡ cells_hold cells h
 cells_numbers table [] h = refl
 cells_numbers table (None ∷ cells) h = omega (arith, cells_numbers table cells h, sum_by-cons (λ (c : Option ListRef). cell_holds c h) None cells)
-cells_numbers table (Some r ∷ cells) h = omega (arith, cells_numbers table cells h, times_cons h (id_of r) (numbers (map number_of (map (argument_in table) cells))), sum_by-cons (λ (c : Option ListRef). cell_holds c h) (Some r) cells)
+cells_numbers table (Some r ∷ cells) h = omega (arith, cells_numbers table cells h, times_cons h (id_of r) (numbers (map argument_list (map (argument_in table) cells))), sum_by-cons (λ (c : Option ListRef). cell_holds c h) (Some r) cells)
 
-pub args_numbers : (table : List (Option Entry)) (args : Args) (h : ℕ) → IsFilled args → times h (numbers (map number_of (arguments_in table args))) ≡ args_hold args h
+pub args_numbers : (table : List (Option Entry)) (args : Args) (h : ℕ) → IsFilled args → times h (numbers (map argument_list (arguments_in table args))) ≡ args_hold args h
 args_numbers table args h filled = cells_numbers table (take args.count args.lists) h ∙ sym (filled_holds args h filled)
 
-cells_texts : (table : List (Option Entry)) (cells : List (Option ListRef)) → map (argument_text table) (map number_of (map (argument_in table) cells)) ≡ map (λ cell. cell_tokens table cell) cells
+cells_texts : (table : List (Option Entry)) (cells : List (Option ListRef)) → map (argument_text table) (map argument_list (map (argument_in table) cells)) ≡ map (λ cell. cell_tokens table cell) cells
 cells_texts table [] = refl
 cells_texts table (None ∷ cells) = ap (λ (us : List (List Token)). [] ∷ us) (cells_texts table cells)
 cells_texts table (Some r ∷ cells) = ap (λ (us : List (List Token)). tokens_at table (id_of r) ∷ us) (cells_texts table cells)
@@ -66,7 +66,7 @@ spread_is : (cells : List (Option ℕ)) (n : ℕ) (ts : List Token) → 0 < time
 spread_is cells n [] some = (tt, tt)
 spread_is cells n (t ∷ ts) some = (some, later_of_it cells n ts some)
 
-argument_is : (cells : List (Option ℕ)) (a : Option Argument) → IsOf cells (number_of a) → AreOf cells (argument_items a)
+argument_is : (cells : List (Option ℕ)) (a : Option Argument) → IsOf cells (argument_list a) → AreOf cells (argument_items a)
 argument_is cells None is = (tt, tt)
 argument_is cells (Some a) is = spread_is cells a.list a.tokens is
 
@@ -81,19 +81,19 @@ first_of : (o : Option ℕ) (cells : List (Option ℕ)) → IsOf (o ∷ cells) o
 first_of None cells = tt
 first_of (Some n) cells = omega (arith, times_cons n n (numbers cells), holds_itself n)
 
-got_is : (us : List (Option Argument)) (k : ℕ) (a : Option Argument) → slice_get us k ≡ Some a → IsOf (map number_of us) (number_of a)
+got_is : (us : List (Option Argument)) (k : ℕ) (a : Option Argument) → slice_get us k ≡ Some a → IsOf (map argument_list us) (argument_list a)
 got_is [] k a is = absurd (none-some a is)
 got_is (b ∷ us) zero a is = subst_first b a (same_Some b a is)
   where
-    subst_first : (b a : Option Argument) → b ≡ a → IsOf (number_of b ∷ map number_of us) (number_of a)
-    subst_first b a e = subst (λ (x : Option Argument). IsOf (number_of b ∷ map number_of us) (number_of x)) e (first_of (number_of b) (map number_of us))
-got_is (b ∷ us) (suc k) a is = more_of (number_of b) (map number_of us) (number_of a) (got_is us k a is)
+    subst_first : (b a : Option Argument) → b ≡ a → IsOf (argument_list b ∷ map argument_list us) (argument_list a)
+    subst_first b a e = subst (λ (x : Option Argument). IsOf (argument_list b ∷ map argument_list us) (argument_list x)) e (first_of (argument_list b) (map argument_list us))
+got_is (b ∷ us) (suc k) a is = more_of (argument_list b) (map argument_list us) (argument_list a) (got_is us k a is)
 
-placed_is : (us : List (Option Argument)) (n k : ℕ) (o : Option (Option Argument)) → slice_get us k ≡ o → AreOf (map number_of us) (placed_argument n o)
+placed_is : (us : List (Option Argument)) (n k : ℕ) (o : Option (Option Argument)) → slice_get us k ≡ o → AreOf (map argument_list us) (placed_argument n o)
 placed_is us n k None is = (tt, tt)
-placed_is us n k (Some a) is = argument_is (map number_of us) a (got_is us k a is)
+placed_is us n k (Some a) is = argument_is (map argument_list us) a (got_is us k a is)
 
-token_is : (us : List (Option Argument)) (t : Token) → AreOf (map number_of us) (token_items us t)
+token_is : (us : List (Option Argument)) (t : Token) → AreOf (map argument_list us) (token_items us t)
 token_is us (token.Char category code) = (tt, tt)
 token_is us (token.Named name) = (tt, tt)
 token_is us (token.Marked name) = (tt, tt)
@@ -105,9 +105,9 @@ both_are : (cells : List (Option ℕ)) (xs ys : List Item) → AreOf cells xs �
 both_are cells [] ys a b = b
 both_are cells (x ∷ xs) ys a b = (a.0, both_are cells xs ys a.1 b)
 
-items_are : (us : List (Option Argument)) (ts : List Token) → AreOf (map number_of us) (substituted us ts)
+items_are : (us : List (Option Argument)) (ts : List Token) → AreOf (map argument_list us) (substituted us ts)
 items_are us [] = tt
-items_are us (t ∷ ts) = both_are (map number_of us) (token_items us t) (substituted us ts) (token_is us t) (items_are us ts)
+items_are us (t ∷ ts) = both_are (map argument_list us) (token_items us t) (substituted us ts) (token_is us t) (items_are us ts)
 
 pub call_is : (n : ℕ) (ts : List Token) (us : List (Option Argument)) → IsFront (call_put n ts us)
 call_is n ts us = record { reading = tt; items = items_are us (body_of ts) }

@@ -22,7 +22,7 @@ use Rattle.eqtb_save.specs.Table.{Table}
 use Rattle.eqtb_save.specs.Holding as eqtb
 use Rattle.equivalents.specs.Holding.{list_of, lists_held}
 use Rattle.input_stack.specs.Puts.{Put, Item, numbers, when_some, used_arguments}
-use Rattle.input_stack.specs.Calls.{Argument, call_put, number_of}
+use Rattle.input_stack.specs.Calls.{Argument, call_put, argument_list}
 use Rattle.input_stack.specs.CallViews.{argument_in, arguments_in, Shares}
 use Rattle.input_stack.specs.Pushes.{pushed_holds, call_refused}
 use Rattle.input_stack.specs.Pending as stack
@@ -98,14 +98,14 @@ module _ (old mid : List (Option Entry)) (s : InputStack) (making : Option Build
       ∙ ap (put_of v.lists v.groups.now.meanings) (sym calls)
 
   settled_was : HeldLists
-  settled_was = record (lists_of old (pending old s) making gathered (named m k) sizes) { puts = plain.settled (fronts old (pending old s).puts) }
+  settled_was = record (lists_of old (pending old s) making gathered (named m k) sizes) { puts = plain.without_ended (fronts old (pending old s).puts) }
 
   level_refused : room s.size (used_levels (pending old s)) ≡ refused sizes (level_held settled_was ∷ [])
   unfolding settled_was
   level_refused = levels_refused sizes (used_levels (pending old s)) _ s.size (levels_used old (pending old s) ∙ sym (ap (λ (n : ℕ). n + length (covers old (pending old s).sources)) (settled_levels_in (fronts old (pending old s).puts) (covered_puts (covers old (pending old s).sources))))) sound.sized.levels
 
   used_now : ℕ
-  used_now = plain.put_parameters (plain.settled (fronts old (pending old s).puts) ++ covered_puts (covers old (pending old s).sources))
+  used_now = plain.put_parameters (plain.without_ended (fronts old (pending old s).puts) ++ covered_puts (covers old (pending old s).sources))
 
   used_is : used_parameters (pending old s) ≡ used_now
   unfolding used_now
@@ -148,11 +148,11 @@ module _ (old mid new : List (Option Entry)) (s t : InputStack) (making : Option
   now : pending new t ≡ put (call_put (id_of body) (tokens_at old (id_of body)) (arguments_in old args)) (pending old s)
   now = after ∙ ap₂ put (put_same old mid s making gathered m k sizes capacity sound name body args its_call.filled is_call shares v is list_is) (shared_stands old mid s (all_builds making gathered) (named m k) (id_of body) sound.shared shares).1
 
-  its_cells : (h : ℕ) → times h (numbers (map number_of (arguments_in old args))) ≡ args_hold args h
+  its_cells : (h : ℕ) → times h (numbers (map argument_list (arguments_in old args))) ≡ args_hold args h
   its_cells h = args_numbers old args h its_call.filled
 
   own_now : (h : ℕ) → times h (owns (call_put (id_of body) (tokens_at old (id_of body)) (arguments_in old args) ∷ puts_in (pending old s))) ≡ args_hold args h + times h (owns (puts_in (pending old s)))
-  own_now h = omega (arith, its_cells h, times_append h (numbers (map number_of (arguments_in old args))) (owns (puts_in (pending old s))))
+  own_now h = omega (arith, its_cells h, times_append h (numbers (map argument_list (arguments_in old args))) (owns (puts_in (pending old s))))
 
   -- the arguments are the level's, and the macro's body is read once more
   apart_first : IsApart (call_put (id_of body) (tokens_at old (id_of body)) (arguments_in old args) ∷ puts_in (pending old s)) (all_builds making gathered) (named m call.None)
@@ -182,7 +182,7 @@ module _ (old mid new : List (Option Entry)) (s t : InputStack) (making : Option
   listed_now h some =
       let there : 0 < times h (cells_of (puts_in (put (call_put (id_of body) (tokens_at old (id_of body)) (arguments_in old args)) (pending old s)))) = subst (λ (p : Pending). 0 < times h (cells_of (puts_in p))) now some in
       let few = (fewer_put_in (call_put (id_of body) (tokens_at old (id_of body)) (arguments_in old args)) (pending old s)).cells h in
-      let all = times_append h (numbers (map number_of (arguments_in old args))) (cells_of (puts_in (pending old s))) in
+      let all = times_append h (numbers (map argument_list (arguments_in old args))) (cells_of (puts_in (pending old s))) in
       elim (cases_lt 0 (args_hold args h)) [
         | inl own ↦ listed_one h own
         | inr free ↦ sound.shared.listed h (omega (arith, there, few, all, its_cells h, free))
@@ -205,7 +205,7 @@ module _ (old mid new : List (Option Entry)) (s t : InputStack) (making : Option
         places = λ h few. keeps.places h (omega (arith, few, shares.holders h, its_holds h)) ∙ shares.places h;
       })
       lasting
-      (λ h some. subst IsDefined (sym (lasting h (omega (arith, some)))) (sound.shared.macros h some))
+      (λ h some. subst IsDefined (sym (lasting h (omega (arith, some)))) (sound.shared.all_lists h some))
 
   none_sound : IsSound new t making gathered (named m call.None) sizes capacity
   none_sound = record {

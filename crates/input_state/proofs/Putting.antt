@@ -55,7 +55,7 @@ module _ (old new : List (Option Entry)) (s t : InputStack) (a : Build) (gathere
     apart_now = subst (λ (p : Pending). IsApart (puts_in p) (reverse gathered) m) (sym after) (apart_fewer _ _ (reverse gathered) m (fewer_put_in (plain_put n (tokens_at old n)) (pending old s)) apart_first)
 
     macros_now : (h : ℕ) → 0 < eqtb.held m.table h → IsDefined (tokens_at new h)
-    macros_now h more = subst IsDefined (sym (lasts.tokens h (omega (arith, more, moves h, shared_now.counted h, built_cons a (reverse gathered) h, ap (λ (k : ℕ). holds k h) same)))) (shared_now.macros h more)
+    macros_now h more = subst IsDefined (sym (lasts.tokens h (omega (arith, more, moves h, shared_now.counted h, built_cons a (reverse gathered) h, ap (λ (k : ℕ). holds k h) same)))) (shared_now.all_lists h more)
 
     moved_now : Moved old new t m (reverse gathered)
     moved_now =
@@ -78,12 +78,12 @@ module _ (old new : List (Option Entry)) (s t : InputStack) (a : Build) (gathere
           (record { covers = λ h. omega (arith, now h); outside = λ h some. omega (arith, now h, some) }) sound.call;
     }
 
-    pub put_view : (now : Option Build) (v : HeldLists) → now ≡ None → lists_of old (pending old s) making gathered m sizes ≡ v → plain.settled v.puts ≡ v.puts →
+    pub put_view : (now : Option Build) (v : HeldLists) → now ≡ None → lists_of old (pending old s) making gathered m sizes ≡ v → plain.without_ended v.puts ≡ v.puts →
         lists_of new (pending new t) now gathered m sizes ≡ record v { puts = plain.with_put (plain.token_put (made v.making)) v.puts; making = None; lists = texts new }
     put_view now v none is settled_already =
         let was : lists_of old (pending old s) (Some a) gathered m sizes ≡ v = ap (λ (x : Option Build). lists_of old (pending old s) x gathered m sizes) (sym some) ∙ is in
         let ps = (pending old s).puts in
-        let quiet : plain.settled (fronts old ps) ≡ fronts old ps = ap (λ (w : HeldLists). plain.settled w.puts) was ∙ settled_already ∙ sym (ap (λ (w : HeldLists). w.puts) was) in
+        let quiet : plain.without_ended (fronts old ps) ≡ fronts old ps = ap (λ (w : HeldLists). plain.without_ended w.puts) was ∙ settled_already ∙ sym (ap (λ (w : HeldLists). w.puts) was) in
         let tokens : tokens_at old n ≡ text old a = ap (tokens_at old) same in
         ap (λ (x : Option Build). lists_of new (pending new t) x gathered m sizes) none
         ∙ moved_view old new t m sizes None gathered moved_now

@@ -78,7 +78,7 @@ module _ (old new : List (Option Entry)) (s : InputStack) (making : Option Build
       (λ h some. sound.shared.listed h (subst (λ (p : Pending). 0 < times h (cells_of (puts_in p))) recalled_stand.1 some))
       (record { tokens = λ h l. keeps.tokens h (omega (arith, l)); places = λ h l. keeps.places h (omega (arith, l)) })
       (λ h some. keeps.tokens h (shared_more h some))
-      (λ h some. subst IsDefined (sym (keeps.tokens h (shared_more h (omega (arith, some))))) (sound.shared.macros h some))
+      (λ h some. subst IsDefined (sym (keeps.tokens h (shared_more h (omega (arith, some))))) (sound.shared.all_lists h some))
 
   pub recalled_sound : IsCall new m l → IsSound new s making gathered (named m l) sizes capacity
   recalled_sound is = record {
@@ -183,7 +183,7 @@ enter_sound table s making gathered m n k sizes capacity sound after same = reco
       sole = λ h. sound.shared.apart.sole h;
       apart = λ h more. omega (arith, sound.shared.apart.apart h more, same h);
     };
-    macros = λ h some. sound.shared.macros h (omega (arith, some, same h));
+    all_lists = λ h some. sound.shared.all_lists h (omega (arith, some, same h));
     listed = sound.shared.listed;
   };
   sized = record {

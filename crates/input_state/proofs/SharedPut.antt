@@ -39,11 +39,11 @@ module _ (old : List (Option Entry)) (s : InputStack) (making : Option Build) (g
   was : HeldLists
   was = lists_of old (pending old s) making gathered m sizes
 
-  level_refused : room s.size (used_levels (pending old s)) ≡ refused sizes (level_held (record was { puts = plain.settled was.puts }) ∷ [])
+  level_refused : room s.size (used_levels (pending old s)) ≡ refused sizes (level_held (record was { puts = plain.without_ended was.puts }) ∷ [])
   unfolding was
   level_refused = levels_refused sizes (used_levels (pending old s)) _ s.size (levels_used old (pending old s) ∙ sym (ap (λ (n : ℕ). n + length (covers old (pending old s).sources)) (settled_levels_in (fronts old (pending old s).puts) (covered_puts (covers old (pending old s).sources))))) sound.sized.levels
 
-  by_items : (ts : List Token) → refusal s.size (map Text ts) (pending old s) ≡ refused sizes (when_called (map plain_item (map Text ts)) (level_held (record was { puts = plain.settled was.puts })))
+  by_items : (ts : List Token) → refusal s.size (map Text ts) (pending old s) ≡ refused sizes (when_called (map plain_item (map Text ts)) (level_held (record was { puts = plain.without_ended was.puts })))
   by_items [] = refl
   by_items (t ∷ ts) = level_refused
 
@@ -90,7 +90,7 @@ module _ (old mid new : List (Option Entry)) (s t : InputStack) (making : Option
   macros_now : (h : ℕ) → 0 < eqtb.held m.table h → IsDefined (tokens_at new h)
   macros_now h more =
       let there : 0 < holders_at new h = omega (arith, more, moves h, shares.holders h, sound.shared.counted h) in
-      subst IsDefined (sym (lasts.tokens h there ∙ shares.tokens h)) (sound.shared.macros h more)
+      subst IsDefined (sym (lasts.tokens h there ∙ shares.tokens h)) (sound.shared.all_lists h more)
 
   moved_now : Moved old new t m bs
   unfolding bs

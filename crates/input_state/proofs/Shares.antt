@@ -9,8 +9,8 @@ use Rattle.token_lists.specs.Accounts.{holds}
 use Rattle.equivalents.specs.Holding.{lists_held}
 use Rattle.eqtb_save.specs.Table.{Table}
 use Rattle.eqtb_save.specs.Holding as eqtb
-use Rattle.input_stack.specs.Puts.{Put, Item, numbers, lists_of, settled, settled_top, pulled, pulled_top, without_gaps, put_in_front, put_top}
-use Rattle.input_stack.specs.Pending.{Pending, times, lists_in, settle, put}
+use Rattle.input_stack.specs.Puts.{Put, Item, numbers, lists_of, without_ended, settled_top, pulled, pulled_top, without_gaps, put_in_front, put_top}
+use Rattle.input_stack.specs.Pending.{Pending, times, lists_in, end_token_lists, put}
 use Rattle.input_stack.specs.View.{pending, held, innermost}
 use Rattle.input_stack.specs.declared.stack.InputStack.{InputStack}
 use Rattle.input_stack.proofs.Helds.{held_puts}
@@ -88,9 +88,9 @@ settled_fewer : (p : Put) (xs : List Item) (ps qs : List Put) → Fewer ps qs �
 settled_fewer p [] ps qs f = drops_first p ps qs f
 settled_fewer p (x ∷ xs) ps qs f = same_first p qs _ (x ∷ xs)
 
-pub fewer_settled : (ps : List Put) → Fewer (settled ps) ps
+pub fewer_settled : (ps : List Put) → Fewer (without_ended ps) ps
 fewer_settled [] = fewer_none []
-fewer_settled (p ∷ ps) = settled_fewer p p.items (settled ps) ps (fewer_settled ps)
+fewer_settled (p ∷ ps) = settled_fewer p p.items (without_ended ps) ps (fewer_settled ps)
 
 pulled_fewer : (p : Put) (xs : List Item) (ps qs : List Put) → Fewer ps qs → Fewer (pulled_top p xs ps qs) (p ∷ qs)
 pulled_fewer p [] ps qs f = drops_first p ps qs f
@@ -105,9 +105,9 @@ put_fewer p [] ps = drops_first p ps ps (record { owns = λ h. omega arith; bodi
 put_fewer p (x ∷ xs) ps =
     let f = fewer_settled ps in
     record {
-      owns = λ h. omega (arith, f.owns h, times_append h (own_of p.body p.list (numbers p.arguments)) (owns ps), times_append h (own_of p.body p.list (numbers p.arguments)) (owns (settled ps)));
-      bodies = λ h. omega (arith, f.bodies h, times_append h (body_of p.body p.list) (bodies ps), times_append h (body_of p.body p.list) (bodies (settled ps)));
-      cells = λ h. omega (arith, f.cells h, times_append h (numbers p.arguments) (cells_of ps), times_append h (numbers p.arguments) (cells_of (settled ps)));
+      owns = λ h. omega (arith, f.owns h, times_append h (own_of p.body p.list (numbers p.arguments)) (owns ps), times_append h (own_of p.body p.list (numbers p.arguments)) (owns (without_ended ps)));
+      bodies = λ h. omega (arith, f.bodies h, times_append h (body_of p.body p.list) (bodies ps), times_append h (body_of p.body p.list) (bodies (without_ended ps)));
+      cells = λ h. omega (arith, f.cells h, times_append h (numbers p.arguments) (cells_of ps), times_append h (numbers p.arguments) (cells_of (without_ended ps)));
     }
 
 pub fewer_put : (p : Put) (ps : List Put) → Fewer (put_in_front p ps) (p ∷ ps)
@@ -121,8 +121,8 @@ fewer_behind ps qs rs f = record {
 }
 
 -- in front of all lines
-pub fewer_settle : (p : Pending) → Fewer (puts_in (settle p)) (puts_in p)
-fewer_settle p = fewer_behind (settled p.puts) p.puts (puts_below p.sources) (fewer_settled p.puts)
+pub fewer_settle : (p : Pending) → Fewer (puts_in (end_token_lists p)) (puts_in p)
+fewer_settle p = fewer_behind (without_ended p.puts) p.puts (puts_below p.sources) (fewer_settled p.puts)
 
 pub fewer_put_in : (x : Put) (p : Pending) → Fewer (puts_in (put x p)) (x ∷ puts_in p)
 fewer_put_in x p = fewer_behind (put_in_front x p.puts) (x ∷ p.puts) (puts_below p.sources) (fewer_put x p.puts)

@@ -131,7 +131,7 @@ keeps_lists old new table t stack m same = record { tokens = λ id is. text_at n
 pub macros_defined : (table : List (Option Entry)) (stack : InputStack) (bs : List Build) (m : Named) → IsShared table stack bs m → (id : ℕ) → is_listed (lists_held m.table.groups) id ≡ true → IsDefined (list_at (texts table) id)
 macros_defined table stack bs m shared id is =
     let one : some (eqtb.held m.table id) ≡ 1 = sym (listed_once id (lists_held m.table.groups)) ∙ ap (λ (b : Bool). cond b 1 0) is in
-    subst IsDefined (sym (text_at table id)) (shared.macros id (one_some (eqtb.held m.table id) one))
+    subst IsDefined (sym (text_at table id)) (shared.all_lists id (one_some (eqtb.held m.table id) one))
 
 -- A LIST THAT IS BEING BUILT CHANGES
 
@@ -213,7 +213,7 @@ module _ (old new : List (Option Entry)) (stack : InputStack) (m : Named) (xs zs
       building = now_building;
       counted = λ h. omega (arith, shared.counted h, moves h, parts zs h, parts us h);
       apart = subst (λ (p : Pending). IsApart (puts_in p) (xs ++ (us ++ ys)) m) (sym stand.1) (record { sole = one_place; apart = no_macro });
-      macros = λ h some. subst IsDefined (sym (held_stays.tokens h (omega (arith, some)))) (shared.macros h some);
+      all_lists = λ h some. subst IsDefined (sym (held_stays.tokens h (omega (arith, some)))) (shared.all_lists h some);
       listed = λ h some.
           let here : 0 < times h (cells_of (puts_in (pending old stack))) = subst (λ (p : Pending). 0 < times h (cells_of (puts_in p))) stand.1 some in
           subst (λ (ts : List Token). 0 < length ts) (sym (held_stays.tokens h (omega (arith, here, cells_owned (puts_in (pending old stack)) h, held_parts old stack h)))) (shared.listed h here);
@@ -260,7 +260,7 @@ module _ (old new : List (Option Entry)) (s t : InputStack) (m n : Named) (zs bs
         let now = own_alone new t bs n simple apart h (omega (arith, some)) in
         (omega (arith, was.0, was.1, was.2, shared.counted h), omega (arith, now.0, now.1, now.2, counted_now h), omega (arith, was.0, was.1, was.2, some, same, built_append zs bs h))
 
-    module _ (listed : (h : ℕ) → 0 < times h (cells_of (puts_in (pending new t))) → 0 < length (tokens_at old h)) (keeps : Keeps old new (λ h. built zs h + (held s h + names_hold m h))) (lasts : (h : ℕ) → 0 < held t h + eqtb.held n.table h → tokens_at new h ≡ tokens_at old h) (macros : (h : ℕ) → 0 < eqtb.held n.table h → IsDefined (tokens_at new h)) where
+    module _ (listed : (h : ℕ) → 0 < times h (cells_of (puts_in (pending new t))) → 0 < length (tokens_at old h)) (keeps : Keeps old new (λ h. built zs h + (held s h + names_hold m h))) (lasts : (h : ℕ) → 0 < held t h + eqtb.held n.table h → tokens_at new h ≡ tokens_at old h) (all_lists : (h : ℕ) → 0 < eqtb.held n.table h → IsDefined (tokens_at new h)) where
       built_stay : Stay old new (built bs)
       built_stay = record {
         tokens = λ h some. keeps.tokens h (omega (arith, (alone h some).0, (alone h some).2));
@@ -276,7 +276,7 @@ module _ (old new : List (Option Entry)) (s t : InputStack) (m n : Named) (zs bs
           building = building_stays old new bs built_stay (all_right old zs bs shared.building);
           counted = counted_now;
           apart = apart;
-          macros = macros;
+          all_lists = all_lists;
           listed = λ h some. subst (λ (ts : List Token). 0 < length ts) (sym (lasts h (omega (arith, some, cells_owned (puts_in (pending new t)) h, held_parts new t h)))) (listed h some);
         };
         in_front = (all_stay old new (pending new t) (λ h some. lasts h (omega (arith, some, held_parts new t h)))).0;
@@ -285,7 +285,7 @@ module _ (old new : List (Option Entry)) (s t : InputStack) (m n : Named) (zs bs
         kept = lasts;
       }
 
-module _ (old new : List (Option Entry)) (s t : InputStack) (m n : Named) (zs bs : List Build) (shared : IsShared old s (zs ++ bs) m) (stands : Stands new t) (simple : AreFronts (puts_in (pending new t))) (apart : IsApart (puts_in (pending new t)) bs n) (listed : (h : ℕ) → 0 < times h (cells_of (puts_in (pending new t))) → 0 < length (tokens_at old h)) (moves : (h : ℕ) → holders_at new h + (built zs h + (held s h + eqtb.held m.table h)) ≡ holders_at old h + (held t h + eqtb.held n.table h)) (keeps : Keeps old new (λ h. built zs h + (held s h + eqtb.held m.table h))) (lasts : (h : ℕ) → 0 < holders_at new h → tokens_at new h ≡ tokens_at old h) (macros : (h : ℕ) → 0 < eqtb.held n.table h → IsDefined (tokens_at new h)) (same : (h : ℕ) → call_holds n.call h ≡ call_holds m.call h) where
+module _ (old new : List (Option Entry)) (s t : InputStack) (m n : Named) (zs bs : List Build) (shared : IsShared old s (zs ++ bs) m) (stands : Stands new t) (simple : AreFronts (puts_in (pending new t))) (apart : IsApart (puts_in (pending new t)) bs n) (listed : (h : ℕ) → 0 < times h (cells_of (puts_in (pending new t))) → 0 < length (tokens_at old h)) (moves : (h : ℕ) → holders_at new h + (built zs h + (held s h + eqtb.held m.table h)) ≡ holders_at old h + (held t h + eqtb.held n.table h)) (keeps : Keeps old new (λ h. built zs h + (held s h + eqtb.held m.table h))) (lasts : (h : ℕ) → 0 < holders_at new h → tokens_at new h ≡ tokens_at old h) (all_lists : (h : ℕ) → 0 < eqtb.held n.table h → IsDefined (tokens_at new h)) (same : (h : ℕ) → call_holds n.call h ≡ call_holds m.call h) where
   moves_all : (h : ℕ) → holders_at new h + (built zs h + (held s h + names_hold m h)) ≡ holders_at old h + (held t h + names_hold n h)
   moves_all h = omega (arith, moves h, same h)
 
@@ -294,7 +294,7 @@ module _ (old new : List (Option Entry)) (s t : InputStack) (m n : Named) (zs bs
     reheld =
         reheld old new s t m n zs bs shared moves_all stands simple apart listed
         (record { tokens = λ h l. keeps.tokens h (omega (arith, l)); places = λ h l. keeps.places h (omega (arith, l)) })
-        (λ h some. lasts h (omega (arith, some, counted_now old new s t m n zs bs shared moves_all h))) macros;
+        (λ h some. lasts h (omega (arith, some, counted_now old new s t m n zs bs shared moves_all h))) all_lists;
     called =
         let alone = λ (h : ℕ). call_alone old new s t m n zs bs shared moves_all stands simple apart h (same h) in
         record {

@@ -21,7 +21,7 @@ use Rattle.equivalents.specs.Holding.{lists_held}
 use Rattle.eqtb_save.specs.Table.{Table, first_table}
 use Rattle.eqtb_save.specs.Holding as eqtb
 use Rattle.input_stack.specs.Puts.{Put}
-use Rattle.input_stack.specs.Pending.{Pending, Below, times, settle, sources_at, at_line, Ends, EndsIn}
+use Rattle.input_stack.specs.Pending.{Pending, Below, times, end_token_lists, sources_at, at_line, Ends, EndsIn}
 use Rattle.input_stack.specs.View.{pending, pending_in, held, held_in, innermost}
 use Rattle.input_stack.specs.Standing.{Stands}
 use Rattle.input_stack.specs.Lasting.{Lasts, LastsBut}
@@ -90,8 +90,8 @@ module _ (old new : List (Option Entry)) (stack : InputStack) (m : Named) (sizes
     sized = sized_now old new stack stack m sizes capacity now sound.sized size refl refl same;
     call =
         let part = λ (f : ℕ → ℕ) (less : (h : ℕ) → f h ≤ held stack h + names_hold m h). stay_less old new (λ h. held stack h + names_hold m h) f less c.stays in
-        let macros = part (eqtb.held m.table) (λ h. omega arith) in
-        call_stays old new m.table m.table m.call refl (part (call_holds m.call) (λ h. omega arith)) (record { tokens = macros.tokens; places = macros.places })
+        let all_lists = part (eqtb.held m.table) (λ h. omega arith) in
+        call_stays old new m.table m.table m.call refl (part (call_holds m.call) (λ h. omega arith)) (record { tokens = all_lists.tokens; places = all_lists.places })
         (record { covers = λ h. omega (arith, c.shared.counted h); outside = λ h some. omega (arith, c.shared.counted h, some) }) sound.call;
   }
 
@@ -131,7 +131,7 @@ module _ (old new : List (Option Entry)) (s t : InputStack) (making : Option Bui
 
   -- a macro keeps its list
   macros_stay : (h : ℕ) → 0 < eqtb.held m.table h → IsDefined (tokens_at new h)
-  macros_stay h some = subst IsDefined (sym (lasts.tokens h (omega (arith, some, moves h, sound.shared.counted h)))) (sound.shared.macros h some)
+  macros_stay h some = subst IsDefined (sym (lasts.tokens h (omega (arith, some, moves h, sound.shared.counted h)))) (sound.shared.all_lists h some)
 
   pub levels_moved : Moved old new t m (all_builds making gathered)
   levels_moved =
@@ -156,7 +156,7 @@ pub lasts_none : (old new : List (Option Entry)) → Lasts old new → LastsBut 
 lasts_none old new lasts = record { size = lasts.size; fewer = λ h. omega (arith, lasts.fewer h); tokens = lasts.tokens }
 
 module _ (old new : List (Option Entry)) (s t : InputStack) (making : Option Build) (gathered : List Build) (m : Named) (sizes : Sizes) (capacity : ℕ) (sound : IsSound old s making gathered m sizes capacity) (stands : Stands new t) (moves : Moves old new (held s) (held t)) (keeps : Keeps old new (held s)) (lasts : Lasts old new) (size : t.size ≡ s.size) (parameters : t.parameter_size ≡ s.parameter_size) where
-  module _ (after : pending new t ≡ settle (pending old s)) where
+  module _ (after : pending new t ≡ end_token_lists (pending old s)) where
     settled_simple : AreFronts (puts_in (pending new t))
     settled_simple = subst (λ (p : Pending). AreFronts (puts_in p)) (sym after) (simple_settled (pending old s) sound.shared.fronts)
 
@@ -169,12 +169,12 @@ module _ (old new : List (Option Entry)) (s t : InputStack) (making : Option Bui
     pub settled_sound : IsSound new t making gathered m sizes capacity
     settled_sound = levels_sound old new s t making gathered m sizes capacity none sound stands moves keeps (lasts_none old new lasts) size parameters settled_simple settled_few
 
-    pub settled_view : (v : HeldLists) → lists_of old (pending old s) making gathered m sizes ≡ v → lists_of new (pending new t) making gathered m sizes ≡ record v { puts = plain.settled v.puts; lists = texts new }
+    pub settled_view : (v : HeldLists) → lists_of old (pending old s) making gathered m sizes ≡ v → lists_of new (pending new t) making gathered m sizes ≡ record v { puts = plain.without_ended v.puts; lists = texts new }
     settled_view v is =
         moved_view old new t m sizes making gathered settled_moved
         ∙ ap (λ (p : Pending). record (lists_of old p making gathered m sizes) { lists = texts new }) after
         ∙ ap (λ (ps : List plain.Put). held_lists ps (made_text old making) (calling_of old m.call) (map (text old) (reverse gathered)) (covers old (pending old s).sources) m.table sizes (texts new)) (fronts_settled old (pending old s).puts)
-        ∙ ap (λ (w : HeldLists). record w { puts = plain.settled w.puts; lists = texts new }) is
+        ∙ ap (λ (w : HeldLists). record w { puts = plain.without_ended w.puts; lists = texts new }) is
 
     pub settled_macros : (v : HeldLists) → lists_of old (pending old s) making gathered m sizes ≡ v → KeepsLists (lists_held m.table.groups) (all_fronts new (pending new t)) v.lists (texts new)
     settled_macros v is = macros_moved old new t m sizes (all_builds making gathered) v.lists settled_moved (ap (λ (w : HeldLists). w.lists) is)
@@ -190,7 +190,7 @@ module _ (table : List (Option Entry)) (s t : InputStack) (making : Option Build
       building = sound.shared.building;
       counted = λ h. omega (arith, sound.shared.counted h, held_same h);
       apart = subst (λ (ps : List Put). IsApart ps (all_builds making gathered) m) (sym same) sound.shared.apart;
-      macros = sound.shared.macros;
+      all_lists = sound.shared.all_lists;
       listed = λ h some. sound.shared.listed h (subst (λ (ps : List Put). 0 < times h (cells_of ps)) same some);
     };
     sized = sized_now table table s t m sizes capacity capacity sound.sized refl size parameters refl;
@@ -237,7 +237,7 @@ new_sound knows table stack items m sizes capacity is empty stands size paramete
       building = All-nil (IsBuilding table);
       counted = λ h. omega (arith, zero_at h, ap (λ (ls : List Level). held_in ls h) empty, free h);
       apart = subst (λ (ls : List Level). IsApart (puts_in (pending_in table ls)) [] (named m call.None)) (sym empty) (record { sole = λ h. omega arith; apart = λ h some. omega (arith, some) });
-      macros = λ h some. absurd (omega (arith, some, free h));
+      all_lists = λ h some. absurd (omega (arith, some, free h));
       listed = λ h some.
           let here : 0 < times h (cells_of (puts_in (pending_in table []))) = subst (λ (ls : List Level). 0 < times h (cells_of (puts_in (pending_in table ls)))) empty some in
           absurd (omega (arith, here));

@@ -9,7 +9,7 @@ use Rattle.plain_tokens.specs.Pending.{Pending, Progress, Source, Begun, line_ta
 use Rattle.line_lexer.specs.declared.Line.{Line}
 use Rattle.line_lexer.specs.declared.LineState.TheVariants.{NewLine}
 use Rattle.line_lexer.specs.Answers.{rest_of}
-use Rattle.input_state.specs.FileLeft.{FileLeft, FilesLeft, innermost, progress_of, rooms_end, go_on, begun_file}
+use Rattle.input_state.specs.FileLeft.{FileLeft, FilesLeft, innermost, progress_of, rooms_end, pass_line, begun_file}
 use Rattle.input_state.specs.HeldLists.{HeldLists, Covered, pending_of, outer_in, at_line, opened_over, puts_beneath, AreInBuffer, GoFurther}
 use Rattle.input_state.specs.InputViews.{stored_of, AreInRooms, IsTied}
 use Rattle.input_state.specs.Stored.{Stored}
@@ -45,7 +45,7 @@ kept_length bytes kept whole fewer within is = omega (arith, ap length is, lengt
 
 -- PARTS
 
-pub went_on : (whole used : ℕ) (fs : List FileLeft) → 0 < length fs → go_on whole used fs ≡ record { whole = whole; rest = drop used (innermost fs).rest; number = next_number (innermost fs).number; ends = (innermost fs).ends } ∷ drop 1 fs
+pub went_on : (whole used : ℕ) (fs : List FileLeft) → 0 < length fs → pass_line whole used fs ≡ record { whole = whole; rest = drop used (innermost fs).rest; number = next_number (innermost fs).number; ends = (innermost fs).ends } ∷ drop 1 fs
 went_on whole used [] some = absurd (omega (arith, some))
 went_on whole used (f ∷ fs) some = refl
 
@@ -70,7 +70,7 @@ same_pending puts lex number ends next l k w v r s f g o p a b c d e = rw (a, b,
 
 -- THE NEXT LINE OF THE FILE
 
-module _ (h front now : HeldLists) (b m d : List ℕ) (count kept used : ℕ) (f g : FilesLeft) (front_is : front ≡ record h { puts = []; below = front.below; lists = front.lists }) (now_is : now ≡ record front { below = at_line (line_at (rooms_end (drop 1 f.files)) count) front.below }) (file_is : g ≡ record f { files = go_on kept used f.files }) (further : GoFurther h.below front.below) (tied : IsTied h b f) (lines : 0 < length front.below) (files : 0 < length f.files) where
+module _ (h front now : HeldLists) (b m d : List ℕ) (count kept used : ℕ) (f g : FilesLeft) (front_is : front ≡ record h { puts = []; below = front.below; lists = front.lists }) (now_is : now ≡ record front { below = at_line (line_at (rooms_end (drop 1 f.files)) count) front.below }) (file_is : g ≡ record f { files = pass_line kept used f.files }) (further : GoFurther h.below front.below) (tied : IsTied h b f) (lines : 0 < length front.below) (files : 0 < length f.files) where
   start : ℕ
   start = rooms_end (drop 1 f.files)
 

@@ -75,8 +75,8 @@ words_are table stack making gathered m sizes shared is =
     let words = words_counted (lists_held m.table.groups) (fronts table ps) table (ns ++ ks) counted in
     let calls = sum_by-append list_words (call_lists (calling_of table m.call)) (map (text table) (reverse gathered)) in
     let all = fronts_in table (pending table stack) in
-    let macros = ap (λ (qs : List Put). shared_words 0 (lists_held m.table.groups) qs (texts table)) all in
-    omega (arith, words, macros, ap put_words all, sum_by-append (words_at table) ns ks, sum_by-append (words_at table) (call_numbers m.call) (map build_id bs), front_words table ps shared.listed, build_words table bs, all_words table making (reverse gathered), call_words table m.table m.call is, calls)
+    let all_lists = ap (λ (qs : List Put). shared_words 0 (lists_held m.table.groups) qs (texts table)) all in
+    omega (arith, words, all_lists, ap put_words all, sum_by-append (words_at table) ns ks, sum_by-append (words_at table) (call_numbers m.call) (map build_id bs), front_words table ps shared.listed, build_words table bs, all_words table making (reverse gathered), call_words table m.table m.call is, calls)
 
 -- a list takes a word
 few : (us : List (List Token)) → length us ≤ lists_words us

@@ -10,7 +10,7 @@ use Rattle.plain_tokens.specs.Meanings.{is_listed, name_meaning, meaning_to_let}
 use Rattle.equivalents.specs.Groups.{Groups, set_name}
 use Rattle.equivalents.specs.Holding.{lists_held, lists_outside}
 use Rattle.plain_tokens.specs.Arguments.{has_parameters, begins_with_place}
-use Rattle.plain_tokens.specs.Puts.{Item, Put, call_put, token_put, settled}
+use Rattle.plain_tokens.specs.Puts.{Item, Put, call_put, token_put, without_ended}
 use Rattle.plain_tokens.specs.Pending.{Pending, with_puts}
 use Rattle.plain_tokens.specs.Tables.{Demand}
 use Rattle.input_state.specs.declared.answer.CallKind.{CallKind}
@@ -53,7 +53,7 @@ called_put lists m = token_put []
 -- A list without items, as of a macro without a body, changes nothing; else the finished lists in front go, and it is in front.
 abbrev pub called_top : Put → List Item → List Put → List Put
 called_top p [] puts = puts
-called_top p (x ∷ xs) puts = p ∷ settled puts
+called_top p (x ∷ xs) puts = p ∷ without_ended puts
 
 abbrev pub called : Put → List Put → List Put
 called p puts = called_top p p.items puts

@@ -68,9 +68,9 @@ add_bytes bytes [] = []
 add_bytes bytes (f ∷ fs) = record f { rest = f.rest ++ bytes } ∷ fs
 
 -- the next line of this length was taken, with so many bytes
-abbrev pub go_on : (whole used : ℕ) → List FileLeft → List FileLeft
-go_on whole used [] = []
-go_on whole used (f ∷ fs) = record { whole = whole; rest = drop used f.rest; number = next_number f.number; ends = f.ends } ∷ fs
+abbrev pub pass_line : (whole used : ℕ) → List FileLeft → List FileLeft
+pass_line whole used [] = []
+pass_line whole used (f ∷ fs) = record { whole = whole; rest = drop used f.rest; number = next_number f.number; ends = f.ends } ∷ fs
 
 -- the first line of a file of these bytes was taken
 abbrev pub begun_file : (whole used : ℕ) → List ℕ → FileLeft

@@ -5,7 +5,7 @@ use Rattle.tex_defs.specs.declared.Full.{Full}
 use Rattle.tex_defs.specs.declared.Sizes.{Sizes}
 use Rattle.tex_defs.specs.declared.Table.TheVariants.{InputStackSize, ParameterStackSize}
 use Rattle.plain_tokens.specs.Lex as plain
-use Rattle.plain_tokens.specs.Puts.{Put, put_levels, put_parameters, settled, passed}
+use Rattle.plain_tokens.specs.Puts.{Put, put_levels, put_parameters, without_ended, passed}
 use Rattle.plain_tokens.specs.Pending.{Pending, Source}
 use Rattle.plain_tokens.specs.Tables.{Demand, refused, held_words}
 use Rattle.save_stack.specs.declared.GroupKind.{GroupKind}
@@ -78,7 +78,7 @@ KeepsHeld old new = KeepsLists (lists_held new.groups) (puts_held new) old.lists
 
 -- the finished lists in front go
 abbrev pub settle_held : HeldLists → HeldLists
-settle_held s = record s { puts = settled s.puts }
+settle_held s = record s { puts = without_ended s.puts }
 
 -- a level more, beside those of the lists in front and of the files
 abbrev pub level_held : HeldLists → Demand

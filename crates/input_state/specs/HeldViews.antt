@@ -203,7 +203,7 @@ pub record IsShared (table : List (Option Entry)) (stack : InputStack) (bs : Lis
   pub building : All (IsBuilding table) bs
   pub counted : (h : ℕ) → holders_at table h ≡ held stack h + (built bs h + names_hold m h)
   pub apart : IsApart (puts_in (pending table stack)) bs m
-  pub macros : (h : ℕ) → 0 < eqtb.held m.table h → IsDefined (tokens_at table h)
+  pub all_lists : (h : ℕ) → 0 < eqtb.held m.table h → IsDefined (tokens_at table h)
   -- an argument without tokens has no list
   pub listed : (h : ℕ) → 0 < times h (cells_of (puts_in (pending table stack))) → 0 < length (tokens_at table h)
 

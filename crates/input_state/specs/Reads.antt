@@ -5,7 +5,7 @@ use Rattle.tex_defs.specs.declared.Sizes.{Sizes}
 use Rattle.plain_tokens.specs.Lex as plain
 use Rattle.plain_tokens.specs.Puts.{next_item}
 use Rattle.plain_tokens.specs.Lines.{first_line}
-use Rattle.plain_tokens.specs.Pending.{Pending, Pulled, TokenFrom, LexemeFrom, LineTaken, InvalidMet, FileOver, NothingLeft, pulled, from_file, with_end, settle}
+use Rattle.plain_tokens.specs.Pending.{Pending, Pulled, TokenFrom, LexemeFrom, LineTaken, InvalidMet, FileOver, NothingLeft, pulled, from_file, with_end, end_token_lists}
 use Rattle.plain_tokens.specs.Tables.{Demand, refused, opened_level, next_line}
 use Rattle.equivalents.specs.Parameters.{end_of_line}
 use Rattle.line_lexer.specs.Answers.{span}
@@ -44,7 +44,7 @@ Gives p (answer.Lexeme l) old new buffer = ReadsLexeme p l new buffer
 Gives p answer.Taken old new buffer = p ≡ LineTaken (first_line old.rest) new
 Gives p answer.Invalid old new buffer = p ≡ InvalidMet new
 Gives p answer.FileOver old new buffer = p ≡ FileOver new
-Gives p answer.Nothing old new buffer = (p ≡ NothingLeft) × (new ≡ settle old)
+Gives p answer.Nothing old new buffer = (p ≡ NothingLeft) × (new ≡ end_token_lists old)
 
 -- the same, where it isn't refused
 abbrev pub GivesTo : Pulled → Result answers.Pulled Full → Pending → Pending → List ℕ → Type 0
@@ -58,7 +58,7 @@ Reads p (answer.Lexeme l) sizes end old new buffer = ReadsLexeme p l new buffer
 Reads p answer.Taken sizes end old new buffer = TakesLine p end old new × (refused sizes (next_line old) ≡ None)
 Reads p answer.Invalid sizes end old new buffer = p ≡ InvalidMet new
 Reads p answer.FileOver sizes end old new buffer = p ≡ FileOver new
-Reads p answer.Nothing sizes end old new buffer = (p ≡ NothingLeft) × (new ≡ settle old)
+Reads p answer.Nothing sizes end old new buffer = (p ≡ NothingLeft) × (new ≡ end_token_lists old)
 
 abbrev pub Pulls : Pulled → answers.Pulled → Stored → Stored → Type 0
 Pulls p result old new = Reads p result old.sizes (end_of_line old.groups.now) old.pending new.pending new.buffer
@@ -79,7 +79,7 @@ pub record RefusesTaken (q : Pulled) (full : Full) (old new : Stored) : Type 0 w
   pub next : Pending
   pub takes : q ≡ LineTaken line next
   pub refused : refused old.sizes (next_line old.pending) ≡ Some full
-  pub stays : new.pending ≡ settle old.pending
+  pub stays : new.pending ≡ end_token_lists old.pending
 
 -- it would be the file's
 abbrev pub RefusesLine : Full → Stored → Stored → Type 0

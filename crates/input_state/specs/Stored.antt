@@ -4,7 +4,7 @@ use Rattle.tex_defs.specs.declared.Token.{Token}
 use Rattle.tex_defs.specs.declared.Full.{Full}
 use Rattle.tex_defs.specs.declared.Sizes.{Sizes}
 use Rattle.plain_tokens.specs.Puts.{Put}
-use Rattle.plain_tokens.specs.Pending.{Pending, settle, all_puts}
+use Rattle.plain_tokens.specs.Pending.{Pending, end_token_lists, all_puts}
 use Rattle.plain_tokens.specs.Tables.{held_words, level, open_lines, parameters, refused}
 use Rattle.save_stack.specs.declared.GroupKind.{GroupKind}
 use Rattle.equivalents.specs.Groups.{Groups}
@@ -41,16 +41,16 @@ abbrev pub words : Stored → ℕ
 words s = shared_words 0 (lists_held s.groups) (all_puts s.pending) s.lists + held_words (all_puts s.pending) s.making (gathered s)
 
 -- each shared list that is held then keeps its tokens
-abbrev pub KeepsMacros : Stored → Stored → Type 0
-KeepsMacros old new = KeepsLists (lists_held new.groups) (all_puts new.pending) old.lists new.lists
+abbrev pub KeepsShared : Stored → Stored → Type 0
+KeepsShared old new = KeepsLists (lists_held new.groups) (all_puts new.pending) old.lists new.lists
 
 -- why a macro's body or another list isn't put, once the finished lists in front have gone
 abbrev pub call_refusal : Put → Stored → Option Full
-call_refusal p s = refused s.sizes (when_called p.items (level (settle s.pending)))
+call_refusal p s = refused s.sizes (when_called p.items (level (end_token_lists s.pending)))
 
 -- why a call with arguments isn't put, once the finished lists in front have gone: the arguments are asked for before the level
 abbrev pub put_refusal : Put → Stored → Option Full
-put_refusal p s = refused s.sizes (when_put p.items (parameters p (settle s.pending) ∷ level (settle s.pending) ∷ []))
+put_refusal p s = refused s.sizes (when_put p.items (parameters p (end_token_lists s.pending) ∷ level (end_token_lists s.pending) ∷ []))
 
 -- the bytes of a name of this length, which is spelt behind the open lines
 abbrev pub spelt : Stored → ℕ → List ℕ

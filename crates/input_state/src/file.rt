@@ -2,7 +2,7 @@
 ghost use Rattle.std.specs.Prelude.{◌≡◌, ℕ, ◌≤◌, ◌<◌, ◌+◌, ◌^◌, ◌++◌, List, [], ◌∷◌, length, drop, Option, true, false, None, Some, IsSome, MatchBool, IfOk, IfSome, if◌then◌else◌};
 ghost use Rattle.std.specs.Option.{option_map};
 ghost use Rattle.plain_tokens.specs.Tables.{opened_files};
-ghost use Rattle.input_state.specs.FileLeft.{innermost, rooms_end, step_of, lacks_next, lacks_first, add_bytes, go_on, begun_file, end_input, is_line};
+ghost use Rattle.input_state.specs.FileLeft.{innermost, rooms_end, step_of, lacks_next, lacks_first, add_bytes, pass_line, begun_file, end_input, is_line};
 
 use crate::bytes::FileBytes;
 use std::alloc::{AllocError, Global};
@@ -166,10 +166,10 @@ impl Files {
     }
 
     /// The next line of this length was taken, which took up so many bytes.
-    pub fn go_on(&mut self, whole: usize, used: usize)
+    pub fn pass_line(&mut self, whole: usize, used: usize)
         requires within { used ≤ length (innermost self.old.files).rest }
         requires room { rooms_end (drop 1 self.old.files) + (1 + whole) ≤ self.old.buffer_size }
-        ensures { self.new ≡ record self.old { files = go_on whole used self.old.files } }
+        ensures { self.new ≡ record self.old { files = pass_line whole used self.old.files } }
     {
         if let Some(file) = &mut self.innermost {
             file.bytes.read(used);

@@ -13,7 +13,7 @@ ghost use Rattle.input_state.specs.Standing.{list_number};
 ghost use Rattle.equivalents.specs.Groups.{IsLocation};
 ghost use Rattle.equivalents.specs.Holding.{list_of};
 ghost use Rattle.equivalents.specs.Locations.{tokens_of};
-ghost use Rattle.eqtb_save.specs.Values.{numbered};
+ghost use Rattle.eqtb_save.specs.Values.{numbered_value};
 ghost use Rattle.eqtb_save.specs.Holding.{held};
 
 use eqtb_save::{Eqtb, Loc, Val, Value};
@@ -73,7 +73,7 @@ pub fn give_back(lists: &mut Lists, list: ListRef, args: Args)
 
 // The list of a value that is one.
 fn list_of(value: &Value) -> Option<&ListRef>
-    ensures { MatchOption result (tokens_of (numbered value.now) ≡ None) (λ r. tokens_of (numbered value.now) ≡ Some (id_of r.now)) }
+    ensures { MatchOption result (tokens_of (numbered_value value.now) ≡ None) (λ r. tokens_of (numbered_value value.now) ≡ Some (id_of r.now)) }
 {
     match value {
         Val::Tokens(Some(list)) => Some(list),

@@ -10,11 +10,11 @@ ghost use Rattle.equivalents.specs.Parameters.{integer_in};
 ghost use Rattle.equivalents.specs.Holding.{lists_held, lists_outside};
 ghost use Rattle.equivalents.specs.Laws.{AreAlike};
 ghost use Rattle.equivalents.specs.Cases.{case_codes, case_changed};
-ghost use Rattle.eqtb_save.specs.Values.{numbered};
+ghost use Rattle.eqtb_save.specs.Values.{numbered_value};
 ghost use Rattle.eqtb_save.specs.Holding.{val_holds, held};
 ghost use Rattle.meanings.specs.Holding.{Lasts};
 ghost use Rattle.plain_tokens.specs.Arguments.{are_same};
-ghost use Rattle.plain_tokens.specs.Puts.{settled, passed, with_put, token_put, grow_first, grown_by};
+ghost use Rattle.plain_tokens.specs.Puts.{without_ended, passed, with_put, token_put, grow_first, grown_by};
 ghost use Rattle.plain_tokens.specs.Pending.{pulled};
 ghost use Rattle.plain_tokens.specs.Tables.{lists_words, memory, refused};
 ghost use Rattle.line_lexer.specs.declared.Ahead.TheVariants as ahead;
@@ -97,15 +97,15 @@ impl Model for Held {
 // An assignment for which there is room. The list of the old value is let go, or saved with it.
 fn assign(table: &mut Eqtb, lists: &mut Lists, global: bool, place: Loc, value: Value)
     requires within { IsLocation table.old.groups place }
-    requires suits { Suits place (numbered value) }
+    requires suits { Suits place (numbered_value value) }
     requires room { refused table.old.sizes (set_demands global table.old.groups place) ≡ None }
-    requires covered { Covers lists.old (λ h. val_holds (numbered value) h + held table.old h) }
-    ensures after { table.new ≡ record table.old { groups = set global table.old.groups place (numbered value) } }
-    ensures account { Moves lists.old lists.new (λ h. val_holds (numbered value) h + held table.old h) (held table.new) }
-    ensures kept { Keeps lists.old lists.new (λ h. val_holds (numbered value) h + held table.old h) }
+    requires covered { Covers lists.old (λ h. val_holds (numbered_value value) h + held table.old h) }
+    ensures after { table.new ≡ record table.old { groups = set global table.old.groups place (numbered_value value) } }
+    ensures account { Moves lists.old lists.new (λ h. val_holds (numbered_value value) h + held table.old h) (held table.new) }
+    ensures kept { Keeps lists.old lists.new (λ h. val_holds (numbered_value value) h + held table.old h) }
     ensures lasting { Lasts lists.old lists.new }
     ensures fewer { (h : ℕ) → holders_at lists.new h ≤ holders_at lists.old h }
-    ensures stored { (h : ℕ) → val_holds (numbered value) h ≤ held table.new h }
+    ensures stored { (h : ℕ) → val_holds (numbered_value value) h ≤ held table.new h }
     ensures length { length lists.new ≡ length lists.old }
 {
     let _old = table.get(place);
@@ -218,9 +218,9 @@ impl Held {
     }
 
     /// The lists in front that are finished go.
-    pub fn settle(&mut self)
-        ensures after { self.new ≡ record self.old { puts = settled self.old.puts; lists = self.new.lists } }
-        ensures macros { KeepsHeld self.old self.new }
+    pub fn end_token_lists(&mut self)
+        ensures after { self.new ≡ record self.old { puts = without_ended self.old.puts; lists = self.new.lists } }
+        ensures all_lists { KeepsHeld self.old self.new }
     {
         self.stack.drop_finished(&mut self.lists);
     }
@@ -233,7 +233,7 @@ impl Held {
         ensures refused { MatchResult result (λ _. refused self.old.sizes (memory 1 (words_held self.old) ∷ []) ≡ None) (λ full. refused self.old.sizes (memory 1 (words_held self.old) ∷ []) ≡ Some full) }
         ensures ok { OnOk result (self.new ≡ record self.old { builds = [] ∷ self.old.builds; lists = self.new.lists }) }
         ensures err { OnErr result (self.new ≡ self.old) }
-        ensures macros { KeepsHeld self.old self.new }
+        ensures all_lists { KeepsHeld self.old self.new }
     {
         match begin(&mut self.lists) {
             Ok(build) => {
@@ -253,7 +253,7 @@ impl Held {
         ensures refused { MatchResult result (λ _. refused self.old.sizes (memory 1 (words_held self.old) ∷ []) ≡ None) (λ full. refused self.old.sizes (memory 1 (words_held self.old) ∷ []) ≡ Some full) }
         ensures ok { OnOk result (self.new ≡ record self.old { builds = grow_first token self.old.builds; lists = self.new.lists }) }
         ensures err { OnErr result (self.new ≡ self.old) }
-        ensures macros { KeepsHeld self.old self.new }
+        ensures all_lists { KeepsHeld self.old self.new }
     {
         let Some(mut build) = self.builds.pop() else {
             unreachable!()
@@ -273,7 +273,7 @@ impl Held {
         ensures ok { OnOk result (self.new ≡ record self.old { builds = appended (standing_tokens self.old.lists self.old.groups loc) self.old.builds; lists = self.new.lists }) }
         ensures fits { OnOk result (words_held self.old + length (standing_tokens self.old.lists self.old.groups loc) ≤ self.old.sizes.main_memory_size) }
         ensures err { IfErr result (λ full. HeldShort held_appended (standing_tokens self.old.lists self.old.groups loc) self.old self.new full) }
-        ensures macros { KeepsHeld self.old self.new }
+        ensures all_lists { KeepsHeld self.old self.new }
     {
         let _old_words = self.lists.used();
         let Some(list) = standing(&self.table, loc) else {
@@ -299,7 +299,7 @@ impl Held {
     pub fn drop_list(&mut self)
         requires { self.old.builds ≢ [] }
         ensures after { self.new ≡ record self.old { builds = drop 1 self.old.builds; lists = self.new.lists } }
-        ensures macros { KeepsHeld self.old self.new }
+        ensures all_lists { KeepsHeld self.old self.new }
     {
         let Some(build) = self.builds.pop() else {
             unreachable!()
@@ -331,7 +331,7 @@ impl Held {
     }
 
     /// One of these lists, by its number from the innermost, and the memory in which it stands.
-    pub fn list_number(&self, k: usize) -> (&Lists, &Build)
+    pub fn nth_list(&self, k: usize) -> (&Lists, &Build)
         requires { k < length self.now.builds }
         ensures held { IsHeld result.0.now (build_id result.1.now) }
         ensures tokens { tokens_at result.0.now (build_id result.1.now) ≡ list_at self.now.builds k }
@@ -365,7 +365,7 @@ impl Held {
         ensures refused { MatchResult result (λ _. refused self.old.sizes (memory 1 (words_held self.old) ∷ []) ≡ None) (λ full. refused self.old.sizes (memory 1 (words_held self.old) ∷ []) ≡ Some full) }
         ensures ok { OnOk result (self.new ≡ record self.old { making = Some []; lists = self.new.lists }) }
         ensures err { OnErr result (self.new ≡ self.old) }
-        ensures macros { KeepsHeld self.old self.new }
+        ensures all_lists { KeepsHeld self.old self.new }
     {
         match begin(&mut self.lists) {
             Ok(build) => {
@@ -387,7 +387,7 @@ impl Held {
         ensures refused { MatchResult result (λ _. refused self.old.sizes (memory 1 (words_held self.old) ∷ []) ≡ None) (λ full. refused self.old.sizes (memory 1 (words_held self.old) ∷ []) ≡ Some full) }
         ensures ok { OnOk result (self.new ≡ record self.old { making = grown_by token self.old.making; lists = self.new.lists }) }
         ensures err { OnErr result (self.new ≡ self.old) }
-        ensures macros { KeepsHeld self.old self.new }
+        ensures all_lists { KeepsHeld self.old self.new }
     {
         let Some(mut build) = self.making.take() else {
             unreachable!()
@@ -409,7 +409,7 @@ impl Held {
         ensures ok { OnOk result (self.new ≡ record self.old { making = appended_made (map (case_changed (case_codes upper self.old.groups.now)) (first_list self.old.builds)) self.old.making; lists = self.new.lists }) }
         ensures fits { OnOk result (words_held self.old + length (map (case_changed (case_codes upper self.old.groups.now)) (first_list self.old.builds)) ≤ self.old.sizes.main_memory_size) }
         ensures err { IfErr result (λ full. HeldShort held_appended_made (map (case_changed (case_codes upper self.old.groups.now)) (first_list self.old.builds)) self.old self.new full) }
-        ensures macros { KeepsHeld self.old self.new }
+        ensures all_lists { KeepsHeld self.old self.new }
     {
         let _old_words = self.lists.used();
         let from = at_first_built(&self.lists, &self.builds[self.builds.len() - 1]);
@@ -433,7 +433,7 @@ impl Held {
     /// The list that is made, if there is one, goes.
     pub fn drop_made(&mut self)
         ensures after { self.new ≡ record self.old { making = None; lists = self.new.lists } }
-        ensures macros { KeepsHeld self.old self.new }
+        ensures all_lists { KeepsHeld self.old self.new }
     {
         if let Some(build) = self.making.take() {
             abandon(&mut self.lists, build);
@@ -443,8 +443,8 @@ impl Held {
     /// Why there is no room for one more level, once the finished lists in front have gone.
     pub fn room(&mut self) -> Option<Full>
         ensures refused { result ≡ refused self.old.sizes (level_held self.old ∷ []) }
-        ensures after { self.new ≡ record self.old { puts = settled self.old.puts; lists = self.new.lists } }
-        ensures macros { KeepsHeld self.old self.new }
+        ensures after { self.new ≡ record self.old { puts = without_ended self.old.puts; lists = self.new.lists } }
+        ensures all_lists { KeepsHeld self.old self.new }
     {
         self.stack.room(&mut self.lists)
     }
@@ -452,10 +452,10 @@ impl Held {
     /// Puts the list that is made in front; one without tokens goes.
     pub fn put_made(&mut self)
         requires some { IsSome self.old.making }
-        requires settled { settled self.old.puts ≡ self.old.puts }
+        requires without_ended { without_ended self.old.puts ≡ self.old.puts }
         requires room { refused self.old.sizes (level_held self.old ∷ []) ≡ None }
         ensures after { self.new ≡ record self.old { puts = with_put (token_put (made self.old.making)) self.old.puts; making = None; lists = self.new.lists } }
-        ensures macros { KeepsHeld self.old self.new }
+        ensures all_lists { KeepsHeld self.old self.new }
     {
         let Some(build) = self.making.take() else {
             unreachable!()
@@ -489,7 +489,7 @@ impl Held {
         ensures gives { IfSome result (λ t. GivesAtOnce self.old self.new t) }
         ensures stays { result ≡ None → self.new ≡ self.old }
         ensures others { self.new ≡ record self.old { puts = self.new.puts } }
-        ensures macros { KeepsHeld self.old self.new }
+        ensures all_lists { KeepsHeld self.old self.new }
     {
         self.stack.quick(&self.lists)
     }
@@ -505,10 +505,10 @@ impl Held {
         ensures further { GoFurther self.old.below self.new.below }
         ensures gives { (files : List FileLeft) (next : Option (List ℕ)) → GivesTo (pulled self.old.groups.now.categories (pending_of self.old bytes.old files next)) result (pending_of self.old bytes.old files next) (pending_of self.new bytes.new files next) bytes.new }
         ensures refused { (files : List FileLeft) (next : Option (List ℕ)) → length files ≡ length self.old.below → MatchResult result (λ _. refused self.old.sizes (step_demands (pulled self.old.groups.now.categories (pending_of self.old bytes.old files next)) (pending_of self.old bytes.old files next)) ≡ None) (λ full. refused self.old.sizes (step_demands (pulled self.old.groups.now.categories (pending_of self.old bytes.old files next)) (pending_of self.old bytes.old files next)) ≡ Some full) }
-        ensures err { OnErr result (self.new ≡ record self.old { puts = settled self.old.puts; lists = self.new.lists }) }
+        ensures err { OnErr result (self.new ≡ record self.old { puts = without_ended self.old.puts; lists = self.new.lists }) }
         ensures bytes { OnErr result (bytes.new ≡ bytes.old) }
         ensures others { self.new ≡ record self.old { puts = self.new.puts; below = self.new.below; lists = self.new.lists } }
-        ensures macros { KeepsHeld self.old self.new }
+        ensures all_lists { KeepsHeld self.old self.new }
     {
         self.table.recall();
         let categories = self.table.categories();
@@ -522,7 +522,7 @@ impl Held {
         ensures further { GoFurther self.old.below self.new.below }
         ensures beneath { (files : List FileLeft) → outer_in bytes.new self.new.below files ≡ outer_in bytes.old self.old.below files }
         ensures after { self.new ≡ record self.old { puts = []; below = self.new.below; lists = self.new.lists } }
-        ensures macros { KeepsHeld self.old self.new }
+        ensures all_lists { KeepsHeld self.old self.new }
     {
         self.table.recall();
         let categories = self.table.categories();
@@ -534,11 +534,11 @@ impl Held {
     /// # Errors
     /// The levels are at the size of the input stack; nothing has changed.
     pub fn open_file(&mut self, line: Line) -> Result<(), Full>
-        requires settled { settled self.old.puts ≡ self.old.puts }
+        requires without_ended { without_ended self.old.puts ≡ self.old.puts }
         ensures refused { MatchResult result (λ _. refused self.old.sizes (level_held self.old ∷ []) ≡ None) (λ full. refused self.old.sizes (level_held self.old ∷ []) ≡ Some full) }
         ensures ok { OnOk result (self.new ≡ record (opened_over line self.old) { lists = self.new.lists }) }
         ensures err { OnErr result (self.new ≡ record self.old { lists = self.new.lists }) }
-        ensures macros { KeepsHeld self.old self.new }
+        ensures all_lists { KeepsHeld self.old self.new }
     {
         self.stack.push_file(&mut self.lists, Some(FILE), line)
     }
@@ -586,7 +586,7 @@ impl Held {
     pub fn enter_name(&mut self)
         requires { HasNameRoom self.old.groups self.old.sizes.hash_size }
         ensures after { self.new ≡ record self.old { groups = entered self.old.groups } }
-        ensures macros { KeepsHeld self.old self.new }
+        ensures all_lists { KeepsHeld self.old self.new }
     {
         self.table.enter();
     }
@@ -636,7 +636,7 @@ impl Held {
         ensures refused { MatchResult result (λ _. refused self.old.sizes (group_demands self.old.groups) ≡ None) (λ full. refused self.old.sizes (group_demands self.old.groups) ≡ Some full) }
         ensures ok { OnOk result (self.new ≡ record self.old { groups = opened self.old.groups kind }) }
         ensures err { OnErr result (self.new ≡ self.old) }
-        ensures macros { KeepsHeld self.old self.new }
+        ensures all_lists { KeepsHeld self.old self.new }
     {
         self.table.open_group(kind)
     }
@@ -650,7 +650,7 @@ impl Held {
         ensures refused { MatchResult result (λ _. refused self.old.sizes (token_demands self.old.groups) ≡ None) (λ full. refused self.old.sizes (token_demands self.old.groups) ≡ Some full) }
         ensures ok { OnOk result (self.new ≡ record self.old { groups = with_token self.old.groups token }) }
         ensures err { OnErr result (self.new ≡ self.old) }
-        ensures macros { KeepsHeld self.old self.new }
+        ensures all_lists { KeepsHeld self.old self.new }
     {
         self.table.after_group(token)
     }
@@ -660,7 +660,7 @@ impl Held {
         requires open { 0 < depth self.old.groups }
         requires calls { self.old.call ≡ NotCalling }
         ensures after { self.new ≡ record self.old { groups = closed self.old.groups; closing = tokens_after self.old.groups; ending = kind_of self.old.groups; lists = self.new.lists } }
-        ensures macros { KeepsHeld self.old self.new }
+        ensures all_lists { KeepsHeld self.old self.new }
     {
         self.table.recall();
         self.table.close_group(&mut self.lists);
@@ -707,7 +707,7 @@ impl Held {
         ensures ok { OnOk result (self.new ≡ record self.old { builds = drop 1 self.old.builds; groups = self.new.groups; lists = self.new.lists }) }
         ensures defines { OnOk result (Defines global self.old.groups self.new.groups (puts_held self.old) self.old.lists self.new.lists (first_list self.old.builds) name long outer) }
         ensures err { OnErr result (self.new ≡ self.old) }
-        ensures macros { KeepsHeld self.old self.new }
+        ensures all_lists { KeepsHeld self.old self.new }
     {
         self.table.recall();
         let loc = self.name_room(global, name)?;
@@ -735,7 +735,7 @@ impl Held {
         ensures refused { MatchResult result (λ _. refused self.old.sizes (name_demands global self.old.groups name) ≡ None) (λ full. refused self.old.sizes (name_demands global self.old.groups name) ≡ Some full) }
         ensures ok { OnOk result (self.new ≡ record self.old { groups = set_name global self.old.groups name (meaning_to_let self.old.groups.now.meanings x); lists = self.new.lists }) }
         ensures err { OnErr result (self.new ≡ self.old) }
-        ensures macros { KeepsHeld self.old self.new }
+        ensures all_lists { KeepsHeld self.old self.new }
     {
         let loc = self.name_room(global, name)?;
         self.table.recall();
@@ -765,7 +765,7 @@ impl Held {
         ensures refused { MatchResult result (λ _. refused self.old.sizes (name_demands global self.old.groups name) ≡ None) (λ full. refused self.old.sizes (name_demands global self.old.groups name) ≡ Some full) }
         ensures ok { OnOk result (self.new ≡ record self.old { groups = set_name global self.old.groups name (without_list meaning); lists = self.new.lists }) }
         ensures err { OnErr result (self.new ≡ self.old) }
-        ensures macros { KeepsHeld self.old self.new }
+        ensures all_lists { KeepsHeld self.old self.new }
     {
         let loc = self.name_room(global, name)?;
         assign(
@@ -788,7 +788,7 @@ impl Held {
         ensures refused { MatchResult result (λ _. refused self.old.sizes (set_demands global self.old.groups loc) ≡ None) (λ full. refused self.old.sizes (set_demands global self.old.groups loc) ≡ Some full) }
         ensures ok { OnOk result (self.new ≡ record self.old { groups = set global self.old.groups loc (val.Number number); lists = self.new.lists }) }
         ensures err { OnErr result (self.new ≡ self.old) }
-        ensures macros { KeepsHeld self.old self.new }
+        ensures all_lists { KeepsHeld self.old self.new }
     {
         self.set_room(global, loc)?;
         assign(
@@ -811,7 +811,7 @@ impl Held {
         ensures refused { MatchResult result (λ _. refused self.old.sizes (set_demands global self.old.groups loc) ≡ None) (λ full. refused self.old.sizes (set_demands global self.old.groups loc) ≡ Some full) }
         ensures ok { OnOk result (self.new ≡ record self.old { groups = set global self.old.groups loc (val.Skip glue); lists = self.new.lists }) }
         ensures err { OnErr result (self.new ≡ self.old) }
-        ensures macros { KeepsHeld self.old self.new }
+        ensures all_lists { KeepsHeld self.old self.new }
     {
         self.set_room(global, loc)?;
         assign(
@@ -837,7 +837,7 @@ impl Held {
         ensures ok { OnOk result (self.new ≡ record self.old { builds = drop 1 self.old.builds; groups = self.new.groups; lists = self.new.lists }) }
         ensures sets { OnOk result (SetsList global self.old.groups self.new.groups (puts_held self.old) self.old.lists self.new.lists (first_list self.old.builds) loc) }
         ensures err { OnErr result (self.new ≡ self.old) }
-        ensures macros { KeepsHeld self.old self.new }
+        ensures all_lists { KeepsHeld self.old self.new }
     {
         self.table.recall();
         self.set_room(global, loc)?;
@@ -867,7 +867,7 @@ impl Held {
         ensures refused { MatchResult result (λ _. refused self.old.sizes (set_demands global self.old.groups loc) ≡ None) (λ full. refused self.old.sizes (set_demands global self.old.groups loc) ≡ Some full) }
         ensures ok { OnOk result (self.new ≡ record self.old { groups = set global self.old.groups loc (get self.old.groups.now from); lists = self.new.lists }) }
         ensures err { OnErr result (self.new ≡ self.old) }
-        ensures macros { KeepsHeld self.old self.new }
+        ensures all_lists { KeepsHeld self.old self.new }
     {
         self.set_room(global, loc)?;
         self.table.recall();
@@ -887,7 +887,7 @@ impl Held {
         ensures refused { MatchResult result (λ _. refused self.old.sizes (set_demands global self.old.groups loc) ≡ None) (λ full. refused self.old.sizes (set_demands global self.old.groups loc) ≡ Some full) }
         ensures ok { OnOk result (self.new ≡ record self.old { groups = set global self.old.groups loc (val.Tokens None); lists = self.new.lists }) }
         ensures err { OnErr result (self.new ≡ self.old) }
-        ensures macros { KeepsHeld self.old self.new }
+        ensures all_lists { KeepsHeld self.old self.new }
     {
         self.set_room(global, loc)?;
         assign(
@@ -1004,8 +1004,8 @@ impl Held {
         requires { call_kind self.old.lists (name_meaning self.old.groups.now.meanings name) ≡ AtOnce }
         ensures refused { MatchResult result (λ _. call_refusal (called_put self.old.lists (name_meaning self.old.groups.now.meanings name)) self.old ≡ None) (λ full. call_refusal (called_put self.old.lists (name_meaning self.old.groups.now.meanings name)) self.old ≡ Some full) }
         ensures ok { OnOk result (self.new ≡ record self.old { puts = called (called_put self.old.lists (name_meaning self.old.groups.now.meanings name)) self.old.puts; lists = self.new.lists }) }
-        ensures err { OnErr result (self.new ≡ record self.old { puts = settled self.old.puts; lists = self.new.lists }) }
-        ensures macros { KeepsHeld self.old self.new }
+        ensures err { OnErr result (self.new ≡ record self.old { puts = without_ended self.old.puts; lists = self.new.lists }) }
+        ensures all_lists { KeepsHeld self.old self.new }
     {
         let Some(list) = self.table.list(name) else {
             unreachable!()
@@ -1029,8 +1029,8 @@ impl Held {
         requires { IsLocation self.old.groups loc }
         ensures refused { MatchResult result (λ _. call_refusal (standing_put self.old.lists self.old.groups loc) self.old ≡ None) (λ full. call_refusal (standing_put self.old.lists self.old.groups loc) self.old ≡ Some full) }
         ensures ok { OnOk result (self.new ≡ record self.old { puts = called (standing_put self.old.lists self.old.groups loc) self.old.puts; lists = self.new.lists }) }
-        ensures err { OnErr result (self.new ≡ record self.old { puts = settled self.old.puts; lists = self.new.lists }) }
-        ensures macros { KeepsHeld self.old self.new }
+        ensures err { OnErr result (self.new ≡ record self.old { puts = without_ended self.old.puts; lists = self.new.lists }) }
+        ensures all_lists { KeepsHeld self.old self.new }
     {
         let Some(list) = standing(&self.table, loc) else {
             return Ok(());
@@ -1057,7 +1057,7 @@ impl Held {
         ensures refused { MatchResult result (λ _. refused self.old.sizes (memory (lists_words (begun_lists (text_of self.old.lists self.old.groups.now.meanings name))) (words_held self.old) ∷ []) ≡ None) (λ full. refused self.old.sizes (memory (lists_words (begun_lists (text_of self.old.lists self.old.groups.now.meanings name))) (words_held self.old) ∷ []) ≡ Some full) }
         ensures ok { OnOk result (self.new ≡ record self.old { call = calls.Gathering name (first_scan (text_of self.old.lists self.old.groups.now.meanings name) (mode_of long)); lists = self.new.lists }) }
         ensures err { OnErr result (self.new ≡ self.old) }
-        ensures macros { KeepsHeld self.old self.new }
+        ensures all_lists { KeepsHeld self.old self.new }
     {
         let Some(list) = self.table.list(name) else {
             unreachable!()
@@ -1121,7 +1121,7 @@ impl Held {
         ensures err { OnErr result (CutShort (text_of self.old.lists self.old.groups.now.meanings) token self.old.call self.new.call) }
         ensures full { IfErr result (λ full. refused self.new.sizes (memory 1 (words_held self.new) ∷ []) ≡ Some full) }
         ensures others { self.new ≡ record self.old { call = self.new.call; lists = self.new.lists } }
-        ensures macros { KeepsHeld self.old self.new }
+        ensures all_lists { KeepsHeld self.old self.new }
     {
         let _old_words = self.lists.used();
         let (name, scan) = mem::replace(&mut self.call, Gathering::None).into_scan();
@@ -1183,8 +1183,8 @@ impl Held {
         requires { IsComplete self.old.call }
         ensures refused { MatchResult result (λ _. put_refusal (put_of self.old.lists self.old.groups.now.meanings self.old.call) self.old ≡ None) (λ full. put_refusal (put_of self.old.lists self.old.groups.now.meanings self.old.call) self.old ≡ Some full) }
         ensures ok { OnOk result (self.new ≡ record self.old { puts = called (put_of self.old.lists self.old.groups.now.meanings self.old.call) self.old.puts; call = NotCalling; lists = self.new.lists }) }
-        ensures err { OnErr result (self.new ≡ record self.old { puts = settled self.old.puts; lists = self.new.lists }) }
-        ensures macros { KeepsHeld self.old self.new }
+        ensures err { OnErr result (self.new ≡ record self.old { puts = without_ended self.old.puts; lists = self.new.lists }) }
+        ensures all_lists { KeepsHeld self.old self.new }
     {
         let (name, args) = mem::replace(&mut self.call, Gathering::None).into_args();
         let Some(list) = self.table.list(name) else {
@@ -1205,7 +1205,7 @@ impl Held {
     /// The call's lists go, and none is gathered.
     pub fn drop_call(&mut self)
         ensures after { self.new ≡ record self.old { call = NotCalling; lists = self.new.lists } }
-        ensures macros { KeepsHeld self.old self.new }
+        ensures all_lists { KeepsHeld self.old self.new }
     {
         match mem::replace(&mut self.call, Gathering::None) {
             Gathering::None => {}

@@ -12,8 +12,8 @@ ghost use Rattle.equivalents.specs.Groups.{first_groups, entered, set, set_name,
 ghost use Rattle.equivalents.specs.Holding.{lists_held, lists_outside};
 ghost use Rattle.equivalents.specs.Laws.{AreAlike};
 ghost use Rattle.plain_tokens.specs.Arguments.{are_same};
-ghost use Rattle.plain_tokens.specs.Puts.{settled, passed, token_put, grow_first, grown_by};
-ghost use Rattle.plain_tokens.specs.Pending.{Begun, Closed, bottom, beneath, ending, pulled, settle, all_puts, put_front, line_taken, from_file, with_begun, with_end, with_next};
+ghost use Rattle.plain_tokens.specs.Puts.{without_ended, passed, token_put, grow_first, grown_by};
+ghost use Rattle.plain_tokens.specs.Pending.{Begun, Closed, bottom, beneath, ending, pulled, end_token_lists, all_puts, put_front, line_taken, from_file, with_begun, with_end, with_next};
 ghost use Rattle.plain_tokens.specs.Tables.{is_put, lists_words, memory, level, buffer, open_files, open_lines, lines_beneath, next_line, next_file, text_level, spelt_name, refused};
 ghost use Rattle.line_lexer.specs.declared.Ahead.TheVariants as ahead;
 ghost use Rattle.line_lexer.specs.declared.LineState.TheVariants.{NewLine};
@@ -34,7 +34,7 @@ ghost use Rattle.macro_call.specs.PlainScans.{first_scan, cut_scan, settled_scan
 ghost use Rattle.macro_call.specs.Modes.{mode_of};
 ghost use Rattle.input_state.specs.NextBytes.{KnowsNext, NeedsBytes, KnowsFirst, NeedsFirst, with_bytes, with_first_bytes};
 ghost use Rattle.input_state.specs.Counted.{AreCounted};
-ghost use Rattle.input_state.specs.Stored.{KeepsMacros, call_refusal, put_refusal, words, spelt};
+ghost use Rattle.input_state.specs.Stored.{KeepsShared, call_refusal, put_refusal, words, spelt};
 ghost use Rattle.input_state.specs.Walks.{to_come};
 ghost use Rattle.input_state.specs.Standing.{SetsList, AppendsShort, standing_put, standing_tokens, appended, appended_made, with_appended, with_appended_made};
 ghost use Rattle.equivalents.specs.Cases.{case_codes, case_changed};
@@ -147,11 +147,11 @@ impl Input {
     }
 
     /// The lists in front that are finished go.
-    pub fn settle(&mut self)
-        ensures after { self.new ≡ record self.old { pending = settle self.old.pending; lists = self.new.lists } }
-        ensures macros { KeepsMacros self.old self.new }
+    pub fn end_token_lists(&mut self)
+        ensures after { self.new ≡ record self.old { pending = end_token_lists self.old.pending; lists = self.new.lists } }
+        ensures all_lists { KeepsShared self.old self.new }
     {
-        self.held.settle();
+        self.held.end_token_lists();
     }
 
     /// Begins a list that an open reading gathers.
@@ -162,7 +162,7 @@ impl Input {
         ensures refused { MatchResult result (λ _. refused self.old.sizes (memory 1 (words self.old) ∷ []) ≡ None) (λ full. refused self.old.sizes (memory 1 (words self.old) ∷ []) ≡ Some full) }
         ensures ok { OnOk result (self.new ≡ record self.old { builds = [] ∷ self.old.builds; lists = self.new.lists }) }
         ensures err { OnErr result (self.new ≡ self.old) }
-        ensures macros { KeepsMacros self.old self.new }
+        ensures all_lists { KeepsShared self.old self.new }
     {
         self.held.begin_list()
     }
@@ -176,7 +176,7 @@ impl Input {
         ensures refused { MatchResult result (λ _. refused self.old.sizes (memory 1 (words self.old) ∷ []) ≡ None) (λ full. refused self.old.sizes (memory 1 (words self.old) ∷ []) ≡ Some full) }
         ensures ok { OnOk result (self.new ≡ record self.old { builds = grow_first token self.old.builds; lists = self.new.lists }) }
         ensures err { OnErr result (self.new ≡ self.old) }
-        ensures macros { KeepsMacros self.old self.new }
+        ensures all_lists { KeepsShared self.old self.new }
     {
         self.held.grow_list(token)
     }
@@ -191,7 +191,7 @@ impl Input {
         ensures ok { OnOk result (self.new ≡ record self.old { builds = appended (standing_tokens self.old.lists self.old.groups loc) self.old.builds; lists = self.new.lists }) }
         ensures fits { OnOk result (words self.old + length (standing_tokens self.old.lists self.old.groups loc) ≤ self.old.sizes.main_memory_size) }
         ensures err { IfErr result (λ full. AppendsShort with_appended (standing_tokens self.old.lists self.old.groups loc) self.old self.new full) }
-        ensures macros { KeepsMacros self.old self.new }
+        ensures all_lists { KeepsShared self.old self.new }
     {
         self.held.copy_list(loc)
     }
@@ -200,7 +200,7 @@ impl Input {
     pub fn drop_list(&mut self)
         requires { self.old.builds ≢ [] }
         ensures after { self.new ≡ record self.old { builds = drop 1 self.old.builds; lists = self.new.lists } }
-        ensures macros { KeepsMacros self.old self.new }
+        ensures all_lists { KeepsShared self.old self.new }
     {
         self.held.drop_list();
     }
@@ -238,12 +238,12 @@ impl Input {
     }
 
     /// One of these lists, by its number from the innermost, and the memory in which it stands.
-    pub fn list_number(&self, k: u32) -> (&Lists, &Build)
+    pub fn nth_list(&self, k: u32) -> (&Lists, &Build)
         requires { k < length self.now.builds }
         ensures held { IsHeld result.0.now (build_id result.1.now) }
         ensures tokens { tokens_at result.0.now (build_id result.1.now) ≡ list_at self.now.builds k }
     {
-        self.held.list_number(k as usize)
+        self.held.nth_list(k as usize)
     }
 
     /// The codes of the characters of the innermost gathered list go behind the open lines, and it is told how many they are.
@@ -315,7 +315,7 @@ impl Input {
         ensures refused { MatchResult result (λ _. refused self.old.sizes (memory 1 (words self.old) ∷ []) ≡ None) (λ full. refused self.old.sizes (memory 1 (words self.old) ∷ []) ≡ Some full) }
         ensures ok { OnOk result (self.new ≡ record self.old { making = Some []; lists = self.new.lists }) }
         ensures err { OnErr result (self.new ≡ self.old) }
-        ensures macros { KeepsMacros self.old self.new }
+        ensures all_lists { KeepsShared self.old self.new }
     {
         self.held.make_list()
     }
@@ -329,7 +329,7 @@ impl Input {
         ensures refused { MatchResult result (λ _. refused self.old.sizes (memory 1 (words self.old) ∷ []) ≡ None) (λ full. refused self.old.sizes (memory 1 (words self.old) ∷ []) ≡ Some full) }
         ensures ok { OnOk result (self.new ≡ record self.old { making = grown_by token self.old.making; lists = self.new.lists }) }
         ensures err { OnErr result (self.new ≡ self.old) }
-        ensures macros { KeepsMacros self.old self.new }
+        ensures all_lists { KeepsShared self.old self.new }
     {
         self.held.grow_made(token)
     }
@@ -345,7 +345,7 @@ impl Input {
         ensures ok { OnOk result (self.new ≡ record self.old { making = appended_made (map (case_changed (case_codes upper self.old.groups.now)) (first_list self.old.builds)) self.old.making; lists = self.new.lists }) }
         ensures fits { OnOk result (words self.old + length (map (case_changed (case_codes upper self.old.groups.now)) (first_list self.old.builds)) ≤ self.old.sizes.main_memory_size) }
         ensures err { IfErr result (λ full. AppendsShort with_appended_made (map (case_changed (case_codes upper self.old.groups.now)) (first_list self.old.builds)) self.old self.new full) }
-        ensures macros { KeepsMacros self.old self.new }
+        ensures all_lists { KeepsShared self.old self.new }
     {
         self.held.grow_changed(upper)
     }
@@ -354,7 +354,7 @@ impl Input {
     pub fn drop_made(&mut self)
         requires { IsSome self.old.making }
         ensures after { self.new ≡ record self.old { making = None; lists = self.new.lists } }
-        ensures macros { KeepsMacros self.old self.new }
+        ensures all_lists { KeepsShared self.old self.new }
     {
         self.held.drop_made();
     }
@@ -365,11 +365,11 @@ impl Input {
     /// The input stack is full; nothing has changed.
     pub fn put_made(&mut self) -> Result<(), Full>
         requires some { IsSome self.old.making }
-        requires settled { self.old.pending ≡ settle self.old.pending }
+        requires without_ended { self.old.pending ≡ end_token_lists self.old.pending }
         ensures refused { MatchResult result (λ _. refused self.old.sizes (level self.old.pending ∷ []) ≡ None) (λ full. refused self.old.sizes (level self.old.pending ∷ []) ≡ Some full) }
         ensures ok { OnOk result (self.new ≡ record self.old { pending = put_front (token_put (made self.old.making)) self.old.pending; making = None; lists = self.new.lists }) }
         ensures err { OnErr result (self.new ≡ record self.old { lists = self.new.lists }) }
-        ensures macros { KeepsMacros self.old self.new }
+        ensures all_lists { KeepsShared self.old self.new }
     {
         if let Some(full) = self.held.room() {
             return Err(full);
@@ -391,9 +391,9 @@ impl Input {
         requires { ahead_of self.old.groups.now.categories self.old.pending ≢ ahead.End }
         ensures gives { GivesTo (pulled self.old.groups.now.categories self.old.pending) result self.old.pending self.new.pending self.new.buffer }
         ensures others { self.new ≡ record self.old { pending = self.new.pending; buffer = self.new.buffer; lists = self.new.lists } }
-        ensures macros { KeepsMacros self.old self.new }
+        ensures all_lists { KeepsShared self.old self.new }
         ensures refused { MatchResult result (λ _. pull_refusal self.old ≡ None) (λ full. pull_refusal self.old ≡ Some full) }
-        ensures err { OnErr result (self.new.pending ≡ settle self.old.pending) }
+        ensures err { OnErr result (self.new.pending ≡ end_token_lists self.old.pending) }
     {
         self.held.pull(&mut self.buffer)
     }
@@ -405,7 +405,7 @@ impl Input {
         ensures file { self.new.pending.file ≡ self.old.pending.file }
         ensures outer { self.new.pending.outer ≡ self.old.pending.outer }
         ensures others { self.new ≡ record self.old { pending = self.new.pending; buffer = self.new.buffer; lists = self.new.lists } }
-        ensures macros { KeepsMacros self.old self.new }
+        ensures all_lists { KeepsShared self.old self.new }
     {
         self.held.drop_front(&mut self.buffer);
     }
@@ -413,13 +413,13 @@ impl Input {
     // Takes the next line of the file.
     fn take_line(&mut self) -> Result<(), Full>
         requires end { ahead_of self.old.groups.now.categories self.old.pending ≡ ahead.End }
-        requires settled { settle self.old.pending ≡ self.old.pending }
+        requires without_ended { end_token_lists self.old.pending ≡ self.old.pending }
         requires open { self.old.pending.file ≡ Begun }
         ensures ok { OnOk result (TakesLine (line_taken self.old.pending self.old.pending.rest) (end_of_line self.old.groups.now) self.old.pending self.new.pending) }
         ensures refused { MatchResult result (λ _. refused self.old.sizes (next_line self.old.pending) ≡ None) (λ full. refused self.old.sizes (next_line self.old.pending) ≡ Some full) }
         ensures err { OnErr result (self.new.pending ≡ self.old.pending) }
         ensures others { self.new ≡ record self.old { pending = self.new.pending; buffer = self.new.buffer; lists = self.new.lists } }
-        ensures macros { KeepsMacros self.old self.new }
+        ensures all_lists { KeepsShared self.old self.new }
     {
         let cut = first_line(self.files.rest());
         let lines = self.files.lines_beneath();
@@ -430,7 +430,7 @@ impl Input {
         let end = self.held.integer(END_LINE_CHARACTER);
         let length = put_line(&mut self.buffer, lines, &self.files.rest()[..cut.kept], end);
         self.held.begin_line(line_start(lines, lines + length));
-        self.files.go_on(cut.kept, cut.used);
+        self.files.pass_line(cut.kept, cut.used);
         Ok(())
     }
 
@@ -447,10 +447,10 @@ impl Input {
     // The next line of the file, or its end, where nothing is left of a line.
     fn pull_file(&mut self) -> Result<Pulled, Full>
         requires end { ahead_of self.old.groups.now.categories self.old.pending ≡ ahead.End }
-        requires settled { settle self.old.pending ≡ self.old.pending }
+        requires without_ended { end_token_lists self.old.pending ≡ self.old.pending }
         ensures ok { IfOk result (λ r. Pulls (from_file self.old.pending self.old.pending.file) r self.old self.new) }
         ensures others { self.new ≡ record self.old { pending = self.new.pending; buffer = self.new.buffer; lists = self.new.lists } }
-        ensures macros { KeepsMacros self.old self.new }
+        ensures all_lists { KeepsShared self.old self.new }
         ensures puts { (id : ℕ) → is_put id (all_puts self.new.pending) ≡ true → is_put id (all_puts self.old.pending) ≡ true }
         ensures err { IfErr result (λ full. RefusesLine full self.old self.new) }
     {
@@ -474,7 +474,7 @@ impl Input {
         ensures room { IsSome result → pull_refusal self.old ≡ None }
         ensures stays { result ≡ None → self.new ≡ self.old }
         ensures others { self.new ≡ record self.old { pending = self.new.pending } }
-        ensures macros { KeepsMacros self.old self.new }
+        ensures all_lists { KeepsShared self.old self.new }
     {
         self.held.quick()
     }
@@ -488,9 +488,9 @@ impl Input {
     pub fn pull(&mut self) -> Result<Pulled, Full>
         ensures ok { IfOk result (λ r. Pulls (pulled self.old.groups.now.categories self.old.pending) r self.old self.new) }
         ensures others { self.new ≡ record self.old { pending = self.new.pending; buffer = self.new.buffer; lists = self.new.lists } }
-        ensures macros { KeepsMacros self.old self.new }
+        ensures all_lists { KeepsShared self.old self.new }
         ensures refused { MatchResult result (λ _. pull_refusal self.old ≡ None) (λ full. pull_refusal self.old ≡ Some full) }
-        ensures err { OnErr result (self.new.pending ≡ settle self.old.pending) }
+        ensures err { OnErr result (self.new.pending ≡ end_token_lists self.old.pending) }
     {
         match self.quick() {
             Some(token) => Ok(Pulled::Token(token)),
@@ -502,14 +502,14 @@ impl Input {
     fn pull_looked(&mut self) -> Result<Pulled, Full>
         ensures ok { IfOk result (λ r. Pulls (pulled self.old.groups.now.categories self.old.pending) r self.old self.new) }
         ensures others { self.new ≡ record self.old { pending = self.new.pending; buffer = self.new.buffer; lists = self.new.lists } }
-        ensures macros { KeepsMacros self.old self.new }
+        ensures all_lists { KeepsShared self.old self.new }
         ensures refused { MatchResult result (λ _. pull_refusal self.old ≡ None) (λ full. pull_refusal self.old ≡ Some full) }
-        ensures err { OnErr result (self.new.pending ≡ settle self.old.pending) }
+        ensures err { OnErr result (self.new.pending ≡ end_token_lists self.old.pending) }
     {
         match self.looks() {
             Ahead::Token | Ahead::Invalid => self.read_front(),
             Ahead::End => {
-                self.settle();
+                self.end_token_lists();
                 self.pull_file()
             }
         }
@@ -588,12 +588,12 @@ impl Input {
     /// The line is too long for the buffer behind the open lines, or else the input stack is full; nothing has changed.
     pub fn begin_file(&mut self) -> Result<(), Full>
         requires opened { IsSome self.old.pending.next }
-        requires settled { settle self.old.pending ≡ self.old.pending }
+        requires without_ended { end_token_lists self.old.pending ≡ self.old.pending }
         ensures refused { MatchResult result (λ _. refused self.old.sizes (next_file self.old.pending) ≡ None) (λ full. refused self.old.sizes (next_file self.old.pending) ≡ Some full) }
         ensures ok { OnOk result (self.new.pending ≡ with_end (end_of_line self.old.groups.now) (with_begun self.old.pending)) }
         ensures err { OnErr result (self.new.pending ≡ self.old.pending) }
         ensures others { self.new ≡ record self.old { pending = self.new.pending; buffer = self.new.buffer; lists = self.new.lists } }
-        ensures macros { KeepsMacros self.old self.new }
+        ensures all_lists { KeepsShared self.old self.new }
     {
         let cut = first_line(self.files.first_bytes());
         let lines = self.files.open_lines();
@@ -684,7 +684,7 @@ impl Input {
     pub fn enter_name(&mut self)
         requires { HasNameRoom self.old.groups self.old.sizes.hash_size }
         ensures after { self.new ≡ record self.old { groups = entered self.old.groups } }
-        ensures macros { KeepsMacros self.old self.new }
+        ensures all_lists { KeepsShared self.old self.new }
     {
         self.held.enter_name();
     }
@@ -710,7 +710,7 @@ impl Input {
         ensures ok { OnOk result (self.new ≡ record self.old { builds = drop 1 self.old.builds; groups = self.new.groups; lists = self.new.lists }) }
         ensures defines { OnOk result (Defines global self.old.groups self.new.groups (all_puts self.old.pending) self.old.lists self.new.lists (first_list self.old.builds) name long outer) }
         ensures err { OnErr result (self.new ≡ self.old) }
-        ensures macros { KeepsMacros self.old self.new }
+        ensures all_lists { KeepsShared self.old self.new }
     {
         self.held.define(name, long, outer, global)
     }
@@ -727,7 +727,7 @@ impl Input {
         ensures refused { MatchResult result (λ _. refused self.old.sizes (name_demands global self.old.groups name) ≡ None) (λ full. refused self.old.sizes (name_demands global self.old.groups name) ≡ Some full) }
         ensures ok { OnOk result (self.new ≡ record self.old { groups = set_name global self.old.groups name (meaning_to_let self.old.groups.now.meanings x); lists = self.new.lists }) }
         ensures err { OnErr result (self.new ≡ self.old) }
-        ensures macros { KeepsMacros self.old self.new }
+        ensures all_lists { KeepsShared self.old self.new }
     {
         self.held.let_name(name, x, global)
     }
@@ -748,7 +748,7 @@ impl Input {
         ensures refused { MatchResult result (λ _. refused self.old.sizes (name_demands global self.old.groups name) ≡ None) (λ full. refused self.old.sizes (name_demands global self.old.groups name) ≡ Some full) }
         ensures ok { OnOk result (self.new ≡ record self.old { groups = set_name global self.old.groups name (without_list meaning); lists = self.new.lists }) }
         ensures err { OnErr result (self.new ≡ self.old) }
-        ensures macros { KeepsMacros self.old self.new }
+        ensures all_lists { KeepsShared self.old self.new }
     {
         self.held.set_meaning(name, meaning, global)
     }
@@ -764,7 +764,7 @@ impl Input {
         ensures refused { MatchResult result (λ _. refused self.old.sizes (set_demands global self.old.groups loc) ≡ None) (λ full. refused self.old.sizes (set_demands global self.old.groups loc) ≡ Some full) }
         ensures ok { OnOk result (self.new ≡ record self.old { groups = set global self.old.groups loc (val.Number number); lists = self.new.lists }) }
         ensures err { OnErr result (self.new ≡ self.old) }
-        ensures macros { KeepsMacros self.old self.new }
+        ensures all_lists { KeepsShared self.old self.new }
     {
         self.held.set_number(loc, number, global)
     }
@@ -779,7 +779,7 @@ impl Input {
         ensures refused { MatchResult result (λ _. refused self.old.sizes (set_demands global self.old.groups loc) ≡ None) (λ full. refused self.old.sizes (set_demands global self.old.groups loc) ≡ Some full) }
         ensures ok { OnOk result (self.new ≡ record self.old { groups = set global self.old.groups loc (val.Skip glue); lists = self.new.lists }) }
         ensures err { OnErr result (self.new ≡ self.old) }
-        ensures macros { KeepsMacros self.old self.new }
+        ensures all_lists { KeepsShared self.old self.new }
     {
         self.held.set_glue(loc, glue, global)
     }
@@ -798,7 +798,7 @@ impl Input {
         ensures ok { OnOk result (self.new ≡ record self.old { builds = drop 1 self.old.builds; groups = self.new.groups; lists = self.new.lists }) }
         ensures sets { OnOk result (SetsList global self.old.groups self.new.groups (all_puts self.old.pending) self.old.lists self.new.lists (first_list self.old.builds) loc) }
         ensures err { OnErr result (self.new ≡ self.old) }
-        ensures macros { KeepsMacros self.old self.new }
+        ensures all_lists { KeepsShared self.old self.new }
     {
         self.held.set_list(loc, global)
     }
@@ -816,7 +816,7 @@ impl Input {
         ensures refused { MatchResult result (λ _. refused self.old.sizes (set_demands global self.old.groups loc) ≡ None) (λ full. refused self.old.sizes (set_demands global self.old.groups loc) ≡ Some full) }
         ensures ok { OnOk result (self.new ≡ record self.old { groups = set global self.old.groups loc (get self.old.groups.now from); lists = self.new.lists }) }
         ensures err { OnErr result (self.new ≡ self.old) }
-        ensures macros { KeepsMacros self.old self.new }
+        ensures all_lists { KeepsShared self.old self.new }
     {
         self.held.share_list(loc, from, global)
     }
@@ -831,7 +831,7 @@ impl Input {
         ensures refused { MatchResult result (λ _. refused self.old.sizes (set_demands global self.old.groups loc) ≡ None) (λ full. refused self.old.sizes (set_demands global self.old.groups loc) ≡ Some full) }
         ensures ok { OnOk result (self.new ≡ record self.old { groups = set global self.old.groups loc (val.Tokens None); lists = self.new.lists }) }
         ensures err { OnErr result (self.new ≡ self.old) }
-        ensures macros { KeepsMacros self.old self.new }
+        ensures all_lists { KeepsShared self.old self.new }
     {
         self.held.set_no_list(loc, global)
     }
@@ -844,7 +844,7 @@ impl Input {
         ensures refused { MatchResult result (λ _. refused self.old.sizes (group_demands self.old.groups) ≡ None) (λ full. refused self.old.sizes (group_demands self.old.groups) ≡ Some full) }
         ensures ok { OnOk result (self.new ≡ record self.old { groups = opened self.old.groups kind }) }
         ensures err { OnErr result (self.new ≡ self.old) }
-        ensures macros { KeepsMacros self.old self.new }
+        ensures all_lists { KeepsShared self.old self.new }
     {
         self.held.open_group(kind)
     }
@@ -858,7 +858,7 @@ impl Input {
         ensures refused { MatchResult result (λ _. refused self.old.sizes (token_demands self.old.groups) ≡ None) (λ full. refused self.old.sizes (token_demands self.old.groups) ≡ Some full) }
         ensures ok { OnOk result (self.new ≡ record self.old { groups = with_token self.old.groups token }) }
         ensures err { OnErr result (self.new ≡ self.old) }
-        ensures macros { KeepsMacros self.old self.new }
+        ensures all_lists { KeepsShared self.old self.new }
     {
         self.held.after_group(token)
     }
@@ -869,7 +869,7 @@ impl Input {
         requires open { 0 < depth self.old.groups }
         requires calls { self.old.call ≡ NotCalling }
         ensures after { self.new ≡ record self.old { groups = group_closed self.old.groups; closing = tokens_after self.old.groups; ending = kind_of self.old.groups; lists = self.new.lists } }
-        ensures macros { KeepsMacros self.old self.new }
+        ensures all_lists { KeepsShared self.old self.new }
     {
         self.held.close_group();
     }
@@ -996,8 +996,8 @@ impl Input {
         requires { call_kind self.old.lists (name_meaning self.old.groups.now.meanings name) ≡ AtOnce }
         ensures refused { MatchResult result (λ _. call_refusal (called_put self.old.lists (name_meaning self.old.groups.now.meanings name)) self.old ≡ None) (λ full. call_refusal (called_put self.old.lists (name_meaning self.old.groups.now.meanings name)) self.old ≡ Some full) }
         ensures ok { OnOk result (self.new ≡ record self.old { pending = after_call (called_put self.old.lists (name_meaning self.old.groups.now.meanings name)) self.old.pending; lists = self.new.lists }) }
-        ensures err { OnErr result (self.new ≡ record self.old { pending = settle self.old.pending; lists = self.new.lists }) }
-        ensures macros { KeepsMacros self.old self.new }
+        ensures err { OnErr result (self.new ≡ record self.old { pending = end_token_lists self.old.pending; lists = self.new.lists }) }
+        ensures all_lists { KeepsShared self.old self.new }
     {
         self.held.call_macro(name)
     }
@@ -1011,8 +1011,8 @@ impl Input {
         requires { IsLocation self.old.groups loc }
         ensures refused { MatchResult result (λ _. call_refusal (standing_put self.old.lists self.old.groups loc) self.old ≡ None) (λ full. call_refusal (standing_put self.old.lists self.old.groups loc) self.old ≡ Some full) }
         ensures ok { OnOk result (self.new ≡ record self.old { pending = after_call (standing_put self.old.lists self.old.groups loc) self.old.pending; lists = self.new.lists }) }
-        ensures err { OnErr result (self.new ≡ record self.old { pending = settle self.old.pending; lists = self.new.lists }) }
-        ensures macros { KeepsMacros self.old self.new }
+        ensures err { OnErr result (self.new ≡ record self.old { pending = end_token_lists self.old.pending; lists = self.new.lists }) }
+        ensures all_lists { KeepsShared self.old self.new }
     {
         self.held.put_list(loc)
     }
@@ -1028,7 +1028,7 @@ impl Input {
         ensures refused { MatchResult result (λ _. refused self.old.sizes (memory (lists_words (begun_lists (text_of self.old.lists self.old.groups.now.meanings name))) (words self.old) ∷ []) ≡ None) (λ full. refused self.old.sizes (memory (lists_words (begun_lists (text_of self.old.lists self.old.groups.now.meanings name))) (words self.old) ∷ []) ≡ Some full) }
         ensures ok { OnOk result (self.new ≡ record self.old { call = calls.Gathering name (first_scan (text_of self.old.lists self.old.groups.now.meanings name) (mode_of long)); lists = self.new.lists }) }
         ensures err { OnErr result (self.new ≡ self.old) }
-        ensures macros { KeepsMacros self.old self.new }
+        ensures all_lists { KeepsShared self.old self.new }
     {
         self.held.begin_call(name, long)
     }
@@ -1067,7 +1067,7 @@ impl Input {
         ensures err { OnErr result (CutShort (text_of self.old.lists self.old.groups.now.meanings) token self.old.call self.new.call) }
         ensures full { IfErr result (λ full. refused self.new.sizes (memory 1 (words self.new) ∷ []) ≡ Some full) }
         ensures others { self.new ≡ record self.old { call = self.new.call; lists = self.new.lists } }
-        ensures macros { KeepsMacros self.old self.new }
+        ensures all_lists { KeepsShared self.old self.new }
     {
         self.held.feed_call(token)
     }
@@ -1107,8 +1107,8 @@ impl Input {
         requires { IsComplete self.old.call }
         ensures refused { MatchResult result (λ _. put_refusal (put_of self.old.lists self.old.groups.now.meanings self.old.call) self.old ≡ None) (λ full. put_refusal (put_of self.old.lists self.old.groups.now.meanings self.old.call) self.old ≡ Some full) }
         ensures ok { OnOk result (self.new ≡ record self.old { pending = after_call (put_of self.old.lists self.old.groups.now.meanings self.old.call) self.old.pending; call = NotCalling; lists = self.new.lists }) }
-        ensures err { OnErr result (self.new ≡ record self.old { pending = settle self.old.pending; lists = self.new.lists }) }
-        ensures macros { KeepsMacros self.old self.new }
+        ensures err { OnErr result (self.new ≡ record self.old { pending = end_token_lists self.old.pending; lists = self.new.lists }) }
+        ensures all_lists { KeepsShared self.old self.new }
     {
         self.held.put_call()
     }
@@ -1116,7 +1116,7 @@ impl Input {
     /// The call's lists go, and none is gathered.
     pub fn drop_call(&mut self)
         ensures after { self.new ≡ record self.old { call = NotCalling; lists = self.new.lists } }
-        ensures macros { KeepsMacros self.old self.new }
+        ensures all_lists { KeepsShared self.old self.new }
     {
         self.held.drop_call();
     }

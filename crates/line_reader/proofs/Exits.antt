@@ -7,7 +7,7 @@ use Rattle.tex_defs.specs.declared.Full.{Full as FullTable}
 use Rattle.tex_defs.specs.declared.Stop.{Stop}
 use Rattle.tex_defs.specs.declared.Stop.TheVariants.{Full, ReadFault, NoMemory}
 use Rattle.plain_tokens.specs.Lines.{has_feed, before_feed, behind_feed, without_last, first_bytes, first_line, trimmed}
-use Rattle.world_io.specs.Told.{FilesTold, SameFiles, IsAtEnd}
+use Rattle.world_io.specs.Contents.{FilesTold, SameFiles, IsAtEnd}
 use Rattle.line_reader.specs.Ahead.{ahead_of, with_ahead}
 use Rattle.line_reader.specs.OpenLines.{OpenLines, used, held, part_read, line_opened, read_ahead, refusal, buffer_full}
 use Rattle.line_reader.specs.Reading.{CameIn, sure_bytes, HasRoom, TakesLine, FindsEnd, Cause, IsRefused}

@@ -5,7 +5,7 @@ use Rattle.std.proofs.lemmas.List.{length-append, take_rest}
 use Rattle.std.proofs.lemmas.Grind.{common_steps}
 use Rattle.plain_tokens.specs.Lines.{has_feed, before_feed, behind_feed, without_last}
 use Rattle.world_io.specs.declared.traits.Fault.{Fault}
-use Rattle.world_io.specs.Told.{FilesTold, IsAtEnd}
+use Rattle.world_io.specs.Contents.{FilesTold, IsAtEnd}
 use Rattle.line_reader.specs.Ahead.{Ahead, StandsAt, is_begun, ahead_of, with_ahead}
 use Rattle.line_reader.specs.OpenLines.{OpenLines, used, part_read}
 use Rattle.line_reader.specs.Cuts.{lines_of, HasNoFeed, IsSound}

@@ -5,7 +5,7 @@ use Rattle.std.proofs.lemmas.List.{append-nil}
 use Rattle.std.proofs.lemmas.Grind.{common_steps}
 use Rattle.tex_defs.specs.declared.Full.{Full as FullTable}
 use Rattle.plain_tokens.specs.Lines.{has_feed, before_feed, behind_feed}
-use Rattle.world_io.specs.Told.{FilesTold}
+use Rattle.world_io.specs.Contents.{FilesTold}
 use Rattle.line_reader.specs.Ahead.{Ahead, is_begun, ahead_of, with_ahead}
 use Rattle.line_reader.specs.OpenLines.{OpenLines, used, held, part_read, refusal, buffer_full, HoldsNoOther}
 use Rattle.line_reader.specs.Reading.{CameIn}

@@ -7,7 +7,7 @@ use Rattle.tex_defs.specs.declared.Full.{Full as FullTable}
 use Rattle.tex_defs.specs.declared.Stop.{Stop}
 use Rattle.tex_defs.specs.declared.Stop.TheVariants.{Full}
 use Rattle.plain_tokens.specs.Lines.{has_feed, before_feed, behind_feed, without_last, first_bytes, trimmed}
-use Rattle.world_io.specs.Told.{FilesTold, SoFar, IsAtEnd}
+use Rattle.world_io.specs.Contents.{FilesTold, SoFar, IsAtEnd}
 use Rattle.line_reader.specs.Ahead.{ahead_of, with_ahead}
 use Rattle.line_reader.specs.OpenLines.{OpenLines, held, part_for}
 use Rattle.line_reader.specs.Reading.{CameIn, sure_bytes, LacksRoom, TakesLine, FindsEnd, Cause, IsRefused, rest_of, TakesFirst, HasNone, KeepsRest}

@@ -2,7 +2,7 @@
 use Rattle.std.proofs.Common.{◌≡◌, ◌≢◌, ℕ, ◌<◌, Bool, false, true, not, List, [], ◌++◌, length, refl, ap, sym, ◌∙◌, arith, append_assoc}
 use Rattle.std.specs.Prelude.{Some, option_map, MatchBool}
 use Rattle.std.proofs.lemmas.List.{append-nil, length-append}
-use Rattle.world_io.specs.Told.{FilesTold, SameFiles, IsAtEnd}
+use Rattle.world_io.specs.Contents.{FilesTold, SameFiles, IsAtEnd}
 use Rattle.line_reader.specs.Ahead.{Ahead, is_begun, ahead_of, with_ahead}
 use Rattle.line_reader.specs.OpenLines.{OpenLines, held, part}
 use Rattle.line_reader.specs.Reading.{CameIn, LooksAhead, rest_of}

@@ -4,7 +4,7 @@ use Rattle.std.specs.Prelude.{Option, Some, None, Result, Ok, Err, IfOk, OnErr, 
 use Rattle.std.proofs.lemmas.Bool.{ne_eqb}
 use Rattle.tex_defs.specs.Places.{File, Untold, NotHeld, Holds}
 use Rattle.world_io.specs.declared.traits.Fault.{Fault}
-use Rattle.world_io.specs.Told.{FilesTold, SameFiles, OnlyReads, OpensReader, ClosesReader, MayHold, IsAtEnd, IsAll, IsContent, SoFar, content}
+use Rattle.world_io.specs.Contents.{FilesTold, SameFiles, OnlyReads, OpensReader, ClosesReader, MayHold, IsAtEnd, IsAll, IsContent, SoFar, content}
 use Rattle.line_reader.specs.Reading.{CameIn}
 use Rattle.line_reader.proofs.AheadOf.{is_same}
 use Rattle.line_reader.specs.Readers.{OpenReader, OpenReaders, came_of, KnowsEnd, innermost_of, IsNew, AreOpen, KnowEnds, first_left, AreLeft, MayLeave, came_first, told_left, LeftBefore, OpensInnermost, KeepsReaders}

@@ -3,7 +3,7 @@ use Rattle.std.proofs.Common.{◌≡◌, ℕ, Bool, false, true, List, [], ◌�
 use Rattle.std.specs.Prelude.{Option, Some, None, if◌then◌else◌}
 use Rattle.std.proofs.lemmas.Grind.{common_steps}
 use Rattle.plain_tokens.specs.Lines.{has_feed, before_feed, behind_feed, without_last, first_bytes}
-use Rattle.world_io.specs.Told.{FilesTold, SoFar, SameFiles}
+use Rattle.world_io.specs.Contents.{FilesTold, SoFar, SameFiles}
 use Rattle.line_reader.specs.Reading.{CameIn}
 
 pub has-append : (xs ys : List ℕ) → has_feed xs ≡ false → has_feed (xs ++ ys) ≡ has_feed ys

@@ -1,7 +1,7 @@
 -- A reader that is read piece by piece, and the readers of the files that are open.
 use Rattle.std.specs.Prelude.{◌≡◌, ◌≢◌, ℕ, ◌==◌, Bool, true, false, ◌||◌, List, [], ◌∷◌, ◌++◌, drop, map, Option, Some, None, nat_eq, if◌then◌else◌}
 use Rattle.std.specs.List.{list_any}
-use Rattle.world_io.specs.Told.{FilesTold, SameFiles, OpensReader, IsAtEnd, IsAll, IsContent}
+use Rattle.world_io.specs.Contents.{FilesTold, SameFiles, OpensReader, IsAtEnd, IsAll, IsContent}
 
 -- a reader's number, and whether its file's end has come
 pub record OpenReader : Type 0 where

@@ -4,7 +4,7 @@ use Rattle.tex_defs.specs.Places.{Rose}
 use Rattle.tex_defs.specs.declared.Full.{Full as FullTable}
 use Rattle.tex_defs.specs.declared.Stop.{Stop}
 use Rattle.tex_defs.specs.declared.Stop.TheVariants.{Full, ReadFault, NoMemory}
-use Rattle.world_io.specs.Told.{FilesTold, SoFar, OnlyReads, SameFiles, IsAtEnd}
+use Rattle.world_io.specs.Contents.{FilesTold, SoFar, OnlyReads, SameFiles, IsAtEnd}
 use Rattle.plain_tokens.specs.Lines.{has_feed, before_feed, behind_feed, without_last, first_bytes, first_line}
 use Rattle.line_reader.specs.Ahead.{ahead_of, with_ahead}
 use Rattle.line_reader.specs.OpenLines.{OpenLines, held, used, line_opened, read_ahead, part_read, buffer_full}

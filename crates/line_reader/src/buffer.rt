@@ -1,7 +1,7 @@
 // The buffer: the open lines, what stands behind them, and the windows of the readers.
 ghost use Rattle.std.specs.Prelude.{◌≡◌, ◌≢◌, ◌≤◌, ◌<◌, ◌+◌, ◌-◌, ℕ, List, [], ◌∷◌, ◌++◌, length, true, false, None, Some, IfOk, OnErr, MatchResult, MatchBool, is_ok, if◌then◌else◌, take, slice_set};
 ghost use Rattle.plain_tokens.specs.Lines.{has_feed, before_feed, behind_feed, without_last, trimmed};
-ghost use Rattle.world_io.specs.Told.{HasCause, SameFiles, IsAtEnd};
+ghost use Rattle.world_io.specs.Contents.{HasCause, SameFiles, IsAtEnd};
 ghost use Rattle.line_reader.specs.Ahead.{ahead_of, with_ahead, is_begun};
 ghost use Rattle.line_reader.specs.OpenLines.{no_lines, used, most_readers, part, held, spelt_name, HoldsNoOther, HoldsNoPart, line_opened, part_read, innermost, line_dropped, line_changed, reader_forgotten, part_dropped, byte_spelt, name_dropped, refusal};
 ghost use Rattle.line_reader.specs.Reading.{CameIn};

@@ -1,6 +1,6 @@
 // An open reader that is read piece by piece.
 ghost use Rattle.std.specs.Prelude.{◌≡◌, ◌≤◌, take, true, false, Ok, IfOk, OnErr};
-ghost use Rattle.world_io.specs.Told.{HasCause, SameFiles, SameCounts, ClosesReader, IsAtEnd};
+ghost use Rattle.world_io.specs.Contents.{HasCause, SameFiles, SameCounts, ClosesReader, IsAtEnd};
 ghost use Rattle.line_reader.specs.Reading.{CameIn};
 ghost use Rattle.line_reader.specs.Readers.{came_of, KnowsEnd};
 

@@ -1,6 +1,6 @@
 // The readers of the files that are open.
 ghost use Rattle.std.specs.Prelude.{◌≡◌, ◌≢◌, ◌≤◌, ◌<◌, ℕ, List, [], ◌∷◌, length, take, true, false, Ok, IfOk, OnErr, MatchBool};
-ghost use Rattle.world_io.specs.Told.{HasCause, SameCounts, NotFound, ClosesReader, IsAtEnd};
+ghost use Rattle.world_io.specs.Contents.{HasCause, SameCounts, NotFound, ClosesReader, IsAtEnd};
 ghost use Rattle.line_reader.specs.Reading.{CameIn};
 ghost use Rattle.line_reader.specs.Readers.{no_readers, innermost_of, outer_of, ids, came_of, AreOpen, KnowEnds, came_first, told_left, LeftBefore, MightLeave, OpensInnermost, KeepsReaders, ClosesReaders};
 

@@ -1,7 +1,7 @@
 // The bytes that have been read ahead of one reader.
 ghost use Rattle.std.specs.Prelude.{◌≡◌, ◌≤◌, ◌<◌, ◌+◌, ℕ, [], ◌++◌, length, take, drop, true, false, IfOk, OnErr, vec_capacity};
 ghost use Rattle.tex_defs.specs.Places.{Rose};
-ghost use Rattle.world_io.specs.Told.{HasCause, SameFiles, IsAtEnd};
+ghost use Rattle.world_io.specs.Contents.{HasCause, SameFiles, IsAtEnd};
 ghost use Rattle.line_reader.specs.Reading.{CameIn};
 
 use std::marker::Model;

@@ -12,7 +12,7 @@ use Rattle.plain_tokens.specs.Categories.{begin_group, end_group, parameter}
 use Rattle.plain_tokens.specs.Tokens.{has_category, means_category}
 use Rattle.list_builder.specs.declared.stage.Stage.{Stage}
 use Rattle.list_builder.specs.declared.stage.Stage.TheVariants.{InBody, Reference, Illegal}
-use Rattle.plain_state.specs.Definitions.{Fed, Tok, Told, Given, Answer, Done, is_parameter, is_number, number_of, is_reference, count_of, with_cell}
+use Rattle.plain_state.specs.Definitions.{Fed, Tok, Told, Given, Answer, Done, is_parameter, is_number, place_digit, is_reference, count_of, with_cell}
 use Rattle.list_builder.specs.Plain.{body_of}
 use Rattle.list_builder.specs.Stages.{resume}
 use Rattle.list_builder.specs.Forms.{closes, is_plain, are_plain, is_in_body, are_in_body, IsSeen, IsClean}
@@ -68,7 +68,7 @@ parameter_no_brace EndPlaces m s e = absurd s
 number_between : (category code n : ℕ) → ((category == 12) && (nat_le 49 code && nat_le code (48 + n))) ≡ true → (nat_le 1 (code - 48) && nat_le (code - 48) n) ≡ true
 number_between category code n e = grind (arith, nat_tests)
 
-number_in : (n : ℕ) (t : Token) → is_number n t ≡ true → is_in_body n (Number (number_of t)) ≡ true
+number_in : (n : ℕ) (t : Token) → is_number n t ≡ true → is_in_body n (Number (place_digit t)) ≡ true
 number_in n (Char category code) e = number_between category code n e
 number_in n (Named name) e = absurd (true≢false (sym e))
 number_in n (Marked name) e = absurd (true≢false (sym e))
@@ -165,7 +165,7 @@ completed front m (Reference b d c) list (Tok y ∷ fed) ts h clean e =
     (λ a i. completed front m (InBody b d) (list ++ y.token ∷ []) fed ts
     (stood_on front _ d d list _ h.0 (one_in _ y.token (plain_in _ y.token (seen_plain y.token y.meaning clean.0))) (closes_other d y.token (parameter_no_brace y.token y.meaning clean.0 a))) clean.1 i)
     (λ a g. chosen (is_number (count_of b.places) y.token) _ _ ts
-    (λ o i. completed front m (InBody b d) (list ++ Number (number_of y.token) ∷ []) fed ts (stood_on front _ d d list _ h.0 (one_in _ (Number (number_of y.token)) (number_in _ y.token o)) refl) clean.1 i)
+    (λ o i. completed front m (InBody b d) (list ++ Number (place_digit y.token) ∷ []) fed ts (stood_on front _ d d list _ h.0 (one_in _ (Number (place_digit y.token)) (number_in _ y.token o)) refl) clean.1 i)
     (λ o i. completed front m (Illegal b d c) list fed ts h clean.1 i) g) e
 completed front m (Illegal b d c) list [] ts h clean e = absurd (cc)
 completed front m (Illegal b d c) list (Told ∷ fed) ts h clean e = completed front m (InBody b d) (list ++ c ∷ []) fed ts (stood_on front _ d d list _ h.0 (one_in _ c (plain_in _ c h.1)) (closes_other d c h.2)) clean e

@@ -10,7 +10,7 @@ use Rattle.list_builder.specs.declared.stage.Body.{Body}
 use Rattle.list_builder.specs.declared.stage.Stage.{Stage}
 use Rattle.list_builder.specs.declared.stage.Stage.TheVariants.{First, FirstMissing, Parameters, Misnumbered, Tenth, BodyMissing, InBody, Reference, Illegal}
 use Rattle.list_builder.specs.declared.stage.Stage.TheVariants as stage
-use Rattle.plain_state.specs.Definitions.{Fed, Tok, Told, Given, Answer, Done, is_parameter, character_of, is_digit, is_number, number_of, is_reference, count_of}
+use Rattle.plain_state.specs.Definitions.{Fed, Tok, Told, Given, Answer, Done, is_parameter, character_of, is_digit, is_number, place_digit, is_reference, count_of}
 use Rattle.list_builder.specs.Plain.{body_of}
 use Rattle.list_builder.specs.Stages.{resume}
 
@@ -74,7 +74,7 @@ ends m (Reference b d c) list (Told ∷ fed) more ts e = ends m (Reference b d c
 ends m (Reference b d c) list (Given us ∷ fed) more ts e = ends m (Reference b d c) list fed more ts e
 ends m (Reference b d c) list (Tok y ∷ fed) more ts e =
     split (is_parameter y) _ _ _ _ ts (λ h. ends m (InBody b d) (list ++ y.token ∷ []) fed more ts h)
-    (λ g. split (is_number (count_of b.places) y.token) _ _ _ _ ts (λ h. ends m (InBody b d) (list ++ Number (number_of y.token) ∷ []) fed more ts h) (λ h. ends m (Illegal b d c) list fed more ts h) g) e
+    (λ g. split (is_number (count_of b.places) y.token) _ _ _ _ ts (λ h. ends m (InBody b d) (list ++ Number (place_digit y.token) ∷ []) fed more ts h) (λ h. ends m (Illegal b d c) list fed more ts h) g) e
 ends m (Illegal b d c) list [] more ts e = cc
 ends m (Illegal b d c) list (Told ∷ fed) more ts e = ends m (InBody b d) (list ++ c ∷ []) fed more ts e
 ends m (Illegal b d c) list (Given us ∷ fed) more ts e = ends m (Illegal b d c) list fed more ts e

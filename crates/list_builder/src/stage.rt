@@ -5,7 +5,7 @@ ghost use Rattle.list_builder.specs.declared.stage.Next.TheVariants.{On};
 ghost use Rattle.tex_defs.specs.declared.Token.{Token};
 ghost use Rattle.token_lists.specs.Table.{Entry};
 ghost use Rattle.plain_tokens.specs.Tokens.{has_category, is_other, means_category};
-ghost use Rattle.plain_state.specs.Definitions.{Fed, Tok, Told, is_parameter, character_of, is_number, number_of, is_reference, first, parameters, place, body, reference};
+ghost use Rattle.plain_state.specs.Definitions.{Fed, Tok, Told, is_parameter, character_of, is_number, place_digit, is_reference, first, parameters, place, body, reference};
 ghost use Rattle.list_builder.specs.Plain.{body_of};
 ghost use Rattle.list_builder.specs.Stages.{resume, depth_of, due_of, IsReport, IsTelling, TellsNext, goes, depth_after, growth};
 ghost use Rattle.list_builder.specs.Scans.{answer_of, IsOpen};
@@ -119,8 +119,8 @@ fn is_other(token: Token, code: u8) -> bool
 }
 
 // The number of a place, of which there are `count`.
-fn number_of(token: Token, count: u8) -> Option<u8>
-    ensures some { IfSome result (λ n. (is_number count token ≡ true) × (n ≡ number_of token)) }
+fn place_digit(token: Token, count: u8) -> Option<u8>
+    ensures some { IfSome result (λ n. (is_number count token ≡ true) × (n ≡ place_digit token)) }
     ensures none { result ≡ None → is_number count token ≡ false }
 {
     match token {
@@ -305,7 +305,7 @@ impl Stage {
             Some(count) => count,
             None => 0,
         };
-        match number_of(y.token, count) {
+        match place_digit(y.token, count) {
             Some(number) => Step::with(Token::Number(number), Stage::InBody(inside, depth)),
             None => Step::to(Stage::Illegal(inside, depth, character)),
         }

@@ -198,7 +198,7 @@ impl Present {
     }
 
     // A token that is no part of a whole match and no extra brace.
-    fn go_on(
+    fn feed_on(
         &mut self,
         lists: &mut Lists,
         list: &ListRef,
@@ -284,7 +284,7 @@ impl Present {
             }
             return Ok(Step::ExtraBrace);
         }
-        self.go_on(lists, list, delimiter, mode, x, out)
+        self.feed_on(lists, list, delimiter, mode, x, out)
     }
 
     /// Takes a token at a place with this delimiter, which is empty where there is none.

@@ -26,12 +26,12 @@ numbered_list None = None
 numbered_list (Some r) = Some (id_of r)
 
 -- a meaning with the number of its list
-abbrev pub numbered : Meaning (Option ListRef) → Meaning (Option ℕ)
-numbered means.Undefined = means.Undefined
-numbered means.RelaxMarked = means.RelaxMarked
-numbered (means.Char cat code) = means.Char cat code
-numbered (means.CharGiven code) = means.CharGiven code
-numbered (means.MathGiven code) = means.MathGiven code
-numbered (means.Register kind n) = means.Register kind n
-numbered (means.Prim number) = means.Prim number
-numbered (means.Macro long outer list) = means.Macro long outer (numbered_list list)
+abbrev pub numbered_meaning : Meaning (Option ListRef) → Meaning (Option ℕ)
+numbered_meaning means.Undefined = means.Undefined
+numbered_meaning means.RelaxMarked = means.RelaxMarked
+numbered_meaning (means.Char cat code) = means.Char cat code
+numbered_meaning (means.CharGiven code) = means.CharGiven code
+numbered_meaning (means.MathGiven code) = means.MathGiven code
+numbered_meaning (means.Register kind n) = means.Register kind n
+numbered_meaning (means.Prim number) = means.Prim number
+numbered_meaning (means.Macro long outer list) = means.Macro long outer (numbered_list list)

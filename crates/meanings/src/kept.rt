@@ -4,7 +4,7 @@ ghost use Rattle.token_lists.specs.Table.{IsHeld, holders_at};
 ghost use Rattle.token_lists.specs.Accounts.{Moves, Keeps, none};
 ghost use Rattle.token_lists.specs.Ids.{id_of};
 ghost use Rattle.plain_tokens.specs.Meanings.{seen_as, first_meaning, is_listed, is_expandable, marked_meaning};
-ghost use Rattle.meanings.specs.Kept.{numbered, numbered_list, without_list};
+ghost use Rattle.meanings.specs.Kept.{numbered_meaning, numbered_list, without_list};
 ghost use Rattle.equivalents.specs.Holding.{list_of};
 ghost use Rattle.meanings.specs.Holding.{list_holds, meaning_holds, with_holder, without_holder, Lasts};
 
@@ -16,7 +16,7 @@ pub type Kept = Meaning<Option<ListRef>>;
 
 // The meaning as readings see it.
 pub fn seen(kept: &Kept) -> Meaning<()>
-    ensures { result ≡ seen_as (numbered kept.now) }
+    ensures { result ≡ seen_as (numbered_meaning kept.now) }
 {
     match kept {
         Meaning::Undefined => Meaning::Undefined,
@@ -46,7 +46,7 @@ pub fn seen(kept: &Kept) -> Meaning<()>
 
 // The list of a macro.
 pub fn list_of(kept: &Kept) -> Option<&ListRef>
-    ensures list { MatchOption result (list_of (numbered kept.now) ≡ None) (λ r. list_of (numbered kept.now) ≡ Some (id_of r.now)) }
+    ensures list { MatchOption result (list_of (numbered_meaning kept.now) ≡ None) (λ r. list_of (numbered_meaning kept.now) ≡ Some (id_of r.now)) }
 {
     match kept {
         Meaning::Macro {
@@ -60,7 +60,7 @@ pub fn list_of(kept: &Kept) -> Option<&ListRef>
 
 // A meaning that is no macro's, as it is kept.
 pub fn without_list(meaning: Meaning<()>) -> Kept
-    ensures { numbered result ≡ without_list meaning }
+    ensures { numbered_meaning result ≡ without_list meaning }
 {
     match meaning {
         Meaning::Undefined => Meaning::Undefined,
@@ -84,7 +84,7 @@ pub fn without_list(meaning: Meaning<()>) -> Kept
 
 // What the name of a primitive means at first, where these primitives mean something.
 pub fn known(numbers: &[u16], number: u16) -> Kept
-    ensures { numbered result ≡ first_meaning (is_listed numbers.now) number }
+    ensures { numbered_meaning result ≡ first_meaning (is_listed numbers.now) number }
 {
     if numbers.contains(&number) {
         Meaning::Prim(number)
@@ -136,11 +136,11 @@ pub fn share_list(lists: &mut Lists, list: &Option<ListRef>) -> Option<ListRef>
 
 // The same meaning, where a macro's list has one more holder.
 pub fn share(lists: &mut Lists, kept: &Kept) -> Kept
-    requires held { IfSome (list_of (numbered kept.now)) (λ id. IsHeld lists.old id) }
-    requires countable { IfSome (list_of (numbered kept.now)) (λ id. holders_at lists.old id + 1 < 2 ^ 32) }
-    ensures same { numbered result ≡ numbered kept.now }
-    ensures after { lists.new ≡ with_holder (list_of (numbered kept.now)) lists.old }
-    ensures account { Moves lists.old lists.new none (meaning_holds (numbered result)) }
+    requires held { IfSome (list_of (numbered_meaning kept.now)) (λ id. IsHeld lists.old id) }
+    requires countable { IfSome (list_of (numbered_meaning kept.now)) (λ id. holders_at lists.old id + 1 < 2 ^ 32) }
+    ensures same { numbered_meaning result ≡ numbered_meaning kept.now }
+    ensures after { lists.new ≡ with_holder (list_of (numbered_meaning kept.now)) lists.old }
+    ensures account { Moves lists.old lists.new none (meaning_holds (numbered_meaning result)) }
     ensures kept { Keeps lists.old lists.new none }
 {
     match kept {
@@ -168,10 +168,10 @@ pub fn release_list(lists: &mut Lists, list: Option<ListRef>)
 
 // Lets the list of a meaning go, if it has one.
 pub fn release(lists: &mut Lists, kept: Kept)
-    requires { IfSome (list_of (numbered kept)) (λ id. IsHeld lists.old id) }
-    ensures after { lists.new ≡ without_holder (list_of (numbered kept)) lists.old }
-    ensures account { Moves lists.old lists.new (meaning_holds (numbered kept)) none }
-    ensures kept { Keeps lists.old lists.new (meaning_holds (numbered kept)) }
+    requires { IfSome (list_of (numbered_meaning kept)) (λ id. IsHeld lists.old id) }
+    ensures after { lists.new ≡ without_holder (list_of (numbered_meaning kept)) lists.old }
+    ensures account { Moves lists.old lists.new (meaning_holds (numbered_meaning kept)) none }
+    ensures kept { Keeps lists.old lists.new (meaning_holds (numbered_meaning kept)) }
     ensures lasting { Lasts lists.old lists.new }
 {
     if let Meaning::Macro {

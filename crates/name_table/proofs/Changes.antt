@@ -6,10 +6,10 @@ use Rattle.std.proofs.lemmas.List.Sums.{sum_by_push}
 use Rattle.tex_defs.specs.declared.Full.{Full}
 use Rattle.tex_defs.specs.declared.Sizes.{Sizes}
 use Rattle.string_pool.specs.Pool.{Pool, kept_bytes}
-use Rattle.cs_hash.specs.Names.{Names, string_at, entered, number_of as hash_number_of, Knows}
+use Rattle.cs_hash.specs.Names.{Names, string_at, entered, name_number as hash_number_of, Knows}
 use Rattle.cs_hash.specs.Entry.{Enters, Gains, Stays, entry_refusal, with_string}
 use Rattle.cs_hash.proofs.Entering.{names_more, knows_longer, entered_more}
-use Rattle.plain_tokens.specs.Lookup.{number_of}
+use Rattle.plain_tokens.specs.Lookup.{name_number}
 use Rattle.plain_tokens.specs.Tables.{hash, bytes_of}
 use Rattle.name_table.specs.Strings.{Strings, name_refusal, other_refusal, with_name, with_other}
 use Rattle.name_table.specs.Layout.{IsSound, strings_of, strings_at}
@@ -78,7 +78,7 @@ module _ (names : Names) (pool : Pool) (others : List ℕ) (sizes : Sizes) (room
       let Q : Pool → Type 0 = λ p. IsSound names p others sizes room in
       subst P (sym stays.hash_same) (subst Q (sym stays.pool_same) sound)
 
-  module _ (names' : Names) (pool' : Pool) (name : List ℕ) (result : Result ℕ Full) (absent : number_of (entered names pool.kept) name ≡ None) (enters : Enters names names' pool pool' name result) where
+  module _ (names' : Names) (pool' : Pool) (name : List ℕ) (result : Result ℕ Full) (absent : name_number (entered names pool.kept) name ≡ None) (enters : Enters names names' pool pool' name result) where
     is_new : hash_number_of (entered names pool.kept) name ≡ None
     is_new = same_number (entered names pool.kept) name ∙ absent
 

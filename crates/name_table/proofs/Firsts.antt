@@ -10,7 +10,7 @@ use Rattle.tex_defs.specs.declared.Table.TheVariants.{PoolSize, NumberOfStrings,
 use Rattle.tex_defs.specs.Sizes.{is_in_range, least_size, greatest_size, first_out_among, first_out_of_range}
 use Rattle.prim_table.specs.Primitives.{primitive_name, primitive_names, command_names, assignment_names, expandable_names, conditional_names, integer_names, dimension_names, glue_names, token_names}
 use Rattle.prim_table.proofs.Table.{distinct}
-use Rattle.plain_tokens.specs.Lookup.{number_from, number_of}
+use Rattle.plain_tokens.specs.Lookup.{number_from, name_number}
 use Rattle.plain_tokens.specs.Tables.{bytes_of, hash}
 use Rattle.name_table.specs.Strings.{Strings, name_refusal, with_name, primitives_alone}
 use Rattle.name_table.proofs.Refusals.{bytes_demand, count_demand, not_refused}
@@ -42,7 +42,7 @@ same_name : (k : ℕ) → primitive_name (k + 1) ≡ get_or primitive_names k []
 unfolding primitive_name
 same_name k = ap (λ (i : ℕ). get_or primitive_names i []) (omega arith)
 
-is_new : (k : ℕ) → k < 186 → number_of (take k primitive_names) (primitive_name (k + 1)) ≡ None
+is_new : (k : ℕ) → k < 186 → name_number (take k primitive_names) (primitive_name (k + 1)) ≡ None
 is_new k below = rw (same_name k) (new_from 1 primitive_names k distinct (omega (arith, count_is)))
 
 with_next : (k : ℕ) → k < 186 → take k primitive_names ++ primitive_name (k + 1) ∷ [] ≡ take (k + 1) primitive_names
@@ -102,8 +102,8 @@ has_room sizes k in_range below =
     (not_refused sizes (hash before.names) [] (omega (arith, large.names, few)) refl))
 
 module _ (strings : Strings) (sizes : Sizes) (k : ℕ) (name : List ℕ) (so_far : strings ≡ first_ones sizes k) (next : name ≡ primitive_name (k + 1)) (below : k < 186) where
-  pub next_is_new : number_of strings.names name ≡ None
-  next_is_new = rw next (ap (λ (s : Strings). number_of s.names (primitive_name (k + 1))) so_far ∙ is_new k below)
+  pub next_is_new : name_number strings.names name ≡ None
+  next_is_new = rw next (ap (λ (s : Strings). name_number s.names (primitive_name (k + 1))) so_far ∙ is_new k below)
 
   pub next_has_room : first_out_of_range sizes ≡ None → name_refusal strings name ≡ None
   next_has_room in_range = rw next (ap (λ (s : Strings). name_refusal s (primitive_name (k + 1))) so_far ∙ has_room sizes k in_range below)

@@ -32,6 +32,6 @@ abbrev pub other_refusal : Strings → List ℕ → Option Full
 other_refusal strings bytes = refused strings.sizes (string bytes strings.names strings.others)
 
 -- the first of these strings, or that of no byte
-abbrev pub first_of : List (List ℕ) → List ℕ
-first_of [] = []
-first_of (bytes ∷ strings) = bytes
+abbrev pub head_string : List (List ℕ) → List ℕ
+head_string [] = []
+head_string (bytes ∷ strings) = bytes

@@ -7,9 +7,9 @@
 ghost use Rattle.std.specs.Prelude.{◌≡◌, ◌+◌, length, [], None, Some, IfOk, is_ok, MatchResult, if◌then◌else◌};
 ghost use Rattle.tex_defs.specs.Sizes.{first_out_of_range};
 ghost use Rattle.prim_table.specs.Primitives.{primitive_names};
-ghost use Rattle.plain_tokens.specs.Lookup.{number_of};
+ghost use Rattle.plain_tokens.specs.Lookup.{name_number};
 ghost use Rattle.cs_hash.specs.Names.{Knows, entered};
-ghost use Rattle.name_table.specs.Strings.{name_refusal, other_refusal, primitives_alone, with_name, with_other, first_of};
+ghost use Rattle.name_table.specs.Strings.{name_refusal, other_refusal, primitives_alone, with_name, with_other, head_string};
 
 use cs_hash::{CsHash, NameNo};
 use prim_table::COUNT;
@@ -89,7 +89,7 @@ impl NameTable {
 
     /// The number of a name, if it was entered.
     pub fn find(&self, name: &[u8]) -> Option<NameNo>
-        ensures { result ≡ number_of self.now.names name.now }
+        ensures { result ≡ name_number self.now.names name.now }
     {
         self.hash.find(&self.pool, name)
     }
@@ -99,7 +99,7 @@ impl NameTable {
     /// # Errors
     /// The first of pool size, number of strings and hash size that has no room for it. Nothing has changed then.
     pub fn enter(&mut self, name: &[u8]) -> Result<NameNo, Full>
-        requires { number_of self.old.names name.now ≡ None }
+        requires { name_number self.old.names name.now ≡ None }
         ensures answer { MatchResult result (λ no. name_refusal self.old name.now ≡ None) (λ full. name_refusal self.old name.now ≡ Some full) }
         ensures number { IfOk result (λ no. no ≡ length self.old.names + 1) }
         ensures after { self.new ≡ (if is_ok result then with_name self.old name.now else self.old) }
@@ -134,7 +134,7 @@ impl NameTable {
 
     /// The first of the strings that aren't names, or no bytes where none is kept.
     pub fn first_string(&self) -> &[u8]
-        ensures { result.now ≡ first_of self.now.others }
+        ensures { result.now ≡ head_string self.now.others }
     {
         match self.others.first() {
             Some(number) => self.pool.bytes(*number),

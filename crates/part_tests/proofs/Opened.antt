@@ -2,7 +2,7 @@
 use Rattle.std.proofs.Common.{◌≡◌, ◌≤◌, ℕ, Bool, true, false, List, [], ◌∷◌, ◌++◌, length, arith, ap, ◌∙◌, subst, sym}
 use Rattle.std.specs.Prelude.{nat_eq, if◌then◌else◌, MatchBool}
 use Rattle.std.proofs.lemmas.Grind.{common_steps}
-use Rattle.world_io.specs.Told.{FilesTold, OpensReader}
+use Rattle.world_io.specs.Contents.{FilesTold, OpensReader}
 use Rattle.line_reader.specs.Ahead.{with_ahead}
 use Rattle.plain_tokens.specs.Lines.{first_line, behind_feed}
 use Rattle.line_reader.specs.OpenLines.{OpenLines, no_lines, most_readers, held, line_dropped}

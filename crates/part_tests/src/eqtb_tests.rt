@@ -8,7 +8,7 @@ ghost use Rattle.plain_tokens.specs.Meanings.{name_meaning};
 ghost use Rattle.equivalents.specs.declared.values.Loc.TheVariants as loc;
 ghost use Rattle.equivalents.specs.Tables.{get};
 ghost use Rattle.equivalents.specs.Holding.{list_of, value_list};
-ghost use Rattle.meanings.specs.Kept.{numbered, numbered_list};
+ghost use Rattle.meanings.specs.Kept.{numbered_meaning, numbered_list};
 ghost use Rattle.meanings.specs.Holding.{list_holds, meaning_holds};
 ghost use Rattle.eqtb_save.specs.Holding.{held};
 
@@ -564,7 +564,7 @@ fn enter_name(eqtb: &mut Eqtb) -> bool
 
 // Gives a name a meaning, where it may be assigned.
 fn set_name(eqtb: &mut Eqtb, lists: &mut Lists, name: Name, value: Kept) -> Result<(), Full>
-    requires { Covers lists.old (λ h. meaning_holds (numbered value) h + held eqtb.old h) }
+    requires { Covers lists.old (λ h. meaning_holds (numbered_meaning value) h + held eqtb.old h) }
     ensures { Covers lists.new (held eqtb.new) }
 {
     match name_loc(name) {

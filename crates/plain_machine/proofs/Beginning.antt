@@ -10,7 +10,7 @@ use Rattle.plain_tokens.specs.Lex.{NewLine}
 use Rattle.plain_tokens.specs.Pending.{Pending, Begun as BegunFile, with_end, with_next, with_begun, source_of}
 use Rattle.plain_tokens.specs.Tables.{Demand, buffer, line_need, level, open_lines, next_file, refused}
 use Rattle.equivalents.specs.Parameters.{end_of_line}
-use Rattle.plain_machine.specs.States.{State, Move, FirstTaken, FileOpened, Settled, made}
+use Rattle.plain_machine.specs.States.{State, Move, FirstTaken, FileOpened, ListsEnded, made}
 use Rattle.plain_machine.specs.Demands.{refusal}
 use Rattle.plain_machine.specs.Plan.{ruled}
 use Rattle.plain_machine.specs.Runs.{Wrote, made_all}
@@ -125,14 +125,14 @@ module _ (sizes : Sizes) (s : State) (bytes : List ℕ) (r : Rests) (is : s.pend
   all_bytes = bytes ++ first_left r.left
 
   abbrev one : List Move
-  one = Settled ∷ FirstTaken (first_line bytes) ∷ []
+  one = ListsEnded ∷ FirstTaken (first_line bytes) ∷ []
 
   abbrev same_one : List Move
-  same_one = Settled ∷ FirstTaken (first_line all_bytes) ∷ []
+  same_one = ListsEnded ∷ FirstTaken (first_line all_bytes) ∷ []
 
   -- once the finished lists in front have gone
   abbrev settled : State
-  settled = made Settled s
+  settled = made ListsEnded s
 
   abbrev demanded : List ℕ → List Demand
   demanded line = buffer (line_need line) (open_lines settled.pending) ∷ level settled.pending ∷ []
@@ -183,12 +183,12 @@ module _ (sizes : Sizes) (s : State) (bytes : List ℕ) (r : Rests) (is : s.pend
       Wrote w w' (done ++ front_of count m) → Cut sizes (extended r s) (extended r at) w w' same_one why
   cut_at at w w' why [] m rest count all state refuses cause written = absurd (no_refusal sizes why m at (cc) refuses)
   cut_at at w w' why (d ∷ []) m rest count all state refuses cause written =
-      let settles : d ≡ Settled = cc in
+      let settles : d ≡ ListsEnded = cc in
       let takes : m ≡ FirstTaken (first_line bytes) = cc in
       let here : settled ≡ at = ap (λ (x : Move). made x s) (sym settles) ∙ state in
       let there : Refuses sizes why (FirstTaken (first_line bytes)) settled = subst (Refuses sizes why (FirstTaken (first_line bytes))) (sym here) (subst (λ (x : Move). Refuses sizes why x at) takes refuses) in
       record {
-        done = Settled ∷ [];
+        done = ListsEnded ∷ [];
         m = FirstTaken (first_line all_bytes);
         rest = [];
         count = 0;

@@ -5,7 +5,7 @@ use Rattle.std.proofs.lemmas.List.{append-nil}
 use Rattle.tex_defs.specs.Places.{Place, Transcript, OfFile, File, World, Later, Rose, Untold, NotHeld, Holds, grown, is_at}
 use Rattle.tex_defs.specs.declared.Full.{Full}
 use Rattle.tex_defs.specs.declared.Sizes.{Sizes}
-use Rattle.plain_machine.specs.States.{State, Move, Handed, Settled, Written, made, column_after}
+use Rattle.plain_machine.specs.States.{State, Move, Handed, ListsEnded, Written, made, column_after}
 use Rattle.plain_machine.specs.Demands.{refusal}
 use Rattle.plain_machine.specs.Plan.{plan}
 use Rattle.plain_machine.specs.Runs.{Wrote, made_all, after, columns_after, steps}
@@ -90,15 +90,15 @@ pub due_did : (sizes : Sizes) (s s' : State) (w w' : World) (ms : List Move) →
 due_did sizes s s' w w' ms e d = subst (FitMoves sizes s ms) (ap but_due d.state) (due_made sizes s ms e d.fits)
 
 -- behind k steps a rule that begins with a step ends the run within k
-pub steps_end : (sizes : Sizes) (s t : State) (k : ℕ) (ms : List Move) → FitMoves sizes s ms t → steps ms ≡ k → (c : StepComes sizes t) → Bounded sizes s k (ms ++ Settled ∷ []) c.t AtSteps
+pub steps_end : (sizes : Sizes) (s t : State) (k : ℕ) (ms : List Move) → FitMoves sizes s ms t → steps ms ≡ k → (c : StepComes sizes t) → Bounded sizes s k (ms ++ ListsEnded ∷ []) c.t AtSteps
 steps_end sizes s t k ms h e c = record {
-  moves = fits_join sizes s t c.t ms (Settled ∷ []) h c.moves;
-  within = omega (arith, e, steps_join ms (Settled ∷ []));
-  whole = (omega (arith, e, steps_join ms (Settled ∷ [])), c.needs);
+  moves = fits_join sizes s t c.t ms (ListsEnded ∷ []) h c.moves;
+  within = omega (arith, e, steps_join ms (ListsEnded ∷ []));
+  whole = (omega (arith, e, steps_join ms (ListsEnded ∷ [])), c.needs);
 }
 
-pub steps_wrote : (w w' : World) (ms : List Move) → Wrote w w' ms → Wrote w w' (ms ++ Settled ∷ [])
-steps_wrote w w' ms h = wrote_join w w' w' ms (Settled ∷ []) h (wrote_silent w' (Settled ∷ []) tt)
+pub steps_wrote : (w w' : World) (ms : List Move) → Wrote w w' ms → Wrote w w' (ms ++ ListsEnded ∷ [])
+steps_wrote w w' ms h = wrote_join w w' w' ms (ListsEnded ∷ []) h (wrote_silent w' (ListsEnded ∷ []) tt)
 
 -- MOVES CUT OFF
 

@@ -15,7 +15,7 @@ use Rattle.plain_tokens.specs.Lookup.{token_of, new_name}
 use Rattle.plain_tokens.specs.Tokens.{character_codes}
 use Rattle.plain_tokens.specs.Meanings.{met as met_token}
 use Rattle.plain_tokens.specs.Puts.{Item, First, Put as PutList, next_item, put_parameters}
-use Rattle.plain_tokens.specs.Pending.{Pending, Pulled, TokenFrom, LexemeFrom, LineTaken, InvalidMet, FileOver, NothingLeft, settle, pulled, after_pull, with_end, takes_file}
+use Rattle.plain_tokens.specs.Pending.{Pending, Pulled, TokenFrom, LexemeFrom, LineTaken, InvalidMet, FileOver, NothingLeft, end_token_lists, pulled, after_pull, with_end, takes_file}
 use Rattle.rows.specs.declared.command.Call.{Call}
 use Rattle.rows.specs.declared.command.Effect.{Effect}
 use Rattle.rows.specs.declared.command.Effect.TheVariants as effect
@@ -23,7 +23,7 @@ use Rattle.rows.specs.Readings.{Tok, Ask, More, ActsOn}
 use Rattle.plain_readings.specs.Readings.{Reading, ask, lists}
 use Rattle.plain_readings.specs.Scanning.{Scanning, scanning}
 use Rattle.equivalents.specs.Parameters.{end_of_line}
-use Rattle.plain_machine.specs.States.{State, Move, Handed, Taken, FirstTaken, Settled, Skipped, FileClosed, FileOpened, Spelt, Grows, Opened, ListBegun, ListGrown, Put, Called, CalledWith, Begun, BegunWith, made}
+use Rattle.plain_machine.specs.States.{State, Move, Handed, Taken, FirstTaken, ListsEnded, Skipped, FileClosed, FileOpened, Spelt, Grows, Opened, ListBegun, ListGrown, Put, Called, CalledWith, Begun, BegunWith, made}
 use Rattle.plain_tokens.specs.Tables.{Demand, held_words, lists_words, memory, buffer, lines_beneath, line_need, level, opened_level, parameters, spelt_name, next_line, refused}
 use Rattle.equivalents.specs.Holding.{lists_held, shared_words}
 use Rattle.command_words.specs.Words.{file_name}
@@ -50,7 +50,7 @@ AllAgree sizes r [] s = Unit {0}
 AllAgree sizes r (m ∷ ms) s = Agrees sizes r m s × AllAgree sizes r ms (made m s)
 
 words_same : (r : Rests) (s : State) → words (extended r s) ≡ words s
-words_same r s = ap (λ (ps : List PutList). shared_words 0 (lists_held s.groups) ps s.macros + held_words ps s.making s.gathered) (all_puts_same r.left s.pending)
+words_same r s = ap (λ (ps : List PutList). shared_words 0 (lists_held s.groups) ps s.all_lists + held_words ps s.making s.gathered) (all_puts_same r.left s.pending)
 
 module _ (sizes : Sizes) (r : Rests) (s : State) where
   -- where words, a level or a place in the buffer is asked for
@@ -147,10 +147,10 @@ module _ (sizes : Sizes) (r : Rests) (ms : List Move) (s : State) where
 
 -- behind the finished lists in front
 abbrev pulled_pending : List ℕ → Pending → Pending
-pulled_pending categories p = after_pull (settle p) (pulled categories (settle p))
+pulled_pending categories p = after_pull (end_token_lists p) (pulled categories (end_token_lists p))
 
-pulled_as : (categories : List ℕ) (p : Pending) (r : Pulled) → pulled categories p ≡ r → pulled_pending categories p ≡ after_pull (settle p) r
-pulled_as categories p r e = ap (after_pull (settle p)) (pulled_settled categories p ∙ e)
+pulled_as : (categories : List ℕ) (p : Pending) (r : Pulled) → pulled categories p ≡ r → pulled_pending categories p ≡ after_pull (end_token_lists p) r
+pulled_as categories p r e = ap (after_pull (end_token_lists p)) (pulled_settled categories p ∙ e)
 
 -- something is left
 abbrev IsLeft : Pulled → Type 0
@@ -185,9 +185,9 @@ handed_same left page enters o onward NothingLeft = refl
 -- The moves are the same and do the same, or the innermost file goes by them, or they take a line that is too long.
 data Extends (sizes : Sizes) (r' r : Rests) (s : State) (ms' ms : List Move) : Type 0 where
   Same : r' ≡ r → ms' ≡ ms → AllAgree sizes r ms s → Extends sizes r' r s ms' ms
-  Closing : (rest : List Move) → ms ≡ Settled ∷ FileClosed ∷ rest → ms' ≡ ms → pulls rest ≡ 0 → made FileClosed (made Settled (extended r' s)) ≡ extended r (made FileClosed (made Settled s)) → Extends sizes r' r s ms' ms
-  Refused : r' ≡ r → (line line' : List ℕ) → (full : Full) → ms ≡ Settled ∷ Taken line ∷ [] → ms' ≡ Settled ∷ Taken line' ∷ [] → refusal sizes (Taken line) (made Settled s) ≡ Some full →
-      refusal sizes (Taken line') (made Settled (extended r s)) ≡ Some full → Extends sizes r' r s ms' ms
+  Closing : (rest : List Move) → ms ≡ ListsEnded ∷ FileClosed ∷ rest → ms' ≡ ms → pulls rest ≡ 0 → made FileClosed (made ListsEnded (extended r' s)) ≡ extended r (made FileClosed (made ListsEnded s)) → Extends sizes r' r s ms' ms
+  Refused : r' ≡ r → (line line' : List ℕ) → (full : Full) → ms ≡ ListsEnded ∷ Taken line ∷ [] → ms' ≡ ListsEnded ∷ Taken line' ∷ [] → refusal sizes (Taken line) (made ListsEnded s) ≡ Some full →
+      refusal sizes (Taken line') (made ListsEnded (extended r s)) ≡ Some full → Extends sizes r' r s ms' ms
 
 module _ (sizes : Sizes) (gone : List ℕ) (r : Rests) (s : State) where
   abbrev categories : List ℕ
@@ -214,14 +214,14 @@ module _ (sizes : Sizes) (gone : List ℕ) (r : Rests) (s : State) where
     ends_pending : with_pending (with_end (end_of_line s.groups.now) (pulled_pending categories (extended_pending (rests_of x).left s.pending))) ≡ extended r (record s { pending = with_end (end_of_line s.groups.now) (pulled_pending categories s.pending) })
     ends_pending = ap (λ (p : Pending). with_pending (with_end (end_of_line s.groups.now) p)) pends
 
-  handed_fits : (t : Token) → refusal sizes (Handed t) (made Settled (extended r s)) ≡ refusal sizes (Handed t) (made Settled s)
-  handed_fits t = ap (refused sizes) (opened_extended r.left (next_item (settle s.pending).puts) (settle s.pending))
+  handed_fits : (t : Token) → refusal sizes (Handed t) (made ListsEnded (extended r s)) ≡ refusal sizes (Handed t) (made ListsEnded s)
+  handed_fits t = ap (refused sizes) (opened_extended r.left (next_item (end_token_lists s.pending).puts) (end_token_lists s.pending))
 
-  taken_fits : (line : List ℕ) → first_bytes (extended_pending r.left s.pending).rest ≡ first_bytes s.pending.rest → refusal sizes (Taken line) (made Settled (extended r s)) ≡ refusal sizes (Taken line) (made Settled s)
-  taken_fits line e = ap (refused sizes) (line_extended r.left (settle s.pending) e)
+  taken_fits : (line : List ℕ) → first_bytes (extended_pending r.left s.pending).rest ≡ first_bytes s.pending.rest → refusal sizes (Taken line) (made ListsEnded (extended r s)) ≡ refusal sizes (Taken line) (made ListsEnded s)
+  taken_fits line e = ap (refused sizes) (line_extended r.left (end_token_lists s.pending) e)
 
-  settles : Agrees sizes r Settled s
-  settles = still_agrees sizes r Settled s refl
+  settles : Agrees sizes r ListsEnded s
+  settles = still_agrees sizes r ListsEnded s refl
 
   module _ (page : Page) (enters : Bool) (o : Option Scanning) (onward : Seen → List Move) (still : (x : Seen) → pulls (onward x) ≡ 0) where
     abbrev moves : Pulled → List Move
@@ -231,7 +231,7 @@ module _ (sizes : Sizes) (gone : List ℕ) (r : Rests) (s : State) where
         (takes_line x ≡ true → first_bytes (extended_pending r.left s.pending).rest ≡ first_bytes s.pending.rest) → moves (other (rests_of x)) ≡ moves x → Extends sizes (rests_of x) r s (moves (other (rests_of x))) (moves x)
     handed_all (TokenFrom t q) is same e alike =
         Same refl alike
-        (settles, (record { makes = makes_pending (TokenFrom t q) tt is same; fits = handed_fits t }, all_still sizes r (met page o onward (met_token page.now.meanings t)) (made (Handed t) (made Settled s)) (met_none page o onward (met_token page.now.meanings t) still)))
+        (settles, (record { makes = makes_pending (TokenFrom t q) tt is same; fits = handed_fits t }, all_still sizes r (met page o onward (met_token page.now.meanings t)) (made (Handed t) (made ListsEnded s)) (met_none page o onward (met_token page.now.meanings t) still)))
     handed_all (LexemeFrom x q) is same e alike =
         let t : Token = token_of enters page.names x in
         let names : List Move = entered (new_name enters page.names x) in
@@ -240,14 +240,14 @@ module _ (sizes : Sizes) (gone : List ℕ) (r : Rests) (s : State) where
           settles,
           (
             record { makes = makes_pending (LexemeFrom x q) tt is same; fits = handed_fits t },
-            all_still sizes r (names ++ behind) (made (Handed t) (made Settled s))
+            all_still sizes r (names ++ behind) (made (Handed t) (made ListsEnded s))
                 (pulls_join names behind ∙ omega (arith, entered_none (new_name enters page.names x), met_none page o onward (met_token page.now.meanings t) still)),
           ),
         )
     handed_all (LineTaken line q) is same e alike = Same refl alike (settles, (record { makes = ends_pending (LineTaken line q) tt is same; fits = taken_fits line (e refl) }, tt))
     handed_all (InvalidMet q) is same e alike =
         Same refl alike
-        (settles, (record { makes = makes_pending (InvalidMet q) tt is same; fits = refl }, all_still sizes r (reported page InvalidCharacter []) (made Skipped (made Settled s)) (reported_none page InvalidCharacter [] refl)))
+        (settles, (record { makes = makes_pending (InvalidMet q) tt is same; fits = refl }, all_still sizes r (reported page InvalidCharacter []) (made Skipped (made ListsEnded s)) (reported_none page InvalidCharacter [] refl)))
     handed_all (FileOver q) is same e alike = Closing (checked (at_line q.number page) o) refl alike (checked_none (at_line q.number page) o) (makes_pending (FileOver q) tt is same)
     handed_all NothingLeft is same e alike = Same refl alike (all_still sizes r (moves NothingLeft) s refl)
 
@@ -297,9 +297,9 @@ goes_first b gone r = record { left = if b then gone ∷ r.left else r.left; fil
 
 closes_still : (ms : List Move) → pulls ms ≡ 0 → closes ms ≡ false
 closes_still [] h = refl
-closes_still (Settled ∷ FileClosed ∷ ms) h = absurd (omega (arith, h))
-closes_still (Settled ∷ []) h = refl
-closes_still (Settled ∷ m ∷ ms) h = refl
+closes_still (ListsEnded ∷ FileClosed ∷ ms) h = absurd (omega (arith, h))
+closes_still (ListsEnded ∷ []) h = refl
+closes_still (ListsEnded ∷ m ∷ ms) h = refl
 closes_still (m ∷ ms) h = refl
 
 rests_still : (gone : List ℕ) (r : Rests) (ms : List Move) → pulls ms ≡ 0 → rests_before gone ms r ≡ r
@@ -336,7 +336,7 @@ module _ (sizes : Sizes) (gone : List ℕ) (r : Rests) (s : State) where
 not_both : (o : Option Full) (full : Full) → o ≡ Some full → o ≡ None → ⊥
 not_both o full e e' = absurd (cc)
 
-pub no_refusal : (sizes : Sizes) (why : Why) (m : Move) (at : State) → m ≡ Settled → Refuses sizes why m at → ⊥
+pub no_refusal : (sizes : Sizes) (why : Why) (m : Move) (at : State) → m ≡ ListsEnded → Refuses sizes why m at → ⊥
 no_refusal sizes (IsFull full) m at e h = not_both None full (subst (λ (x : Move). refusal sizes x at ≡ Some full) e h) refl
 no_refusal sizes IsFault m at e h = subst IsOutside e h
 no_refusal sizes IsWant m at e h = subst IsOutside e h
@@ -349,13 +349,13 @@ no_refusal_closed sizes IsWant m at e h = subst IsOutside e h
 module _ (sizes : Sizes) (r' r : Rests) (s : State) where
   -- A LINE THAT IS TOO LONG
 
-  long_did : (line : List ℕ) (full : Full) (ms : List Move) → ms ≡ Settled ∷ Taken line ∷ [] → refusal sizes (Taken line) (made Settled s) ≡ Some full → AllFit sizes ms s → ⊥
+  long_did : (line : List ℕ) (full : Full) (ms : List Move) → ms ≡ ListsEnded ∷ Taken line ∷ [] → refusal sizes (Taken line) (made ListsEnded s) ≡ Some full → AllFit sizes ms s → ⊥
   long_did line full ms e refused fits =
-      let both : AllFit sizes (Settled ∷ Taken line ∷ []) s = subst (λ (x : List Move). AllFit sizes x s) e fits in
-      not_both (refusal sizes (Taken line) (made Settled s)) full refused both.1.0
+      let both : AllFit sizes (ListsEnded ∷ Taken line ∷ []) s = subst (λ (x : List Move). AllFit sizes x s) e fits in
+      not_both (refusal sizes (Taken line) (made ListsEnded s)) full refused both.1.0
 
-  taken_refuses : (why : Why) (line line' : List ℕ) (full : Full) (at : State) → made Settled s ≡ at → refusal sizes (Taken line) (made Settled s) ≡ Some full →
-      refusal sizes (Taken line') (made Settled (extended r s)) ≡ Some full → Refuses sizes why (Taken line) at → Refuses sizes why (Taken line') (extended r at)
+  taken_refuses : (why : Why) (line line' : List ℕ) (full : Full) (at : State) → made ListsEnded s ≡ at → refusal sizes (Taken line) (made ListsEnded s) ≡ Some full →
+      refusal sizes (Taken line') (made ListsEnded (extended r s)) ≡ Some full → Refuses sizes why (Taken line) at → Refuses sizes why (Taken line') (extended r at)
   taken_refuses (IsFull full') line line' full at stands e e' h =
       let there : refusal sizes (Taken line') (extended r at) ≡ Some full = subst (λ (x : State). refusal sizes (Taken line') (extended r x) ≡ Some full) stands e' in
       there ∙ sym (subst (λ (x : State). refusal sizes (Taken line) x ≡ Some full) stands e) ∙ h
@@ -363,16 +363,16 @@ module _ (sizes : Sizes) (r' r : Rests) (s : State) where
   taken_refuses IsWant line line' full at stands e e' h = absurd h
 
   long_cut : (line line' : List ℕ) (full : Full) (at : State) (w w' : World) (why : Why) (done : List Move) (m : Move) (rest : List Move) (count : ℕ) →
-      refusal sizes (Taken line) (made Settled s) ≡ Some full → refusal sizes (Taken line') (made Settled (extended r s)) ≡ Some full →
-      Settled ∷ Taken line ∷ [] ≡ done ++ m ∷ rest → made_all done s ≡ at → AllFit sizes done s → Refuses sizes why m at → IsCause why w w' → Wrote w w' (done ++ front_of count m) →
-      Cut sizes (extended r s) (extended r at) w w' (Settled ∷ Taken line' ∷ []) why
+      refusal sizes (Taken line) (made ListsEnded s) ≡ Some full → refusal sizes (Taken line') (made ListsEnded (extended r s)) ≡ Some full →
+      ListsEnded ∷ Taken line ∷ [] ≡ done ++ m ∷ rest → made_all done s ≡ at → AllFit sizes done s → Refuses sizes why m at → IsCause why w w' → Wrote w w' (done ++ front_of count m) →
+      Cut sizes (extended r s) (extended r at) w w' (ListsEnded ∷ Taken line' ∷ []) why
   long_cut line line' full at w w' why [] m rest count e e' all state fits refuses cause written = absurd (no_refusal sizes why m at (cc) refuses)
   long_cut line line' full at w w' why (d ∷ []) m rest count e e' all state fits refuses cause written =
-      let settles : d ≡ Settled = cc in
+      let settles : d ≡ ListsEnded = cc in
       let takes : m ≡ Taken line = cc in
-      let here : made Settled s ≡ at = ap (λ (x : Move). made x s) (sym settles) ∙ state in
+      let here : made ListsEnded s ≡ at = ap (λ (x : Move). made x s) (sym settles) ∙ state in
       record {
-        done = Settled ∷ [];
+        done = ListsEnded ∷ [];
         m = Taken line';
         rest = [];
         count = 0;
@@ -384,19 +384,19 @@ module _ (sizes : Sizes) (r' r : Rests) (s : State) where
         written = subst (λ (x : Move). Wrote w w' (x ∷ [])) settles (subst (λ (x : Move). Wrote w w' (d ∷ front_of count x)) takes written);
       }
   long_cut line line' full at w w' why (d ∷ x ∷ done) m rest count e e' all state fits refuses cause written =
-      let settles : d ≡ Settled = cc in
+      let settles : d ≡ ListsEnded = cc in
       let takes : x ≡ Taken line = cc in
-      let none : refusal sizes (Taken line) (made Settled s) ≡ None = subst (λ (y : Move). refusal sizes y (made Settled s) ≡ None) takes (subst (λ (y : Move). refusal sizes x (made y s) ≡ None) settles fits.1.0) in
-      absurd (not_both (refusal sizes (Taken line) (made Settled s)) full e none)
+      let none : refusal sizes (Taken line) (made ListsEnded s) ≡ None = subst (λ (y : Move). refusal sizes y (made ListsEnded s) ≡ None) takes (subst (λ (y : Move). refusal sizes x (made y s) ≡ None) settles fits.1.0) in
+      absurd (not_both (refusal sizes (Taken line) (made ListsEnded s)) full e none)
 
   -- THE FILE GOES
 
-  module _ (rest : List Move) (none : pulls rest ≡ 0) (makes : made FileClosed (made Settled (extended r' s)) ≡ extended r (made FileClosed (made Settled s))) where
+  module _ (rest : List Move) (none : pulls rest ≡ 0) (makes : made FileClosed (made ListsEnded (extended r' s)) ≡ extended r (made FileClosed (made ListsEnded s))) where
     abbrev closing : List Move
-    closing = Settled ∷ FileClosed ∷ rest
+    closing = ListsEnded ∷ FileClosed ∷ rest
 
     abbrev behind : State
-    behind = made FileClosed (made Settled s)
+    behind = made FileClosed (made ListsEnded s)
 
     closing_did : (s' : State) (w w' : World) → Did sizes s s' w w' closing → Did sizes (extended r' s) (extended r s') w w' closing
     closing_did s' w w' d =
@@ -409,18 +409,18 @@ module _ (sizes : Sizes) (r' r : Rests) (s : State) where
 
     -- behind the file's end
     closing_at : (at : State) (w w' : World) (why : Why) (done : List Move) (m : Move) (more : List Move) (count : ℕ) → rest ≡ done ++ m ∷ more →
-        (made_all (Settled ∷ FileClosed ∷ done) s ≡ at) × (AllFit sizes (Settled ∷ FileClosed ∷ done) s × Wrote w w' (Settled ∷ FileClosed ∷ done ++ front_of count m)) →
+        (made_all (ListsEnded ∷ FileClosed ∷ done) s ≡ at) × (AllFit sizes (ListsEnded ∷ FileClosed ∷ done) s × Wrote w w' (ListsEnded ∷ FileClosed ∷ done ++ front_of count m)) →
         Refuses sizes why m at → IsCause why w w' → Cut sizes (extended r' s) (extended r at) w w' closing why
     closing_at at w w' why done m more count all parts refuses cause =
         let agree : AllAgree sizes r (done ++ m ∷ more) behind = subst (λ (x : List Move). AllAgree sizes r x behind) all (all_still sizes r rest behind none) in
         let first : AllAgree sizes r done behind = first_agree sizes r done (m ∷ more) behind agree in
         let here : Agrees sizes r m at = subst (Agrees sizes r m) parts.0 (next_agrees sizes r done m more behind agree) in
         record {
-          done = Settled ∷ FileClosed ∷ done;
+          done = ListsEnded ∷ FileClosed ∷ done;
           m = m;
           rest = more;
           count = count;
-          all = ap (λ (x : List Move). Settled ∷ FileClosed ∷ x) all;
+          all = ap (λ (x : List Move). ListsEnded ∷ FileClosed ∷ x) all;
           state = ap (made_all done) makes ∙ all_makes sizes r done behind first ∙ ap (extended r) parts.0;
           fits = (refl, (refl, subst (AllFit sizes done) (sym makes) (all_fit sizes r done behind first parts.1.0.1.1)));
           refuses = refuses_agrees sizes r why m at here refuses;
@@ -433,10 +433,10 @@ module _ (sizes : Sizes) (r' r : Rests) (s : State) where
     closing_cut at w w' why [] m more count all state fits refuses cause written = absurd (no_refusal sizes why m at (cc) refuses)
     closing_cut at w w' why (d ∷ []) m more count all state fits refuses cause written = absurd (no_refusal_closed sizes why m at (cc) refuses)
     closing_cut at w w' why (d ∷ x ∷ done) m more count all state fits refuses cause written =
-        let first : d ≡ Settled = cc in
+        let first : d ≡ ListsEnded = cc in
         let second : x ≡ FileClosed = cc in
         let same : rest ≡ done ++ m ∷ more = cc in
-        let lists : d ∷ x ∷ done ≡ Settled ∷ FileClosed ∷ done = cc (first, second) in
+        let lists : d ∷ x ∷ done ≡ ListsEnded ∷ FileClosed ∷ done = cc (first, second) in
         closing_at at w w' why done m more count same (subst (λ (y : List Move). (made_all y s ≡ at) × (AllFit sizes y s × Wrote w w' (y ++ front_of count m))) lists (state, (fits, written))) refuses cause
 
   did_rule : (ms' ms : List Move) → Extends sizes r' r s ms' ms → (s' : State) (w w' : World) → Did sizes s s' w w' ms → Did sizes (extended r' s) (extended r s') w w' ms'
@@ -466,7 +466,7 @@ module _ (sizes : Sizes) (r' r : Rests) (s : State) where
   plan_extended : s.stopped ≡ None → s.pending.next ≡ None → plan (extended r' s) (extended r' s).stopped ≡ planned (extended r' s) s.work
   plan_extended stops unopened = ap (plan (extended r' s)) stops ∙ ap (λ (o : Option (List ℕ)). ruled (extended r' s) (next_extended r'.left o)) unopened
 
-  step_rule : (m : Move) (rest ms' ms : List Move) → s.due ≡ [] → s.stopped ≡ None → s.pending.next ≡ None → planned (extended r' s) s.work ≡ ms' → ms ≡ Settled ∷ m ∷ rest → step_of m ≡ 1 → Extends sizes r' r s ms' ms →
+  step_rule : (m : Move) (rest ms' ms : List Move) → s.due ≡ [] → s.stopped ≡ None → s.pending.next ≡ None → planned (extended r' s) s.work ≡ ms' → ms ≡ ListsEnded ∷ m ∷ rest → step_of m ≡ 1 → Extends sizes r' r s ms' ms →
       StepComes sizes (extended r' s)
   step_rule m rest ms' ms none stops unopened plans is one (Same at e h) = plan_needs sizes (extended r' s) m rest none (plan_extended stops unopened ∙ plans ∙ e ∙ is) one
   step_rule m rest ms' ms none stops unopened plans is one (Closing more was e still makes) = plan_needs sizes (extended r' s) m rest none (plan_extended stops unopened ∙ plans ∙ e ∙ is) one
@@ -479,12 +479,12 @@ module _ (sizes : Sizes) (s : State) where
       ap (next_of s) none ∙ ap (λ (o : Option Outcome). first_of_plan s (plan s o)) stops ∙ ap (λ (o : Option (List ℕ)). first_of_plan s (ruled s o)) unopened ∙ ap (first_of_plan s) plans
 
   first_handed : (page : Page) (enters : Bool) (o : Option Scanning) (onward : Seen → List Move) (r : Pulled) (m : Move) (ms : List Move) → handed page enters o onward r ≡ m ∷ ms → step_of m ≡ 0
-  first_handed page enters o onward (TokenFrom t q) m ms e = let first : m ≡ Settled = cc in ap step_of first
-  first_handed page enters o onward (LexemeFrom x q) m ms e = let first : m ≡ Settled = cc in ap step_of first
-  first_handed page enters o onward (LineTaken line q) m ms e = let first : m ≡ Settled = cc in ap step_of first
-  first_handed page enters o onward (InvalidMet q) m ms e = let first : m ≡ Settled = cc in ap step_of first
-  first_handed page enters o onward (FileOver q) m ms e = let first : m ≡ Settled = cc in ap step_of first
-  first_handed page enters o onward NothingLeft m ms e = let first : m ≡ Settled = cc in ap step_of first
+  first_handed page enters o onward (TokenFrom t q) m ms e = let first : m ≡ ListsEnded = cc in ap step_of first
+  first_handed page enters o onward (LexemeFrom x q) m ms e = let first : m ≡ ListsEnded = cc in ap step_of first
+  first_handed page enters o onward (LineTaken line q) m ms e = let first : m ≡ ListsEnded = cc in ap step_of first
+  first_handed page enters o onward (InvalidMet q) m ms e = let first : m ≡ ListsEnded = cc in ap step_of first
+  first_handed page enters o onward (FileOver q) m ms e = let first : m ≡ ListsEnded = cc in ap step_of first
+  first_handed page enters o onward NothingLeft m ms e = let first : m ≡ ListsEnded = cc in ap step_of first
 
   -- nothing more is left
   abbrev same_rests : Rests
@@ -518,33 +518,33 @@ module _ (sizes : Sizes) (s : State) where
 record StepSecond (s : State) : Type 0 where
   m : Move
   rest : List Move
-  plans : planned s s.work ≡ Settled ∷ m ∷ rest
+  plans : planned s s.work ≡ ListsEnded ∷ m ∷ rest
   one : step_of m ≡ 1
 
 module _ (sizes : Sizes) (s : State) (none : s.due ≡ []) (stops : s.stopped ≡ None) (unopened : s.pending.next ≡ None) (c : StepComes sizes s) where
   step_second : StepSecond s
   step_second = by_plan (planned s s.work) refl where
-    goes : next s ≡ Goes Settled c.moves.0
+    goes : next s ≡ Goes ListsEnded c.moves.0
     goes = c.moves.1.0
 
-    behind : (d : Move) (ms : List Move) → planned s s.work ≡ d ∷ ms → (d ≡ Settled) × NeedsStep (made Settled (record s { due = ms }))
+    behind : (d : Move) (ms : List Move) → planned s s.work ≡ d ∷ ms → (d ≡ ListsEnded) × NeedsStep (made ListsEnded (record s { due = ms }))
     behind d ms plans =
         let first : next s ≡ Goes d (made d (record s { due = ms })) = next_is sizes s (d ∷ ms) none stops unopened plans in
-        let both : next s ≡ Goes Settled c.moves.0 = goes in
-        let settles : d ≡ Settled = cc in
+        let both : next s ≡ Goes ListsEnded c.moves.0 = goes in
+        let settles : d ≡ ListsEnded = cc in
         let state : made d (record s { due = ms }) ≡ c.moves.0 = cc in
-        let there : c.t ≡ made Settled (record s { due = ms }) = sym (c.moves.1.1.1) ∙ sym state ∙ ap (λ (x : Move). made x (record s { due = ms })) settles in
+        let there : c.t ≡ made ListsEnded (record s { due = ms }) = sym (c.moves.1.1.1) ∙ sym state ∙ ap (λ (x : Move). made x (record s { due = ms })) settles in
         (settles, subst NeedsStep there c.needs)
 
     by_plan : (ms : List Move) → planned s s.work ≡ ms → StepSecond s
     by_plan [] plans =
         let ends : next s ≡ Ends = next_is sizes s [] none stops unopened plans in
-        let first : next s ≡ Goes Settled c.moves.0 = goes in
+        let first : next s ≡ Goes ListsEnded c.moves.0 = goes in
         absurd (cc)
-    by_plan (d ∷ []) plans = absurd (no_need sizes (made Settled (record s { due = [] })) refl stops unopened (behind d [] plans).1)
+    by_plan (d ∷ []) plans = absurd (no_need sizes (made ListsEnded (record s { due = [] })) refl stops unopened (behind d [] plans).1)
     by_plan (d ∷ m ∷ rest) plans =
-        let u : State = made Settled (record s { due = m ∷ rest }) in
-        let both : (d ≡ Settled) × NeedsStep u = behind d (m ∷ rest) plans in
+        let u : State = made ListsEnded (record s { due = m ∷ rest }) in
+        let both : (d ≡ ListsEnded) × NeedsStep u = behind d (m ∷ rest) plans in
         record {
           m = m;
           rest = rest;

@@ -20,11 +20,11 @@ use Rattle.equivalents.specs.declared.values.CodeKind.TheVariants as code
 use Rattle.equivalents.specs.declared.values.Loc.{Loc}
 use Rattle.equivalents.specs.declared.values.Loc.TheVariants as loc
 use Rattle.equivalents.specs.declared.values.Val.TheVariants as val
-use Rattle.equivalents.specs.Locations.{V, index, category_of, glue_of, tokens_of, meaning_of as meaning_in, number_of as number_in, value_seen}
+use Rattle.equivalents.specs.Locations.{V, index, category_of, glue_of, tokens_of, meaning_of as meaning_in, number_value as number_in, value_seen}
 use Rattle.equivalents.specs.Tables.{Tables, put, get, longer}
 use Rattle.equivalents.specs.First.{first_tables}
 use Rattle.equivalents.specs.Groups.{Groups, level_of, depth, is_present, entry_for, put_all, set_local, set_global, set, placed, place_of, set_placed, set_name, all_longer, entered, opened, uncovered, beneath, closed, with_token, tokens_after, kind_of, saves, save, set_demands, placed_demands, name_demands, group_demands, token_demands, first_groups}
-use Rattle.plain_machine.specs.Numbers.{number_of, meaning_of, meanings_of, value_of, tables_of, saved_of, groups_of}
+use Rattle.plain_machine.specs.Numbers.{number_of_list, meaning_of, meanings_of, value_of, tables_of, saved_of, groups_of}
 use Rattle.plain_machine.proofs.Renumbering.{seen_as_of, meaning_to_let_of}
 
 module _ (number : ℕ → ℕ) where
@@ -45,7 +45,7 @@ module _ (number : ℕ → ℕ) where
   glue_same (val.Tokens list) = refl
   glue_same v = refl
 
-  pub tokens_as : (v : V) → tokens_of (value_of number v) ≡ number_of number (tokens_of v)
+  pub tokens_as : (v : V) → tokens_of (value_of number v) ≡ number_of_list number (tokens_of v)
   tokens_as (val.Meant m) = refl
   tokens_as (val.Tokens list) = refl
   tokens_as v = refl
@@ -57,8 +57,8 @@ module _ (number : ℕ → ℕ) where
 
   -- TABLES
 
-  lists_set : (xs : List (Option ℕ)) (k : ℕ) (v : V) → slice_set (map (number_of number) xs) k (tokens_of (value_of number v)) ≡ map (number_of number) (slice_set xs k (tokens_of v))
-  lists_set xs k v = ap (slice_set (map (number_of number) xs) k) (tokens_as v) ∙ sym (map-set (number_of number) xs k (tokens_of v))
+  lists_set : (xs : List (Option ℕ)) (k : ℕ) (v : V) → slice_set (map (number_of_list number) xs) k (tokens_of (value_of number v)) ≡ map (number_of_list number) (slice_set xs k (tokens_of v))
+  lists_set xs k v = ap (slice_set (map (number_of_list number) xs) k) (tokens_as v) ∙ sym (map-set (number_of_list number) xs k (tokens_of v))
 
   meanings_set : (ms : List (Meaning (Option ℕ))) (k : ℕ) (v : V) → slice_set (meanings_of number ms) k (meaning_in (value_of number v)) ≡ meanings_of number (slice_set ms k (meaning_in v))
   meanings_set ms k v = ap (slice_set (meanings_of number ms) k) (meaning_as v) ∙ sym (map-set (meaning_of number) ms k (meaning_in v))
@@ -82,8 +82,8 @@ module _ (number : ℕ → ℕ) where
   put_of m (loc.Means n) v = λ i. record (tables_of number m) { meanings = meanings_set m.meanings n v i }
 
   pub get_of : (m : Tables) (l : Loc) → get (tables_of number m) l ≡ value_of number (get m l)
-  get_of m (loc.Register register.Toks n) = ap (λ (o : Option ℕ). val.Tokens o) (get_or-map (number_of number) m.toks n None)
-  get_of m (loc.Tokens n) = ap (λ (o : Option ℕ). val.Tokens o) (get_or-map (number_of number) m.parameters n None)
+  get_of m (loc.Register register.Toks n) = ap (λ (o : Option ℕ). val.Tokens o) (get_or-map (number_of_list number) m.toks n None)
+  get_of m (loc.Tokens n) = ap (λ (o : Option ℕ). val.Tokens o) (get_or-map (number_of_list number) m.parameters n None)
   get_of m (loc.Means n) = ap (λ (x : Meaning (Option ℕ)). val.Meant x) (get_or-map (meaning_of number) m.meanings n means.Undefined)
   get_of m (loc.Code code.Category c) = refl
   get_of m (loc.Code code.Lowercase c) = refl
@@ -271,7 +271,7 @@ module _ (number : ℕ → ℕ) where
 
   -- INITEX'S hold no list
 
-  no_lists : (k : ℕ) → map (number_of number) (replicate k None) ≡ replicate k None
+  no_lists : (k : ℕ) → map (number_of_list number) (replicate k None) ≡ replicate k None
   no_lists zero = refl
   no_lists (suc k) = ap (λ (xs : List (Option ℕ)). None ∷ xs) (no_lists k)
 

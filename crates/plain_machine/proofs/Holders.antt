@@ -20,7 +20,7 @@ use Rattle.equivalents.specs.Tables.{Tables, put, get}
 use Rattle.equivalents.specs.First.{first_tables}
 use Rattle.equivalents.specs.Groups.{Groups, is_present, entry_for, set, place_of, set_placed, set_name, entered, uncovered, closed, first_groups}
 use Rattle.equivalents.specs.Holding.{list_of, value_list, with_list, lists_of, lists_of_meanings, lists_of_saved, lists_of_entries, lists_of_table, lists_held, lists_outside}
-use Rattle.plain_machine.specs.Numbers.{number_of, meaning_of, meanings_of, value_of, tables_of, saved_of, groups_of, renumbered}
+use Rattle.plain_machine.specs.Numbers.{number_of_list, meaning_of, meanings_of, value_of, tables_of, saved_of, groups_of, renumbered}
 use Rattle.plain_machine.proofs.GroupNumbers.{set_of, set_name_of}
 
 -- Each list of a map outside is held: by its location now, or by a saved value.
@@ -33,7 +33,7 @@ module _ (number : ℕ → ℕ) where
   abbrev numbers : List ℕ → List ℕ
   numbers ns = map number ns
 
-  with_of : (o : Option ℕ) (ns : List ℕ) → with_list (number_of number o) (numbers ns) ≡ numbers (with_list o ns)
+  with_of : (o : Option ℕ) (ns : List ℕ) → with_list (number_of_list number o) (numbers ns) ≡ numbers (with_list o ns)
   with_of None ns = refl
   with_of (Some n) ns = refl
 
@@ -41,15 +41,15 @@ module _ (number : ℕ → ℕ) where
   join_of [] ns = refl
   join_of (m ∷ ms) ns = ap (λ (ks : List ℕ). number m ∷ ks) (join_of ms ns)
 
-  lists_as : (xs : List (Option ℕ)) → lists_of (map (number_of number) xs) ≡ numbers (lists_of xs)
+  lists_as : (xs : List (Option ℕ)) → lists_of (map (number_of_list number) xs) ≡ numbers (lists_of xs)
   lists_as [] = refl
-  lists_as (x ∷ xs) = ap (with_list (number_of number x)) (lists_as xs) ∙ with_of x (lists_of xs)
+  lists_as (x ∷ xs) = ap (with_list (number_of_list number x)) (lists_as xs) ∙ with_of x (lists_of xs)
 
-  list_as : (m : Meaning (Option ℕ)) → list_of (meaning_of number m) ≡ number_of number (list_of m)
+  list_as : (m : Meaning (Option ℕ)) → list_of (meaning_of number m) ≡ number_of_list number (list_of m)
   list_as (means.Macro long outer list) = refl
   list_as m = refl
 
-  value_as : (v : V) → value_list (value_of number v) ≡ number_of number (value_list v)
+  value_as : (v : V) → value_list (value_of number v) ≡ number_of_list number (value_list v)
   value_as (val.Meant m) = list_as m
   value_as (val.Tokens list) = refl
   value_as v = refl
@@ -309,7 +309,7 @@ module _ (number : ℕ → ℕ) (id new : ℕ) where
   with_free : (o : Option ℕ) (ns : List ℕ) → Free (with_list o ns) → (is_number id o ≡ false) × Free ns
   with_free o ns h = or_parts (is_number id o) (is_listed ns id) (sym (listed_with id o ns) ∙ h)
 
-  list_renumbered : (o : Option ℕ) → is_number id o ≡ false → number_of (renumbered number id new) o ≡ number_of number o
+  list_renumbered : (o : Option ℕ) → is_number id o ≡ false → number_of_list (renumbered number id new) o ≡ number_of_list number o
   list_renumbered None h = refl
   list_renumbered (Some k) h = ap (λ (n : ℕ). Some n) (other_number k (λ e. (let f : is_number id (Some k) ≡ true = eq-eqb k id e in cc)))
 
@@ -322,7 +322,7 @@ module _ (number : ℕ → ℕ) (id new : ℕ) where
   value_renumbered (val.Tokens list) h = ap (λ (o : Option ℕ). val.Tokens o) (list_renumbered list h)
   value_renumbered v h = refl
 
-  lists_renumbered : (xs : List (Option ℕ)) → Free (lists_of xs) → map (number_of (renumbered number id new)) xs ≡ map (number_of number) xs
+  lists_renumbered : (xs : List (Option ℕ)) → Free (lists_of xs) → map (number_of_list (renumbered number id new)) xs ≡ map (number_of_list number) xs
   lists_renumbered [] h = refl
   lists_renumbered (x ∷ xs) h =
       let parts : (is_number id x ≡ false) × Free (lists_of xs) = with_free x (lists_of xs) h in

@@ -5,7 +5,7 @@ use Rattle.std.proofs.lemmas.List.{append-nil}
 use Rattle.tex_syntax.specs.declared.words.Outcome.{Outcome}
 use Rattle.tex_defs.specs.Places.{Place, File}
 use Rattle.tex_defs.specs.declared.Sizes.{Sizes}
-use Rattle.plain_machine.specs.States.{State, Move, Handed, Settled, made}
+use Rattle.plain_machine.specs.States.{State, Move, Handed, ListsEnded, made}
 use Rattle.plain_machine.specs.Demands.{refusal}
 use Rattle.plain_machine.specs.Plan.{Ends, Goes, next, plan}
 use Rattle.plain_machine.specs.Runs.{step_of, steps, after, changed, columns_after, column_changed, Moves, NeedsStep, made_all}
@@ -192,11 +192,11 @@ plan_moment sizes s (d ∷ ds) m rest e f h = record {
 -- A rule that begins with a step needs one, once the finished lists in front have gone.
 pub record StepComes (sizes : Sizes) (s : State) : Type 0 where
   pub t : State
-  pub moves : FitMoves sizes s (Settled ∷ []) t
+  pub moves : FitMoves sizes s (ListsEnded ∷ []) t
   pub needs : NeedsStep t
-  pub same : but_due t ≡ but_due (made Settled s)
+  pub same : but_due t ≡ but_due (made ListsEnded s)
 
-pub plan_needs : (sizes : Sizes) (s : State) (m : Move) (ms : List Move) → s.due ≡ [] → plan s s.stopped ≡ Settled ∷ m ∷ ms → step_of m ≡ 1 → StepComes sizes s
+pub plan_needs : (sizes : Sizes) (s : State) (m : Move) (ms : List Move) → s.due ≡ [] → plan s s.stopped ≡ ListsEnded ∷ m ∷ ms → step_of m ≡ 1 → StepComes sizes s
 plan_needs sizes s m ms e f one =
-    let here : Moment sizes s (Settled ∷ []) m = plan_moment sizes s (Settled ∷ []) m ms e f (refl, tt) in
+    let here : Moment sizes s (ListsEnded ∷ []) m = plan_moment sizes s (ListsEnded ∷ []) m ms e f (refl, tt) in
     record { t = here.t; moves = here.moves; needs = (m, (here.u, (here.goes, one))); same = here.same }

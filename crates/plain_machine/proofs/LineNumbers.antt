@@ -15,7 +15,7 @@ use Rattle.plain_tokens.specs.Puts.{Item, Put as PutList, passed}
 use Rattle.plain_tokens.specs.Pending.{Pending, Source, Progress, Begun as BegunFile, Closed as ClosedFile, Pulled, TokenFrom, LexemeFrom, LineTaken, InvalidMet, FileOver, NothingLeft, next_number, beneath, source_of, begun_by, with_begun, pulled, after_pull, from_front, from_list, from_line, from_begun, from_file}
 use Rattle.plain_readings.specs.Scanning.{Scanning}
 use Rattle.equivalents.specs.Parameters.{style_in}
-use Rattle.plain_machine.specs.States.{State, Move, Handed, Taken, FirstTaken, Settled, Skipped, FileClosed, made}
+use Rattle.plain_machine.specs.States.{State, Move, Handed, Taken, FirstTaken, ListsEnded, Skipped, FileClosed, made}
 use Rattle.plain_machine.specs.Plan.{Page, plan, planned, ruled, handed, met, entered, checked, at_line, reported, Ends, Goes, next, job_due}
 use Rattle.plain_machine.specs.Runs.{step_of, steps, Moves, Begins, AtRule, AtJob, AreAtMost}
 use Rattle.plain_machine.proofs.Joins.{next_due, next_plan, due_kept}
@@ -206,19 +206,19 @@ still_by s (m ∷ ms) h =
       follows = λ line e. absurd (not_taken m line none e);
     }
 
-settled_most : (s : State) (ms : List Move) (n : ℕ) → AreAtMost n s.pending → AreAtMost (n + 0) (made Settled (record s { due = ms })).pending
+settled_most : (s : State) (ms : List Move) (n : ℕ) → AreAtMost n s.pending → AreAtMost (n + 0) (made ListsEnded (record s { due = ms })).pending
 settled_most s ms n h = record { top = omega (arith, h.top); outer = most_later n (n + 0) s.pending.outer (omega arith) h.outer }
 
 module _ (s : State) where
-  settled_by : (m : Move) (rest : List Move) → reads rest ≡ 0 → MakesPull m (pulled s.groups.now.categories s.pending) → CameBy s (Settled ∷ m ∷ rest)
+  settled_by : (m : Move) (rest : List Move) → reads rest ≡ 0 → MakesPull m (pulled s.groups.now.categories s.pending) → CameBy s (ListsEnded ∷ m ∷ rest)
   settled_by m rest none makes = record {
     waits = Reads m rest refl none (subst (MakesPull m) (sym (pulled_settled s.groups.now.categories s.pending)) makes);
     within = λ n h. settled_most s (m ∷ rest) n h;
-    follows = λ line e. absurd (not_taken Settled line refl e);
+    follows = λ line e. absurd (not_taken ListsEnded line refl e);
   }
 
   -- moves that pull nothing read nothing
-  behind_by : (m : Move) (rest : List Move) → pulls rest ≡ 0 → MakesPull m (pulled s.groups.now.categories s.pending) → CameBy s (Settled ∷ m ∷ rest)
+  behind_by : (m : Move) (rest : List Move) → pulls rest ≡ 0 → MakesPull m (pulled s.groups.now.categories s.pending) → CameBy s (ListsEnded ∷ m ∷ rest)
   behind_by m rest none makes = settled_by m rest (omega (arith, none, reads_pull rest)) makes
 
   handed_by : (page : Page) (enters : Bool) (o : Option Scanning) (onward : Seen → List Move) → ((x : Seen) → pulls (onward x) ≡ 0) →
@@ -249,7 +249,7 @@ module _ (s : State) where
   ruled_by (Some bytes) = record {
     waits = Opens (first_line bytes) [] refl refl;
     within = λ n h. settled_most s (FirstTaken (first_line bytes) ∷ []) n h;
-    follows = λ line e. absurd (not_taken Settled line refl e);
+    follows = λ line e. absurd (not_taken ListsEnded line refl e);
   }
 
   plan_by : (o : Option Outcome) → CameBy s (plan s o)

@@ -68,16 +68,16 @@ tally_out p i (suc j) m (ts ∷ lists) e h l =
     omega arith
 
 -- Those that pass have their lists under their other numbers, where no others pass.
-record Renumbers (number : ℕ → ℕ) (macros lists : List (List Token)) (p q : ℕ → Bool) : Type 0 where
+record Renumbers (number : ℕ → ℕ) (all_lists lists : List (List Token)) (p q : ℕ → Bool) : Type 0 where
   inside : (n : ℕ) → p n ≡ true → n < length lists
-  within : (n : ℕ) → p n ≡ true → number n < length macros
-  tokens : (n : ℕ) → p n ≡ true → slice_index_or macros (number n) [] ≡ slice_index_or lists n []
+  within : (n : ℕ) → p n ≡ true → number n < length all_lists
+  tokens : (n : ℕ) → p n ≡ true → slice_index_or all_lists (number n) [] ≡ slice_index_or lists n []
   apart : (n m : ℕ) → p n ≡ true → p m ≡ true → number n ≡ number m → n ≡ m
   forth : (n : ℕ) → p n ≡ true → q (number n) ≡ true
   back : (m : ℕ) → q m ≡ true → (n : ℕ) × (p n ≡ true) × (number n ≡ m)
 
-module _ (number : ℕ → ℕ) (macros lists : List (List Token)) where
-  one_less : (p q : ℕ → Bool) (k : ℕ) → p k ≡ true → Renumbers number macros lists p q → Renumbers number macros lists (without k p) (without (number k) q)
+module _ (number : ℕ → ℕ) (all_lists lists : List (List Token)) where
+  one_less : (p q : ℕ → Bool) (k : ℕ) → p k ≡ true → Renumbers number all_lists lists p q → Renumbers number all_lists lists (without k p) (without (number k) q)
   one_less p q k h r = record {
     inside = λ n a. r.inside n (passes k n p a);
     within = λ n a. r.within n (passes k n p a);
@@ -90,23 +90,23 @@ module _ (number : ℕ → ℕ) (macros lists : List (List Token)) where
   }
 
   -- by taking out one at a time
-  step : (bound : ℕ) (p q : ℕ → Bool) → Renumbers number macros lists p q → ((n : ℕ) → p n ≡ true → n < suc bound)
-      → ((p' q' : ℕ → Bool) → Renumbers number macros lists p' q' → ((n : ℕ) → p' n ≡ true → n < bound) → tally q' 0 macros ≡ tally p' 0 lists)
-      → (p bound ≡ true) ⊎ (p bound ≡ false) → tally q 0 macros ≡ tally p 0 lists
+  step : (bound : ℕ) (p q : ℕ → Bool) → Renumbers number all_lists lists p q → ((n : ℕ) → p n ≡ true → n < suc bound)
+      → ((p' q' : ℕ → Bool) → Renumbers number all_lists lists p' q' → ((n : ℕ) → p' n ≡ true → n < bound) → tally q' 0 all_lists ≡ tally p' 0 lists)
+      → (p bound ≡ true) ⊎ (p bound ≡ false) → tally q 0 all_lists ≡ tally p 0 lists
   step bound p q r below fewer (inl h) =
       let k : ℕ = number bound in
-      let out : tally q 0 macros ≡ list_words (slice_index_or macros k []) + tally (without k q) 0 macros = tally_out q 0 k k macros (omega arith) (r.forth bound h) (r.within bound h) in
-      let same : list_words (slice_index_or macros k []) ≡ list_words (slice_index_or lists bound []) = ap list_words (r.tokens bound h) in
+      let out : tally q 0 all_lists ≡ list_words (slice_index_or all_lists k []) + tally (without k q) 0 all_lists = tally_out q 0 k k all_lists (omega arith) (r.forth bound h) (r.within bound h) in
+      let same : list_words (slice_index_or all_lists k []) ≡ list_words (slice_index_or lists bound []) = ap list_words (r.tokens bound h) in
       let gone : tally p 0 lists ≡ list_words (slice_index_or lists bound []) + tally (without bound p) 0 lists = tally_out p 0 bound bound lists (omega arith) h (r.inside bound h) in
-      let rest : tally (without k q) 0 macros ≡ tally (without bound p) 0 lists = fewer (without bound p) (without k q) (one_less p q bound h r) (λ n a. let l : n < suc bound = below n (passes bound n p a) in let d : n ≡ bound → ⊥ = apart_from bound n p a in omega arith) in
+      let rest : tally (without k q) 0 all_lists ≡ tally (without bound p) 0 lists = fewer (without bound p) (without k q) (one_less p q bound h r) (λ n a. let l : n < suc bound = below n (passes bound n p a) in let d : n ≡ bound → ⊥ = apart_from bound n p a in omega arith) in
       omega arith
   step bound p q r below fewer (inr h) = fewer p q r (λ n a. let l : n < suc bound = below n a in let d : n ≡ bound → ⊥ = λ e. (let s : p n ≡ p bound = ap p e in cc) in omega arith)
 
-  tally_renumbered : (bound : ℕ) (p q : ℕ → Bool) → Renumbers number macros lists p q → ((n : ℕ) → p n ≡ true → n < bound) → tally q 0 macros ≡ tally p 0 lists
+  tally_renumbered : (bound : ℕ) (p q : ℕ → Bool) → Renumbers number all_lists lists p q → ((n : ℕ) → p n ≡ true → n < bound) → tally q 0 all_lists ≡ tally p 0 lists
   tally_renumbered zero p q r below =
       let none : (n : ℕ) → p n ≡ false = λ n. false_from_ne_true (p n) (λ h. let l : n < 0 = below n h in omega arith) in
       let nor : (m : ℕ) → q m ≡ false = λ m. false_from_ne_true (q m) (λ h. let b : (n : ℕ) × (p n ≡ true) × (number n ≡ m) = r.back m h in let l : b.0 < 0 = below b.0 b.1 in omega arith) in
-      tally_none q 0 macros nor ∙ (let e : tally p 0 lists ≡ 0 = tally_none p 0 lists none in cc)
+      tally_none q 0 all_lists nor ∙ (let e : tally p 0 lists ≡ 0 = tally_none p 0 lists none in cc)
   tally_renumbered (suc bound) p q r below = step bound p q r below (tally_renumbered bound) (cases_Bool (p bound))
 
 -- WHAT IS HELD UNDER THE OTHER NUMBERS
@@ -160,9 +160,9 @@ module _ (number : ℕ → ℕ) where
 
 -- THE WORDS ARE THE SAME
 
-shared_tied : (number : ℕ → ℕ) (macros : List (List Token)) (held : List ℕ) (puts : List Put) (lists : List (List Token)) → Tied number macros held puts lists → shared_words 0 (map number held) (puts_of number puts) macros ≡ shared_words 0 held puts lists
-shared_tied number macros held puts lists t =
-    let r : Renumbers number macros lists (is_held held puts) (is_held (map number held) (puts_of number puts)) = record {
+shared_tied : (number : ℕ → ℕ) (all_lists : List (List Token)) (held : List ℕ) (puts : List Put) (lists : List (List Token)) → Tied number all_lists held puts lists → shared_words 0 (map number held) (puts_of number puts) all_lists ≡ shared_words 0 held puts lists
+shared_tied number all_lists held puts lists t =
+    let r : Renumbers number all_lists lists (is_held held puts) (is_held (map number held) (puts_of number puts)) = record {
       inside = t.inside;
       within = t.within;
       tokens = t.tokens;
@@ -170,15 +170,15 @@ shared_tied number macros held puts lists t =
       forth = held_forth number held puts;
       back = held_back number held puts;
     } in
-    let left : shared_words 0 (map number held) (puts_of number puts) macros ≡ tally (is_held (map number held) (puts_of number puts)) 0 macros = tally_is (map number held) (puts_of number puts) 0 macros in
+    let left : shared_words 0 (map number held) (puts_of number puts) all_lists ≡ tally (is_held (map number held) (puts_of number puts)) 0 all_lists = tally_is (map number held) (puts_of number puts) 0 all_lists in
     let right : shared_words 0 held puts lists ≡ tally (is_held held puts) 0 lists = tally_is held puts 0 lists in
-    let between : tally (is_held (map number held) (puts_of number puts)) 0 macros ≡ tally (is_held held puts) 0 lists = tally_renumbered number macros lists (length lists) (is_held held puts) (is_held (map number held) (puts_of number puts)) r t.inside in
+    let between : tally (is_held (map number held) (puts_of number puts)) 0 all_lists ≡ tally (is_held held puts) 0 lists = tally_renumbered number all_lists lists (length lists) (is_held held puts) (is_held (map number held) (puts_of number puts)) r t.inside in
     cc
 
-pub words_tied : (number : ℕ → ℕ) (macros : List (List Token)) (g : Groups) (puts : List Put) (lists : List (List Token)) → Tied number macros (lists_held g) puts lists → shared_words 0 (lists_held (groups_of number g)) (puts_of number puts) macros ≡ shared_words 0 (lists_held g) puts lists
-words_tied number macros g puts lists t = ap (λ (held : List ℕ). shared_words 0 held (puts_of number puts) macros) (held_as number g) ∙ shared_tied number macros (lists_held g) puts lists t
+pub words_tied : (number : ℕ → ℕ) (all_lists : List (List Token)) (g : Groups) (puts : List Put) (lists : List (List Token)) → Tied number all_lists (lists_held g) puts lists → shared_words 0 (lists_held (groups_of number g)) (puts_of number puts) all_lists ≡ shared_words 0 (lists_held g) puts lists
+words_tied number all_lists g puts lists t = ap (λ (held : List ℕ). shared_words 0 held (puts_of number puts) all_lists) (held_as number g) ∙ shared_tied number all_lists (lists_held g) puts lists t
 
 -- all words of main memory
-pub all_words_tied : (number : ℕ → ℕ) (macros : List (List Token)) (g : Groups) (puts : List Put) (lists : List (List Token)) (making : Option (List Token)) (gathered : List (List Token)) → Tied number macros (lists_held g) puts lists →
-    shared_words 0 (lists_held (groups_of number g)) (puts_of number puts) macros + held_words (puts_of number puts) making gathered ≡ shared_words 0 (lists_held g) puts lists + held_words puts making gathered
-all_words_tied number macros g puts lists making gathered t = rw (words_tied number macros g puts lists t, held_words_of number puts making gathered)
+pub all_words_tied : (number : ℕ → ℕ) (all_lists : List (List Token)) (g : Groups) (puts : List Put) (lists : List (List Token)) (making : Option (List Token)) (gathered : List (List Token)) → Tied number all_lists (lists_held g) puts lists →
+    shared_words 0 (lists_held (groups_of number g)) (puts_of number puts) all_lists + held_words (puts_of number puts) making gathered ≡ shared_words 0 (lists_held g) puts lists + held_words puts making gathered
+all_words_tied number all_lists g puts lists making gathered t = rw (words_tied number all_lists g puts lists t, held_words_of number puts making gathered)

@@ -1,6 +1,6 @@
 -- Each state and bound has a run, since from each state silent moves come to an end or to a step.
 use Rattle.std.proofs.Common.{◌≡◌, ◌⊎◌, ℕ, ◌+◌, ◌≤◌, List, [], ◌∷◌, ◌++◌, refl, ◌∙◌, inl, inr, arith, zero, suc}
-use Rattle.plain_machine.specs.States.{State, Move, Handed, Taken, FirstTaken, Settled, made}
+use Rattle.plain_machine.specs.States.{State, Move, Handed, Taken, FirstTaken, ListsEnded, made}
 use Rattle.plain_machine.specs.Plan.{Ends, Goes, next, plan}
 use Rattle.plain_machine.specs.Runs.{step_of, steps, Moves, NeedsStep, HasRun, all_made}
 use Rattle.plain_machine.proofs.Joins.{moves_join, steps_join, due_kept, next_due, next_plan}
@@ -50,10 +50,10 @@ unfolding next
 ends s e f = rw e (rw f refl)
 
 -- a step comes once the finished lists in front have gone
-at_step : (s : State) (m : Move) (ms : List Move) → s.due ≡ [] → plan s s.stopped ≡ Settled ∷ m ∷ ms → step_of m ≡ 1 → Pauses s
+at_step : (s : State) (m : Move) (ms : List Move) → s.due ≡ [] → plan s s.stopped ≡ ListsEnded ∷ m ∷ ms → step_of m ≡ 1 → Pauses s
 at_step s m ms e f one =
-    let u : State = made Settled (record s { due = m ∷ ms }) in
-    record { ms = Settled ∷ []; t = u; moves = (u, (next_plan s Settled (m ∷ ms) e f, refl)); silent = refl; paused = inr (m, (_, (next_due u m ms refl, one))) }
+    let u : State = made ListsEnded (record s { due = m ∷ ms }) in
+    record { ms = ListsEnded ∷ []; t = u; moves = (u, (next_plan s ListsEnded (m ∷ ms) e f, refl)); silent = refl; paused = inr (m, (_, (next_due u m ms refl, one))) }
 
 module _ (falls : WeightsFall) where
   settles : (n : ℕ) (s : State) → s.due ≡ [] → state_weight s ≤ n → Pauses s

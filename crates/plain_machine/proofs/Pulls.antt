@@ -25,7 +25,7 @@ use Rattle.rows.specs.declared.command.Effect.{Effect}
 use Rattle.rows.specs.Readings.{Fed, Ask}
 use Rattle.plain_readings.specs.Readings.{Kind, Skips, Reading}
 use Rattle.plain_readings.specs.Scanning.{Scanning, Builds, SkippedText}
-use Rattle.plain_machine.specs.States.{State, Files, Move, Handed, Taken, FirstTaken, Settled, Skipped, FileClosed, FileOpened, Spelt, NameInProgress, Begun, BegunWith, Closed, Written, Stopped}
+use Rattle.plain_machine.specs.States.{State, Files, Move, Handed, Taken, FirstTaken, ListsEnded, Skipped, FileClosed, FileOpened, Spelt, NameInProgress, Begun, BegunWith, Closed, Written, Stopped}
 use Rattle.plain_machine.specs.Plan.{Page, style_of, met, met_outer, entered, checked, check_noted, ran_away, away_text, page_behind, reported, reports_room, put_text, put_characters, is_expandable_primitive, expansion, unless_expanded, called, stomach, wanted, expanded, expanded_as, feeding_kind, given_back, acts, list_given, unless_found, input_begun, answered}
 use Rattle.plain_machine.specs.Runs.{step_of, steps}
 use Rattle.plain_machine.proofs.Tame.{Tame, Flat, flat_tame, back_flat, text_flat, entered_flat, kind_tame, called_tame, expansion_tame, stomach_tame, checked_tame, acts_tame, list_given_tame, answered_tame}
@@ -203,10 +203,10 @@ unless_reads page name None =
 
 pub begun_reads : (files : Files) (page : Page) (back : Bool) (name : List ℕ) → reads (input_begun files page back name) ≡ 0
 begun_reads files page back name =
-    let rest : List Move = Spelt name ∷ Closed ∷ NameInProgress false ∷ Settled ∷ FileOpened name ∷ unless_found page name (files 0 name) in
+    let rest : List Move = Spelt name ∷ Closed ∷ NameInProgress false ∷ ListsEnded ∷ FileOpened name ∷ unless_found page name (files 0 name) in
     omega (arith, reads_join (given_back back page.last) rest, given_reads back page.last, unless_reads page name (files 0 name))
 
 pub begun_pulls : (files : Files) (page : Page) (back : Bool) (name : List ℕ) → 0 < pulls (input_begun files page back name)
 begun_pulls files page back name =
-    let rest : List Move = Spelt name ∷ Closed ∷ NameInProgress false ∷ Settled ∷ FileOpened name ∷ unless_found page name (files 0 name) in
+    let rest : List Move = Spelt name ∷ Closed ∷ NameInProgress false ∷ ListsEnded ∷ FileOpened name ∷ unless_found page name (files 0 name) in
     omega (arith, pulls_join (given_back back page.last) rest)

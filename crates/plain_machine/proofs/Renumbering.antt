@@ -13,8 +13,8 @@ use Rattle.tex_defs.specs.declared.Meaning.TheVariants as means
 use Rattle.tex_defs.specs.declared.Seen.{Seen}
 use Rattle.tex_defs.specs.declared.Table.TheVariants.{InputStackSize, ParameterStackSize, TextInputLevels}
 use Rattle.plain_tokens.specs.Lex.{Lexed, Gives, Invalid, UsedUp, lexed}
-use Rattle.plain_tokens.specs.Puts.{Item, First, Whole, Own, Macro, Put, put_top, with_put, settled_top, settled, without_gaps, passed_top, passed, top_item, next_item, put_levels, put_parameters, levels_of, when_some, token_put, call_put}
-use Rattle.plain_tokens.specs.Pending.{Pending, Source, Progress, Begun, Closed, Pulled, TokenFrom, LexemeFrom, LineTaken, InvalidMet, FileOver, NothingLeft, with_puts, settle, put_front, beneath, from_begun, from_file, from_line, from_list, from_front, pulled, after_pull, with_next, begun_by, with_begun, ending, outer_puts, all_puts}
+use Rattle.plain_tokens.specs.Puts.{Item, First, Whole, Own, Macro, Put, put_top, with_put, settled_top, without_ended, without_gaps, passed_top, passed, top_item, next_item, put_levels, put_parameters, levels_of, when_some, token_put, call_put}
+use Rattle.plain_tokens.specs.Pending.{Pending, Source, Progress, Begun, Closed, Pulled, TokenFrom, LexemeFrom, LineTaken, InvalidMet, FileOver, NothingLeft, with_puts, end_token_lists, put_front, beneath, from_begun, from_file, from_line, from_list, from_front, pulled, after_pull, with_next, begun_by, with_begun, ending, outer_puts, all_puts}
 use Rattle.plain_tokens.specs.Meanings.{location, fixed_meaning, frozen_meaning, looked_up, name_meaning, seen_as, token_meaning, seen, met, whole_meaning, let_meaning, meaning_to_let}
 use Rattle.plain_tokens.specs.Tables.{Demand, whole_words, lists_words, argument_words, put_words, made_words, held_words, file_levels, begun_files, levels, opened_files, level, opened_level, parameters, line_room, lines_beneath, open_lines, buffer, line_need, next_line, first_line_of, next_file, text_level, spelt_name}
 use Rattle.plain_machine.specs.Numbers.{meaning_of, meanings_of, whole_of, put_of, puts_of, source_of, pending_of, pulled_of}
@@ -26,9 +26,9 @@ module _ (number : ℕ → ℕ) where
   settled_top_of p [] below rest = refl
   settled_top_of p (x ∷ xs) below rest = refl
 
-  pub settled_of : (ps : List Put) → settled (puts_of number ps) ≡ puts_of number (settled ps)
+  pub settled_of : (ps : List Put) → without_ended (puts_of number ps) ≡ puts_of number (without_ended ps)
   settled_of [] = refl
-  settled_of (p ∷ ps) = rw (settled_of ps) (settled_top_of p p.items (settled ps) ps)
+  settled_of (p ∷ ps) = rw (settled_of ps) (settled_top_of p p.items (without_ended ps) ps)
 
   passed_top_of : (p : Put) (xs : List Item) (below rest : List Put) → passed_top (put_of number p) xs (puts_of number below) (puts_of number rest) ≡ puts_of number (passed_top p xs below rest)
   passed_top_of p [] below rest = refl
@@ -81,7 +81,7 @@ module _ (number : ℕ → ℕ) where
 
   -- WHAT IS PENDING
 
-  pub settle_of : (p : Pending) → settle (pending_of number p) ≡ pending_of number (settle p)
+  pub settle_of : (p : Pending) → end_token_lists (pending_of number p) ≡ pending_of number (end_token_lists p)
   settle_of p = ap (λ (ps : List Put). with_puts ps (pending_of number p)) (settled_of p.puts)
 
   pub put_front_of : (x : Put) (p : Pending) → put_front (put_of number x) (pending_of number p) ≡ pending_of number (put_front x p)

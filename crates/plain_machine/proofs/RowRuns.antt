@@ -8,7 +8,7 @@ use Rattle.plain_machine.specs.States.{State, Move}
 use Rattle.plain_machine.specs.Demands.{refusal}
 use Rattle.plain_machine.specs.Plan.{Next, Ends, Goes, next, next_of}
 use Rattle.plain_machine.specs.Runs.{step_of}
-use Rattle.plain_machine.specs.Rows.{Result, Told, IsRun, IsWhole, FitsTo, RowsAreRuns, EndedRowsAreWhole, RefusalsAreRuns, run_of, full_in, went, went_within, fitted, with_move, text_of}
+use Rattle.plain_machine.specs.Rows.{Result, EndsSo, IsRun, IsWhole, FitsTo, RowsAreRuns, EndedRowsAreWhole, RefusalsAreRuns, run_of, full_in, went, went_within, fitted, with_move, text_of}
 
 next_is : (s : State) → next s ≡ next_of s s.due
 unfolding next
@@ -28,7 +28,7 @@ one_more n s u m r goes h = record {
   reports = h.reports;
   flawed = h.flawed;
 } where
-  on : Told n h.ms h.t r.stopped → Told (suc n) (m ∷ h.ms) h.t r.stopped
+  on : EndsSo n h.ms h.t r.stopped → EndsSo (suc n) (m ∷ h.ms) h.t r.stopped
   on (inl e) = inl e
   on (inr e) = inr (omega (arith, e.0), e.1)
 
@@ -42,7 +42,7 @@ rows_run zero s = record { ms = []; t = s; moves = refl; within = omega arith; t
 rows_run (suc n) s = by_next n s (next_of s s.due) (next_is s) (λ u. rows_run n u)
 
 -- where an end is told
-by_told : (n : ℕ) (s : State) (r : Result) (o : Outcome) (h : IsRun n s r) → Told n h.ms h.t r.stopped → r.stopped ≡ Some o → IsWhole s r o
+by_told : (n : ℕ) (s : State) (r : Result) (o : Outcome) (h : IsRun n s r) → EndsSo n h.ms h.t r.stopped → r.stopped ≡ Some o → IsWhole s r o
 by_told n s r o h (inl e) is = record {
   ms = h.ms;
   t = h.t;

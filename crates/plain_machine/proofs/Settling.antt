@@ -1,22 +1,22 @@
 -- The finished lists in front go at once: what comes next doesn't hang on whether they have gone.
 use Rattle.std.proofs.Common.{◌≡◌, ℕ, Bool, true, false, List, [], ◌∷◌, refl, ap, ◌∙◌}
 use Rattle.plain_tokens.specs.Lex.{Lexed, Gives, Invalid, UsedUp, lexed}
-use Rattle.plain_tokens.specs.Puts.{Item, Put, settled, settled_top, passed}
-use Rattle.plain_tokens.specs.Pending.{Pending, Progress, Begun, Closed, settle, with_puts, pulled, from_front, from_list, from_line, from_begun, from_file}
+use Rattle.plain_tokens.specs.Puts.{Item, Put, without_ended, settled_top, passed}
+use Rattle.plain_tokens.specs.Pending.{Pending, Progress, Begun, Closed, end_token_lists, with_puts, pulled, from_front, from_list, from_line, from_begun, from_file}
 
-passed_top_settled : (p : Put) (xs : List Item) (ps : List Put) → p.items ≡ xs → passed (settled ps) ≡ passed ps → passed (settled_top p xs (settled ps) ps) ≡ passed (p ∷ ps)
+passed_top_settled : (p : Put) (xs : List Item) (ps : List Put) → p.items ≡ xs → passed (without_ended ps) ≡ passed ps → passed (settled_top p xs (without_ended ps) ps) ≡ passed (p ∷ ps)
 passed_top_settled p [] ps e h = rw e h
 passed_top_settled p (x ∷ xs) ps e h = refl
 
-pub passed_settled : (ps : List Put) → passed (settled ps) ≡ passed ps
+pub passed_settled : (ps : List Put) → passed (without_ended ps) ≡ passed ps
 passed_settled [] = refl
 passed_settled (p ∷ ps) = passed_top_settled p p.items ps refl (passed_settled ps)
 
-settled_top_twice : (p : Put) (xs : List Item) (ps : List Put) → p.items ≡ xs → settled (settled ps) ≡ settled ps → settled (settled_top p xs (settled ps) ps) ≡ settled_top p xs (settled ps) ps
+settled_top_twice : (p : Put) (xs : List Item) (ps : List Put) → p.items ≡ xs → without_ended (without_ended ps) ≡ without_ended ps → without_ended (settled_top p xs (without_ended ps) ps) ≡ settled_top p xs (without_ended ps) ps
 settled_top_twice p [] ps e h = h
 settled_top_twice p (x ∷ xs) ps e h = rw e refl
 
-pub settled_twice : (ps : List Put) → settled (settled ps) ≡ settled ps
+pub settled_twice : (ps : List Put) → without_ended (without_ended ps) ≡ without_ended ps
 settled_twice [] = refl
 settled_twice (p ∷ ps) = settled_top_twice p p.items ps refl (settled_twice ps)
 
@@ -42,5 +42,5 @@ front_with : (categories : List ℕ) (ps : List Put) (p : Pending) (qs : List Pu
 front_with categories ps p [] = line_with ps p (lexed categories p.lex p.line)
 front_with categories ps p (x ∷ qs) = list_with categories ps p x qs x.items
 
-pub pulled_settled : (categories : List ℕ) (p : Pending) → pulled categories (settle p) ≡ pulled categories p
-pulled_settled categories p = ap (from_front categories (settle p)) (passed_settled p.puts) ∙ front_with categories (settled p.puts) p (passed p.puts)
+pub pulled_settled : (categories : List ℕ) (p : Pending) → pulled categories (end_token_lists p) ≡ pulled categories p
+pulled_settled categories p = ap (from_front categories (end_token_lists p)) (passed_settled p.puts) ∙ front_with categories (without_ended p.puts) p (passed p.puts)

@@ -27,7 +27,7 @@ use Rattle.plain_tokens.specs.Lex.{Lexed, Gives, Invalid, UsedUp, lexed}
 use Rattle.plain_tokens.specs.LexLaws.{LeavesLess}
 use Rattle.plain_tokens.proofs.LexRests.{less}
 use Rattle.plain_tokens.specs.Puts.{Item, Put as PutList, passed, call_put, list_put}
-use Rattle.plain_tokens.specs.Pending.{Pending, Source, Progress, Begun as BegunFile, Closed as ClosedFile, beneath, from_begun, Pulled, TokenFrom, LexemeFrom, LineTaken, InvalidMet, FileOver, NothingLeft, settle, pulled, from_front, from_list, from_line, from_file}
+use Rattle.plain_tokens.specs.Pending.{Pending, Source, Progress, Begun as BegunFile, Closed as ClosedFile, beneath, from_begun, Pulled, TokenFrom, LexemeFrom, LineTaken, InvalidMet, FileOver, NothingLeft, end_token_lists, pulled, from_front, from_list, from_line, from_file}
 use Rattle.plain_tokens.specs.Arguments.{are_same, has_parameters}
 use Rattle.conditionals.specs.declared.choice.Aim.{Aim}
 use Rattle.conditionals.specs.declared.choice.Aim.TheVariants as aim
@@ -72,13 +72,13 @@ use Rattle.rows.specs.declared.command.Effect.TheVariants as effect
 use Rattle.rows.specs.Table.{has_row}
 use Rattle.rows.specs.Arithmetic.{value_computed}
 use Rattle.rows.specs.Internal.{value_text}
-use Rattle.rows.specs.Readings.{Fed, Val, Told, Cut, Entered as EntersText, Ask, More, Inner, Done, Acts, ActsOn, Defines, Ends as Closes, Calls, Fails, RunsAway, Tells, Inserts, Puts, Relaxes, Fetches, Magnifies}
+use Rattle.rows.specs.Readings.{Fed, Val, Told, Cut, Verbatim as EntersText, Ask, More, Inner, Done, Acts, ActsOn, Defines, Ends as Closes, Calls, Fails, RunsAway, Tells, Inserts, Puts, Relaxes, Fetches, Magnifies}
 use Rattle.plain_readings.specs.Readings.{Kind, Reads, Spelling, FileName, Arguments, Behind, Skips, Reading, ask, lists, fed_with}
 use Rattle.plain_readings.specs.Spelling.{endcsname_primitive}
 use Rattle.plain_readings.specs.Scanning.{Scanning, Builds, SkippedText, scanning}
 use Rattle.plain_readings.specs.Laws.{IsRead}
 use Rattle.plain_readings.specs.Weights.{frame_weight, value_frame, act_frame, value_weight, act_weight, end_weight, ask_weight, weight, IsNoted, IsLast, WeightsFall}
-use Rattle.plain_machine.specs.States.{State, Files, Move, Settled, Skipped, FileClosed, FileEnds, FileOpened, Spelt, NameInProgress, Entered, Kept as KeptBytes, Grows, Feeds, Completed, Opened, ListBegun, ListGrown, Put, ListDropped, Called, Set, Assigned, Defined, ListSet, GroupOpened, GroupClosed, KeptForGroup, KeptForAssignment, MagnificationSet, ConditionOpened, LimitSet, ConditionClosed, Written, Begun, Ended, Closed, Reported, Flawed, Stopped, Handed, made}
+use Rattle.plain_machine.specs.States.{State, Files, Move, ListsEnded, Skipped, FileClosed, FileEnds, FileOpened, Spelt, NameInProgress, Entered, Kept as KeptBytes, Grows, Feeds, Completed, Opened, ListBegun, ListGrown, Put, ListDropped, Called, Set, Assigned, Defined, ListSet, GroupOpened, GroupClosed, KeptForGroup, KeptForAssignment, MagnificationSet, ConditionOpened, LimitSet, ConditionClosed, Written, Begun, Ended, Closed, Reported, Flawed, Stopped, Handed, made}
 use Rattle.plain_machine.specs.Plan.{Page, page_of, style_of, plan, ruled, planned, answered, handed, checked, at_line, check_noted, inserted_at, away_text, ran_away, incomplete, frozen_fi, page_behind, reported, behind_report, reports_room, finish, groups_left, conditionals_left, stomach, command, register, primitive, begingroup_primitive, endgroup_primitive, right_brace, put_each, group_ended, brace_met, endgroup_met, character, expansion, expanded, expanded_as, csname_primitive, jobname_primitive, input_primitive, endinput_primitive, input_met, frozen_relax, skips, limited_or_skips, chosen, conditional_begun, ender_comes, ender_met, conditional_met, passed as passed_by, reached, unless_found, input_begun, is_expandable_primitive, job_in, begun, call_of, called_meaning, put_body, body_put, token_line, wanted, enters_names, feeding, given_back, grown_to, first_list, noting, noting_kind, put_one, put_text, put_made, put_characters, put_inserted, arguments_put, called_with, failed, failed_away, inner_begun, done, value_tokens, told, and_closed, expanded_behind, marked, meaning_characters, tokens_meant, shown, is_global, behind_assignment, assigned, kept_for_group, number_or_glue, computed_to, short_meaning, value_shown, standing_shown, list_number, tokens_entered, list_given, copies, is_copying, acts_above, list_set, macro_defined, newly_spelt, spelt, relax_if_undefined, name_made, entered, acts_on, acts_in, is_magnification, magnification_set, legal_or_not, compared}
 use Rattle.plain_machine.specs.Runs.{step_of, all_made}
 use Rattle.plain_machine.proofs.Falling.{enter}
@@ -122,7 +122,7 @@ state_weight s = weight_of s.stopped s.work s.pending
 
 pub data Rule (s : State) (ms : List Move) : Type 0 where
   Over : ms ≡ [] → Rule s ms
-  Step : (m : Move) → (rest : List Move) → ms ≡ Settled ∷ m ∷ rest → step_of m ≡ 1 → Rule s ms
+  Step : (m : Move) → (rest : List Move) → ms ≡ ListsEnded ∷ m ∷ rest → step_of m ≡ 1 → Rule s ms
   Falls : state_weight (all_made ms s) < state_weight s → Rule s ms
 
 -- after these moves the weight is below n
@@ -169,7 +169,7 @@ lighter categories p = lighter_front categories p (passed p.puts)
 
 -- moves that leave the readings and the open files, and go on
 abbrev is_plain : Move → Bool
-is_plain Settled = true
+is_plain ListsEnded = true
 is_plain FileEnds = true
 is_plain (FileOpened name) = true
 is_plain (Spelt name) = true
@@ -222,7 +222,7 @@ kept_on : (s u v : State) → Kept s u → Kept u v → Kept s v
 kept_on s u v a b = record { work = b.work ∙ a.work; stopped = b.stopped ∙ a.stopped; pending = b.pending ∙ a.pending }
 
 kept : (m : Move) (s : State) → is_plain m ≡ true → Kept s (made m s)
-kept Settled s h = record { work = refl; stopped = refl; pending = refl }
+kept ListsEnded s h = record { work = refl; stopped = refl; pending = refl }
 kept FileEnds s h = record { work = refl; stopped = refl; pending = refl }
 kept (FileOpened name) s h = record { work = refl; stopped = refl; pending = refl }
 kept (Spelt name) s h = record { work = refl; stopped = refl; pending = refl }
@@ -428,11 +428,11 @@ module _ (falls : WeightsFall) (s : State) (q : Pending) (e : s.stopped ≡ None
 
 module _ (falls : WeightsFall) (s : State) (enters : Bool) (o : Option Scanning) (onward : Seen → List Move) (e : s.stopped ≡ None) where
   -- the pull comes once the finished lists in front have gone
-  pulled_then : (p : Pulled) → pulled s.groups.now.categories s.pending ≡ p → pulled s.groups.now.categories (settle s.pending) ≡ p
+  pulled_then : (p : Pulled) → pulled s.groups.now.categories s.pending ≡ p → pulled s.groups.now.categories (end_token_lists s.pending) ≡ p
   pulled_then p is = pulled_settled s.groups.now.categories s.pending ∙ is
 
   abbrev settled_first : List Move → State
-  settled_first rest = made Settled (record s { due = rest })
+  settled_first rest = made ListsEnded (record s { due = rest })
 
   rule_pulled : (p : Pulled) → pulled s.groups.now.categories s.pending ≡ p → Lighter s.pending p → Rule s (handed (page_of s) enters o onward p)
   rule_pulled (TokenFrom t q) is l = Step _ _ refl refl
@@ -503,7 +503,7 @@ module _ (n : ℕ) (v : State) (e : v.stopped ≡ None) (less : state_weight v <
   drops_called_meaning : (u : State) (page : Page) (name : Name) (m : Meaning (Option ℕ)) → Kept v u → Drops n (called_meaning page name m) u
   drops_called_meaning u page name (means.Macro long outer None) k = stays u k
   drops_called_meaning u page name (means.Macro long outer (Some number)) k =
-      drops_called_by u (has_parameters (slice_index_or page.macros number [])) name long number (slice_index_or page.macros number []) k
+      drops_called_by u (has_parameters (slice_index_or page.all_lists number [])) name long number (slice_index_or page.all_lists number []) k
   drops_called_meaning u page name m k = stays u k
 
   drops_input : (u : State) (naming : Bool) (t : Token) (c : Call) → Kept v u → Drops n (if naming then put_one t ++ put_one frozen_relax else Begun (FileName c) ∷ NameInProgress true ∷ []) u
@@ -697,12 +697,12 @@ module _ (falls : WeightsFall) (s : State) (k : Kind) (fed : List Fed) (rs : Lis
     rule_given : (page : Page) (copied : Bool) → is_copying rs ≡ copied → (o : Option ℕ) → Rule s (Closed ∷ list_given page copied o)
     rule_given page copied is None = rule_closed [] tt
     rule_given page false is (Some number) =
-        let p : PutList = list_put number (slice_index_or page.macros number []) in
+        let p : PutList = list_put number (slice_index_or page.all_lists number []) in
         Falls (drops_all (state_weight s) (made Closed (record s { due = put_body p })) (put_body p) (plain_body p p.items) (λ v k. rw (k.stopped, k.work, e, w) (omega (arith, k.pending, asked_least falls rs, heavy, framed))))
     rule_given page true is (Some number) =
-        let ms : List Move = tokens_entered (slice_index_or page.macros number []) in
+        let ms : List Move = tokens_entered (slice_index_or page.all_lists number []) in
         let v : State = made Closed (record s { due = ms }) in
-        Falls (falls_copied (state_weight s) rs is (slice_index_or page.macros number []) v e (rw w refl) (rw (e, w) (omega (arith, heavy, framed))))
+        Falls (falls_copied (state_weight s) rs is (slice_index_or page.all_lists number []) v e (rw w refl) (rw (e, w) (omega (arith, heavy, framed))))
 
     -- the body of a call is put
     rule_put : (p : PutList) (is : List Item) → Rule s (arguments_put p is)
@@ -771,17 +771,17 @@ module _ (falls : WeightsFall) (s : State) (k : Kind) (fed : List Fed) (rs : Lis
         drops_told (state_weight s) v page (missing_file_bytes (style_of page) page.in_line page.line name) (Written Transcript (emergency (style_of page) ++ no_file_line (style_of page)) ∷ Stopped (AtFatal NoFile) ∷ []) (some_weight s e)
         (λ u k. halted_none (state_weight s) u (emergency (style_of page) ++ no_file_line (style_of page)) (AtFatal NoFile) (some_weight s e))
 
-    named_falls : (page : Page) (name : List ℕ) (o : Option (List ℕ)) (u : State) → Kept s u → Drops (state_weight s) (Closed ∷ NameInProgress false ∷ Settled ∷ FileOpened name ∷ unless_found page name o) u
+    named_falls : (page : Page) (name : List ℕ) (o : Option (List ℕ)) (u : State) → Kept s u → Drops (state_weight s) (Closed ∷ NameInProgress false ∷ ListsEnded ∷ FileOpened name ∷ unless_found page name o) u
     named_falls page name o u h =
-        let rest : List Move = NameInProgress false ∷ Settled ∷ FileOpened name ∷ unless_found page name o in
+        let rest : List Move = NameInProgress false ∷ ListsEnded ∷ FileOpened name ∷ unless_found page name o in
         let v : State = made Closed (record u { due = rest }) in
         let less : state_weight v < state_weight s = rw (h.stopped, h.work, e, w) (omega (arith, h.pending, asked_least falls rs, heavy, framed)) in
-        drops_plain (state_weight s) v (NameInProgress false ∷ Settled ∷ FileOpened name ∷ []) (unless_found page name o) (refl, (refl, (refl, tt)))
+        drops_plain (state_weight s) v (NameInProgress false ∷ ListsEnded ∷ FileOpened name ∷ []) (unless_found page name o) (refl, (refl, (refl, tt)))
         (λ x k. found_falls page name o x (k.stopped ∙ h.stopped ∙ e) (subst (λ (n : ℕ). n < state_weight s) (kept_weight v x (h.stopped ∙ e) k) less))
 
     rule_input : (files : Files) (page : Page) (back : Bool) (name : List ℕ) → Rule s (input_begun files page back name)
     rule_input files page back name =
-        let rest : List Move = Closed ∷ NameInProgress false ∷ Settled ∷ FileOpened name ∷ unless_found page name (files 0 name) in
+        let rest : List Move = Closed ∷ NameInProgress false ∷ ListsEnded ∷ FileOpened name ∷ unless_found page name (files 0 name) in
         Falls (drops_plain (state_weight s) s (given_back back page.last) (Spelt name ∷ rest) (plain_back back page.last)
         (λ u h. drops_plain (state_weight s) u (Spelt name ∷ []) rest (refl, tt) (λ x k. named_falls page name (files 0 name) x (kept_on s u x h k))))
 

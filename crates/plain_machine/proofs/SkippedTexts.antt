@@ -32,7 +32,7 @@ use Rattle.rows.specs.Readings.{Fed, Tok, Val, Ask, More, Acts, ActsOn, Ends as 
 use Rattle.plain_readings.specs.Readings.{Kind, Skips, Reading, ask, fed_with}
 use Rattle.plain_readings.specs.Scanning.{Scanning, SkippedText, scanning}
 use Rattle.plain_readings.specs.Skips.{skipping, ended}
-use Rattle.plain_machine.specs.States.{State, Files, Move, Handed, Taken, FirstTaken, Settled, Skipped, FileClosed, FileOpened, Spelt, NameInProgress, Feeds, CalledWith, Defined, ListSet, Begun, BegunWith, Ended, Closed, Written, Stopped, made}
+use Rattle.plain_machine.specs.States.{State, Files, Move, Handed, Taken, FirstTaken, ListsEnded, Skipped, FileClosed, FileOpened, Spelt, NameInProgress, Feeds, CalledWith, Defined, ListSet, Begun, BegunWith, Ended, Closed, Written, Stopped, made}
 use Rattle.plain_machine.specs.Plan.{Page, page_of, style_of, plan, planned, ruled, answered, handed, met, met_outer, entered, checked, at_line, reported, reports_room, behind_report, stomach, wanted, enters_names, feeding, given_back, reached, input_begun, unless_found, no_end, Ends, Goes, next, job_due, first_state}
 use Rattle.plain_machine.specs.Runs.{step_of, steps, Moves, Begins, AtRule, AtJob}
 use Rattle.plain_machine.specs.Skips.{IsShort, IsBeneath, AreBeneath, AreShort}
@@ -246,8 +246,8 @@ input_safe : (files : Files) (page : Page) (back : Bool) (name : List ℕ) → S
 input_safe files page back name =
     let last : List Move = unless_found page name (files 0 name) in
     let opens : List Move = FileOpened name ∷ last in
-    flat_safe (given_back back page.last) (Spelt name ∷ Closed ∷ NameInProgress false ∷ Settled ∷ opens) (back_flat back page.last)
-    (flat_safe (Spelt name ∷ Closed ∷ NameInProgress false ∷ Settled ∷ []) opens tt (one_safe (FileOpened name) last tt (tame_safe last (unless_tame page name (files 0 name)))))
+    flat_safe (given_back back page.last) (Spelt name ∷ Closed ∷ NameInProgress false ∷ ListsEnded ∷ opens) (back_flat back page.last)
+    (flat_safe (Spelt name ∷ Closed ∷ NameInProgress false ∷ ListsEnded ∷ []) opens tt (one_safe (FileOpened name) last tt (tame_safe last (unless_tame page name (files 0 name)))))
 
 -- THE NEXT TOKEN OR LINE
 module _ (page : Page) (enters : Bool) (o : Option Scanning) (onward : Seen → List Move) (tame : (x : Seen) → Tame (onward x)) where
@@ -260,19 +260,19 @@ module _ (page : Page) (enters : Bool) (o : Option Scanning) (onward : Seen → 
   handed_safe : (r : Pulled) → SafeOnward (handed page enters o onward r)
   handed_safe (TokenFrom t q) =
       let ms : List Move = met page o onward (met_token page.now.meanings t) in
-      one_safe Settled (Handed t ∷ ms) tt (one_safe (Handed t) ms tt (token_safe (met_token page.now.meanings t)))
+      one_safe ListsEnded (Handed t ∷ ms) tt (one_safe (Handed t) ms tt (token_safe (met_token page.now.meanings t)))
   handed_safe (LexemeFrom x q) =
       let t : Token = token_of enters page.names x in
       let ms : List Move = entered (new_name enters page.names x) ++ met page o onward (met_token page.now.meanings t) in
-      one_safe Settled (Handed t ∷ ms) tt (one_safe (Handed t) ms tt (lexeme_safe (new_name enters page.names x) (met_token page.now.meanings t)))
-  handed_safe (LineTaken line q) = one_safe Settled (Taken line ∷ []) tt (one_safe (Taken line) [] tt none_safe)
+      one_safe ListsEnded (Handed t ∷ ms) tt (one_safe (Handed t) ms tt (lexeme_safe (new_name enters page.names x) (met_token page.now.meanings t)))
+  handed_safe (LineTaken line q) = one_safe ListsEnded (Taken line ∷ []) tt (one_safe (Taken line) [] tt none_safe)
   handed_safe (InvalidMet q) =
       let ms : List Move = reported page InvalidCharacter [] in
-      one_safe Settled (Skipped ∷ ms) tt (one_safe Skipped ms tt (tame_safe ms (reported_tame page InvalidCharacter [] tt)))
+      one_safe ListsEnded (Skipped ∷ ms) tt (one_safe Skipped ms tt (tame_safe ms (reported_tame page InvalidCharacter [] tt)))
   handed_safe (FileOver q) =
       let ms : List Move = checked (at_line q.number page) o in
-      one_safe Settled (FileClosed ∷ ms) tt (one_safe FileClosed ms tt (tame_safe ms (checked_tame (at_line q.number page) o)))
-  handed_safe NothingLeft = tame_safe (Settled ∷ no_end page) tt
+      one_safe ListsEnded (FileClosed ∷ ms) tt (one_safe FileClosed ms tt (tame_safe ms (checked_tame (at_line q.number page) o)))
+  handed_safe NothingLeft = tame_safe (ListsEnded ∷ no_end page) tt
 
   -- Where no reading is open none begins before a token has come.
   module _ (n : ℕ) (s : State) (w : s.work ≡ []) where
@@ -288,11 +288,11 @@ module _ (page : Page) (enters : Bool) (o : Option Scanning) (onward : Seen → 
     first_safe none (LexemeFrom x q) =
         let t : Token = token_of enters page.names x in
         (none_short, (short_later n (n + 0) s.work (omega arith) none_short, lexeme_safe (new_name enters page.names x) (met_token page.now.meanings t) (n + 0 + 1) _ (omega arith) one_beneath))
-    first_safe none (LineTaken line q) = calm_safe n (Settled ∷ Taken line ∷ []) s tt none_short
-    first_safe none (InvalidMet q) = calm_safe n (Settled ∷ Skipped ∷ reported page InvalidCharacter []) s (calm_behind (style_of page) page.reports) none_short
+    first_safe none (LineTaken line q) = calm_safe n (ListsEnded ∷ Taken line ∷ []) s tt none_short
+    first_safe none (InvalidMet q) = calm_safe n (ListsEnded ∷ Skipped ∷ reported page InvalidCharacter []) s (calm_behind (style_of page) page.reports) none_short
     first_safe none (FileOver q) =
-        calm_safe n (Settled ∷ FileClosed ∷ checked (at_line q.number page) o) s (subst (λ (o : Option Scanning). Calm (checked (at_line q.number page) o)) (sym none) tt) none_short
-    first_safe none NothingLeft = calm_safe n (Settled ∷ no_end page) s tt none_short
+        calm_safe n (ListsEnded ∷ FileClosed ∷ checked (at_line q.number page) o) s (subst (λ (o : Option Scanning). Calm (checked (at_line q.number page) o)) (sym none) tt) none_short
+    first_safe none NothingLeft = calm_safe n (ListsEnded ∷ no_end page) s tt none_short
 
 -- TEXT THAT IS SKIPPED
 
@@ -328,11 +328,11 @@ module _ (page : Page) (line : ℕ) where
       let names : List (List ℕ) = new_name false page.names x in
       let ms : List Move = met page (Some (SkippedText line)) feeds (met_token page.now.meanings (token_of false page.names x)) in
       (i, (short_later n (n + 0) s.work (omega arith) i, feeds_safe n (n + 0 + 1) (entered names ++ ms) _ (omega arith) (feeds_entered names ms (met_feeds (met_token page.now.meanings (token_of false page.names x)))) i))
-  skips_handed n s i (LineTaken line q) = calm_safe n (Settled ∷ Taken line ∷ []) s tt i
-  skips_handed n s i (InvalidMet q) = calm_safe n (Settled ∷ Skipped ∷ reported page InvalidCharacter []) s (calm_behind (style_of page) page.reports) i
+  skips_handed n s i (LineTaken line q) = calm_safe n (ListsEnded ∷ Taken line ∷ []) s tt i
+  skips_handed n s i (InvalidMet q) = calm_safe n (ListsEnded ∷ Skipped ∷ reported page InvalidCharacter []) s (calm_behind (style_of page) page.reports) i
   skips_handed n s i (FileOver q) =
-      calm_safe n (Settled ∷ FileClosed ∷ checked (at_line q.number page) (Some (SkippedText line))) s (calm_behind (style_of page) page.reports) i
-  skips_handed n s i NothingLeft = calm_safe n (Settled ∷ no_end page) s tt i
+      calm_safe n (ListsEnded ∷ FileClosed ∷ checked (at_line q.number page) (Some (SkippedText line))) s (calm_behind (style_of page) page.reports) i
+  skips_handed n s i NothingLeft = calm_safe n (ListsEnded ∷ no_end page) s tt i
 
 -- THE RULE
 
@@ -387,7 +387,7 @@ module _ (n : ℕ) (s : State) (short : AreShort n s.work) where
 
   ruled_safe : (o : Option (List ℕ)) → Safe n (ruled s o) s
   ruled_safe None = work_safe s.work refl
-  ruled_safe (Some bytes) = calm_safe n (Settled ∷ FirstTaken (first_line bytes) ∷ []) s tt short
+  ruled_safe (Some bytes) = calm_safe n (ListsEnded ∷ FirstTaken (first_line bytes) ∷ []) s tt short
 
   plan_safe : (o : Option Outcome) → Safe n (plan s o) s
   plan_safe None = ruled_safe s.pending.next

@@ -264,7 +264,7 @@ body_tame p (x ∷ xs) = tt
 called_list_tame : (page : Page) (n : Name) (long : Bool) (o : Option ℕ) → Tame (called_list page n long o)
 called_list_tame page n long None = tt
 called_list_tame page n long (Some number) =
-    let ts : List Token = slice_index_or page.macros number [] in
+    let ts : List Token = slice_index_or page.all_lists number [] in
     tame_if (has_parameters ts) (Begun (Arguments n long number ts) ∷ []) (put_body (call_put number ts [])) tt (body_tame (call_put number ts []) (call_put number ts []).items)
 
 called_meaning_tame : (page : Page) (n : Name) (m : Meaning (Option ℕ)) → Tame (called_meaning page n m)
@@ -528,9 +528,9 @@ list_entered_tame (t ∷ ts) = list_entered_tame ts
 
 pub list_given_tame : (page : Page) (copied : Bool) (o : Option ℕ) → Tame (list_given page copied o)
 list_given_tame page copied None = tt
-list_given_tame page true (Some number) = list_entered_tame (slice_index_or page.macros number [])
+list_given_tame page true (Some number) = list_entered_tame (slice_index_or page.all_lists number [])
 list_given_tame page false (Some number) =
-    let p : PutList = list_put number (slice_index_or page.macros number []) in
+    let p : PutList = list_put number (slice_index_or page.all_lists number []) in
     body_tame p p.items
 
 acts_above_tame : (beneath : List Reading) (page : Page) (c : Call) (e : Effect) → Tame (acts_above beneath page c e)

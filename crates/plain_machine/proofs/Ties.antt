@@ -11,8 +11,8 @@ use Rattle.tex_defs.specs.declared.Seen.{Seen}
 use Rattle.tex_defs.specs.declared.Meaning.{Meaning}
 use Rattle.tex_defs.specs.declared.Meaning.TheVariants as means
 use Rattle.plain_tokens.specs.Lex.{Lexed, Gives, Invalid, UsedUp, lexed}
-use Rattle.plain_tokens.specs.Puts.{Item, Whole, Own, Macro, Put, put_top, with_put, settled_top, settled, without_gaps, passed_top, passed}
-use Rattle.plain_tokens.specs.Pending.{Pending, Source, Progress, Begun, Closed, settle, put_front, beneath, from_begun, from_file, from_line, from_list, from_front, pulled, after_pull, begun_by, with_begun, outer_puts, all_puts}
+use Rattle.plain_tokens.specs.Puts.{Item, Whole, Own, Macro, Put, put_top, with_put, settled_top, without_ended, without_gaps, passed_top, passed}
+use Rattle.plain_tokens.specs.Pending.{Pending, Source, Progress, Begun, Closed, end_token_lists, put_front, beneath, from_begun, from_file, from_line, from_list, from_front, pulled, after_pull, begun_by, with_begun, outer_puts, all_puts}
 use Rattle.plain_tokens.specs.Meanings.{location, is_listed, fixed_meaning, looked_up, name_meaning, whole_meaning, let_meaning, meaning_to_let}
 use Rattle.plain_tokens.specs.Tables.{is_whole, is_put}
 use Rattle.plain_tokens.specs.Printed.{Style, meaning_head, meaning_text, meaning_tokens, list_text}
@@ -24,8 +24,8 @@ use Rattle.equivalents.specs.Tables.{get}
 use Rattle.equivalents.proofs.Names.{fixed_unlisted}
 use Rattle.equivalents.specs.Groups.{Groups, set, set_name, entered, opened, closed, with_token, first_groups}
 use Rattle.equivalents.specs.Holding.{list_of, value_list, lists_of_meanings, lists_held}
-use Rattle.plain_machine.specs.Plan.{macro_tokens}
-use Rattle.plain_machine.specs.Numbers.{number_of, meaning_of, meanings_of, whole_of, put_of, puts_of, tables_of, groups_of, renumbered, IsHeld, Tied}
+use Rattle.plain_machine.specs.Plan.{shared_tokens}
+use Rattle.plain_machine.specs.Numbers.{number_of_list, meaning_of, meanings_of, whole_of, put_of, puts_of, tables_of, groups_of, renumbered, IsHeld, Tied}
 use Rattle.plain_machine.proofs.Renumbering.{meaning_to_let_of}
 use Rattle.plain_machine.proofs.GroupNumbers.{get_of, tokens_as}
 use Rattle.plain_machine.proofs.MacroWords.{either}
@@ -38,9 +38,9 @@ module _ (n : ℕ) where
   put_settled_top p [] below rest f h = or_right (is_whole n p.list) (is_put n rest) (f h)
   put_settled_top p (x ∷ xs) below rest f h = h
 
-  pub put_settled : (ps : List Put) → is_put n (settled ps) ≡ true → is_put n ps ≡ true
+  pub put_settled : (ps : List Put) → is_put n (without_ended ps) ≡ true → is_put n ps ≡ true
   put_settled [] h = h
-  put_settled (p ∷ ps) h = put_settled_top p p.items (settled ps) ps (put_settled ps) h
+  put_settled (p ∷ ps) h = put_settled_top p p.items (without_ended ps) ps (put_settled ps) h
 
   put_passed_top : (p : Put) (xs : List Item) (below rest : List Put) → (is_put n below ≡ true → is_put n rest ≡ true) → is_put n (passed_top p xs below rest) ≡ true → (is_whole n p.list || is_put n rest) ≡ true
   put_passed_top p [] below rest f h = or_right (is_whole n p.list) (is_put n rest) (f h)
@@ -100,8 +100,8 @@ module _ (n : ℕ) where
     put_pulled categories h = put_from_front categories (passed p.puts) (put_passed p.puts) h
 
     -- nor is one there where the finished lists have gone, and where a file is begun
-    pub put_settle : IsPut (settle p) → IsPut p
-    put_settle h = put_in_front (settled p.puts) p.puts (outer_puts p.outer) (put_settled p.puts) h
+    pub put_settle : IsPut (end_token_lists p) → IsPut p
+    put_settle h = put_in_front (without_ended p.puts) p.puts (outer_puts p.outer) (put_settled p.puts) h
 
     put_begun_by : (o : Option (List ℕ)) → IsPut (begun_by o p) → IsPut p
     put_begun_by None h = h
@@ -128,17 +128,17 @@ module _ (n : ℕ) where
 
 -- THE MACROS KEEP THEIR NUMBERS
 
-module _ (number : ℕ → ℕ) (macros : List (List Token)) where
+module _ (number : ℕ → ℕ) (all_lists : List (List Token)) where
   -- nothing is held yet
-  pub tied_first : (lists : List (List Token)) → Tied number macros [] [] lists
+  pub tied_first : (lists : List (List Token)) → Tied number all_lists [] [] lists
   tied_first lists = record { inside = λ n h. cc; within = λ n h. cc; tokens = λ n h. cc; apart = λ n m h i e. cc }
 
-  pub tied_at_first : (knows : ℕ → Bool) (lists : List (List Token)) → Tied number macros (lists_held (first_groups knows)) [] lists
-  tied_at_first knows lists = subst (λ (held : List ℕ). Tied number macros held [] lists) (sym (first_lists knows)) (tied_first lists)
+  pub tied_at_first : (knows : ℕ → Bool) (lists : List (List Token)) → Tied number all_lists (lists_held (first_groups knows)) [] lists
+  tied_at_first knows lists = subst (λ (held : List ℕ). Tied number all_lists held [] lists) (sym (first_lists knows)) (tied_first lists)
 
-  module _ (held held' : List ℕ) (puts puts' : List Put) (lists lists' : List (List Token)) (t : Tied number macros held puts lists) where
+  module _ (held held' : List ℕ) (puts puts' : List Put) (lists lists' : List (List Token)) (t : Tied number all_lists held puts lists) where
     -- no more is held, and the lists of what is held stay
-    pub tied_kept : ((n : ℕ) → IsHeld n held' puts' → IsHeld n held puts × (slice_index_or lists' n [] ≡ slice_index_or lists n [])) → length lists' ≡ length lists → Tied number macros held' puts' lists'
+    pub tied_kept : ((n : ℕ) → IsHeld n held' puts' → IsHeld n held puts × (slice_index_or lists' n [] ≡ slice_index_or lists n [])) → length lists' ≡ length lists → Tied number all_lists held' puts' lists'
     tied_kept kept same = record {
       inside = λ n h. (let l : n < length lists = t.inside n (kept n h).0 in omega arith);
       within = λ n h. t.within n (kept n h).0;
@@ -146,16 +146,16 @@ module _ (number : ℕ → ℕ) (macros : List (List Token)) where
       apart = λ n m h i e. t.apart n m (kept n h).0 (kept m i).0 e;
     }
 
-  module _ (held : List ℕ) (puts : List Put) (lists : List (List Token)) (t : Tied number macros held puts lists) where
+  module _ (held : List ℕ) (puts : List Put) (lists : List (List Token)) (t : Tied number all_lists held puts lists) where
     -- no more is held
-    pub tied_fewer : (held' : List ℕ) (puts' : List Put) → ((n : ℕ) → IsHeld n held' puts' → IsHeld n held puts) → Tied number macros held' puts' lists
+    pub tied_fewer : (held' : List ℕ) (puts' : List Put) → ((n : ℕ) → IsHeld n held' puts' → IsHeld n held puts) → Tied number all_lists held' puts' lists
     tied_fewer held' puts' fewer = tied_kept held held' puts puts' lists lists t (λ n h. (fewer n h, refl)) refl
 
-    pub tied_puts : (puts' : List Put) → ((n : ℕ) → is_put n puts' ≡ true → is_put n puts ≡ true) → Tied number macros held puts' lists
+    pub tied_puts : (puts' : List Put) → ((n : ℕ) → is_put n puts' ≡ true → is_put n puts ≡ true) → Tied number all_lists held puts' lists
     tied_puts puts' fewer = tied_fewer held puts' (λ n h. held_more n held held puts' puts (λ a. a) (fewer n) h)
 
     put_held : (x : Put) (puts' : List Put) → ((n : ℕ) → is_put n puts' ≡ true → (is_whole n x.list ≡ true) ⊎ (is_put n puts ≡ true)) → ((n : ℕ) → is_whole n x.list ≡ true → IsHeld n held puts) →
-        Tied number macros held puts' lists
+        Tied number all_lists held puts' lists
     put_held x puts' more own = tied_fewer held puts' (λ n h.
         ⊎_elim (λ a. or_left (is_listed held n) (is_put n puts) a)
         (λ a. ⊎_elim (λ b. own n b) (λ b. or_right (is_listed held n) (is_put n puts) b) (more n a)) (or_cases (is_listed held n) (is_put n puts') h))
@@ -170,29 +170,29 @@ module _ (number : ℕ → ℕ) (macros : List (List Token)) where
     own_held ts w e n h = let here : is_whole n (Own ts) ≡ true = rw e at h in cc
 
     -- the list of a macro that is held is put once more
-    macro_put : (id : ℕ) (x : Put) (puts' : List Put) → ((n : ℕ) → is_put n puts' ≡ true → (is_whole n x.list ≡ true) ⊎ (is_put n puts ≡ true)) → x.list ≡ Macro id → IsHeld id held puts → Tied number macros held puts' lists
+    macro_put : (id : ℕ) (x : Put) (puts' : List Put) → ((n : ℕ) → is_put n puts' ≡ true → (is_whole n x.list ≡ true) ⊎ (is_put n puts ≡ true)) → x.list ≡ Macro id → IsHeld id held puts → Tied number all_lists held puts' lists
     macro_put id x puts' more e own = put_held x puts' more (macro_held id x.list e own)
 
     -- a list of its own
-    own_put : (ts : List Token) (x : Put) (puts' : List Put) → ((n : ℕ) → is_put n puts' ≡ true → (is_whole n x.list ≡ true) ⊎ (is_put n puts ≡ true)) → x.list ≡ Own ts → Tied number macros held puts' lists
+    own_put : (ts : List Token) (x : Put) (puts' : List Put) → ((n : ℕ) → is_put n puts' ≡ true → (is_whole n x.list ≡ true) ⊎ (is_put n puts ≡ true)) → x.list ≡ Own ts → Tied number all_lists held puts' lists
     own_put ts x puts' more e = put_held x puts' more (own_held ts x.list e)
 
   -- over all that is pending
-  module _ (held : List ℕ) (p : Pending) (lists : List (List Token)) (t : Tied number macros held (all_puts p) lists) where
-    pub tied_settled : Tied number macros held (all_puts (settle p)) lists
-    tied_settled = tied_puts held (all_puts p) lists t (all_puts (settle p)) (λ n h. put_settle n p h)
+  module _ (held : List ℕ) (p : Pending) (lists : List (List Token)) (t : Tied number all_lists held (all_puts p) lists) where
+    pub tied_settled : Tied number all_lists held (all_puts (end_token_lists p)) lists
+    tied_settled = tied_puts held (all_puts p) lists t (all_puts (end_token_lists p)) (λ n h. put_settle n p h)
 
-    pub tied_put : (id : ℕ) (x : Put) → x.list ≡ Macro id → IsHeld id held (all_puts p) → Tied number macros held (all_puts (put_front x p)) lists
+    pub tied_put : (id : ℕ) (x : Put) → x.list ≡ Macro id → IsHeld id held (all_puts p) → Tied number all_lists held (all_puts (put_front x p)) lists
     tied_put id x e own = macro_put held (all_puts p) lists t id x (all_puts (put_front x p)) (λ n h. put_put_front n x p h) e own
 
-    pub tied_own : (ts : List Token) (x : Put) → x.list ≡ Own ts → Tied number macros held (all_puts (put_front x p)) lists
+    pub tied_own : (ts : List Token) (x : Put) → x.list ≡ Own ts → Tied number all_lists held (all_puts (put_front x p)) lists
     tied_own ts x e = own_put held (all_puts p) lists t ts x (all_puts (put_front x p)) (λ n h. put_put_front n x p h) e
 
-    pub tied_pulled : (categories : List ℕ) → Tied number macros held (all_puts (after_pull p (pulled categories p))) lists
+    pub tied_pulled : (categories : List ℕ) → Tied number all_lists held (all_puts (after_pull p (pulled categories p))) lists
     tied_pulled categories = tied_puts held (all_puts p) lists t (all_puts (after_pull p (pulled categories p))) (λ n h. put_pulled n p categories h)
 
     -- a file that was opened is begun
-    pub tied_begun : Tied number macros held (all_puts (with_begun p)) lists
+    pub tied_begun : Tied number all_lists held (all_puts (with_begun p)) lists
     tied_begun = tied_puts held (all_puts p) lists t (all_puts (with_begun p)) (λ n h. put_with_begun n p h)
 
 -- A MACRO IS DEFINED, and a location gets a list
@@ -247,64 +247,64 @@ held_defined global g puts name long outer id n h =
 pub held_listed : (global : Bool) (g : Groups) (puts : List Put) (l : Loc) (id n : ℕ) → IsHeld n (lists_held (set global g l (val.Tokens (Some id)))) puts → (n ≡ id) ⊎ IsHeld n (lists_held g) puts
 held_listed global g puts l id n h = listed_then (lists_held g) (lists_held (set global g l (val.Tokens (Some id)))) puts id n (set_cases n global g l (val.Tokens (Some id))) h
 
-module _ (number : ℕ → ℕ) (macros : List (List Token)) (held after : List ℕ) (puts : List Put) (lists lists' : List (List Token)) (id : ℕ) (ts : List Token) (cases : (n : ℕ) → IsHeld n after puts → (n ≡ id) ⊎ IsHeld n held puts) where
+module _ (number : ℕ → ℕ) (all_lists : List (List Token)) (held after : List ℕ) (puts : List Put) (lists lists' : List (List Token)) (id : ℕ) (ts : List Token) (cases : (n : ℕ) → IsHeld n after puts → (n ≡ id) ⊎ IsHeld n held puts) where
   abbrev numbered : ℕ → ℕ
-  numbered = renumbered number id (length macros)
+  numbered = renumbered number id (length all_lists)
 
-  module _ (t : Tied number macros held puts lists) (there : id < length lists') (longer : length lists ≤ length lists') (here : slice_index_or lists' id [] ≡ ts) (kept : (n : ℕ) → (n ≡ id → ⊥) → IsHeld n after puts → slice_index_or lists' n [] ≡ slice_index_or lists n []) where
+  module _ (t : Tied number all_lists held puts lists) (there : id < length lists') (longer : length lists ≤ length lists') (here : slice_index_or lists' id [] ≡ ts) (kept : (n : ℕ) → (n ≡ id → ⊥) → IsHeld n after puts → slice_index_or lists' n [] ≡ slice_index_or lists n []) where
     old : (n : ℕ) → (n ≡ id → ⊥) → IsHeld n after puts → IsHeld n held puts
     old n other h = ⊎_elim (λ e. absurd (other e)) (λ a. a) (cases n h)
 
-    old_within : (n : ℕ) → (n ≡ id → ⊥) → IsHeld n after puts → numbered n < length macros
+    old_within : (n : ℕ) → (n ≡ id → ⊥) → IsHeld n after puts → numbered n < length all_lists
     old_within n other h =
-        let e : numbered n ≡ number n = other_number number id (length macros) n other in
-        let l : number n < length macros = t.within n (old n other h) in
+        let e : numbered n ≡ number n = other_number number id (length all_lists) n other in
+        let l : number n < length all_lists = t.within n (old n other h) in
         omega arith
 
     inside_then : (n : ℕ) → IsHeld n after puts → (n ≡ id) ⊎ (n ≡ id → ⊥) → n < length lists'
     inside_then n h (inl e) = omega arith
     inside_then n h (inr other) = let l : n < length lists = t.inside n (old n other h) in omega arith
 
-    longer_macros : length (macros ++ ts ∷ []) ≡ suc (length macros)
-    longer_macros = length-append macros (ts ∷ []) ∙ omega arith
+    longer_macros : length (all_lists ++ ts ∷ []) ≡ suc (length all_lists)
+    longer_macros = length-append all_lists (ts ∷ []) ∙ omega arith
 
-    within_then : (n : ℕ) → IsHeld n after puts → (n ≡ id) ⊎ (n ≡ id → ⊥) → numbered n < length (macros ++ ts ∷ [])
-    within_then n h (inl same) = let e : numbered n ≡ length macros = new_number number id (length macros) n same in omega (arith, longer_macros)
-    within_then n h (inr other) = let l : numbered n < length macros = old_within n other h in omega (arith, longer_macros)
+    within_then : (n : ℕ) → IsHeld n after puts → (n ≡ id) ⊎ (n ≡ id → ⊥) → numbered n < length (all_lists ++ ts ∷ [])
+    within_then n h (inl same) = let e : numbered n ≡ length all_lists = new_number number id (length all_lists) n same in omega (arith, longer_macros)
+    within_then n h (inr other) = let l : numbered n < length all_lists = old_within n other h in omega (arith, longer_macros)
 
-    tokens_then : (n : ℕ) → IsHeld n after puts → (n ≡ id) ⊎ (n ≡ id → ⊥) → slice_index_or (macros ++ ts ∷ []) (numbered n) [] ≡ slice_index_or lists' n []
+    tokens_then : (n : ℕ) → IsHeld n after puts → (n ≡ id) ⊎ (n ≡ id → ⊥) → slice_index_or (all_lists ++ ts ∷ []) (numbered n) [] ≡ slice_index_or lists' n []
     tokens_then n h (inl same) =
-        let e : numbered n ≡ length macros = new_number number id (length macros) n same in
-        let last : slice_index_or (macros ++ ts ∷ []) (numbered n) [] ≡ ts = get_or_at macros ts [] [] (numbered n) (omega arith) in
+        let e : numbered n ≡ length all_lists = new_number number id (length all_lists) n same in
+        let last : slice_index_or (all_lists ++ ts ∷ []) (numbered n) [] ≡ ts = get_or_at all_lists ts [] [] (numbered n) (omega arith) in
         let place : slice_index_or lists' n [] ≡ slice_index_or lists' id [] = ap (λ (k : ℕ). slice_index_or lists' k []) same in
         cc
     tokens_then n h (inr other) =
-        let l : numbered n < length macros = old_within n other h in
-        let left : slice_index_or (macros ++ ts ∷ []) (numbered n) [] ≡ slice_index_or macros (numbered n) [] = get_or_append_left macros (ts ∷ []) [] (numbered n) l in
-        let e : numbered n ≡ number n = other_number number id (length macros) n other in
-        let place : slice_index_or macros (numbered n) [] ≡ slice_index_or macros (number n) [] = ap (λ (k : ℕ). slice_index_or macros k []) e in
-        let was : slice_index_or macros (number n) [] ≡ slice_index_or lists n [] = t.tokens n (old n other h) in
+        let l : numbered n < length all_lists = old_within n other h in
+        let left : slice_index_or (all_lists ++ ts ∷ []) (numbered n) [] ≡ slice_index_or all_lists (numbered n) [] = get_or_append_left all_lists (ts ∷ []) [] (numbered n) l in
+        let e : numbered n ≡ number n = other_number number id (length all_lists) n other in
+        let place : slice_index_or all_lists (numbered n) [] ≡ slice_index_or all_lists (number n) [] = ap (λ (k : ℕ). slice_index_or all_lists k []) e in
+        let was : slice_index_or all_lists (number n) [] ≡ slice_index_or lists n [] = t.tokens n (old n other h) in
         let stays : slice_index_or lists' n [] ≡ slice_index_or lists n [] = kept n other h in
         cc
 
     apart_then : (n m : ℕ) → IsHeld n after puts → IsHeld m after puts → numbered n ≡ numbered m → (n ≡ id) ⊎ (n ≡ id → ⊥) → (m ≡ id) ⊎ (m ≡ id → ⊥) → n ≡ m
     apart_then n m h i e (inl a) (inl b) = omega arith
     apart_then n m h i e (inl a) (inr b) =
-        let f : numbered n ≡ length macros = new_number number id (length macros) n a in
-        let l : numbered m < length macros = old_within m b i in
+        let f : numbered n ≡ length all_lists = new_number number id (length all_lists) n a in
+        let l : numbered m < length all_lists = old_within m b i in
         omega arith
     apart_then n m h i e (inr a) (inl b) =
-        let f : numbered m ≡ length macros = new_number number id (length macros) m b in
-        let l : numbered n < length macros = old_within n a h in
+        let f : numbered m ≡ length all_lists = new_number number id (length all_lists) m b in
+        let l : numbered n < length all_lists = old_within n a h in
         omega arith
     apart_then n m h i e (inr a) (inr b) =
-        let f : numbered n ≡ number n = other_number number id (length macros) n a in
-        let g : numbered m ≡ number m = other_number number id (length macros) m b in
+        let f : numbered n ≡ number n = other_number number id (length all_lists) n a in
+        let g : numbered m ≡ number m = other_number number id (length all_lists) m b in
         let same : number n ≡ number m = omega arith in
         t.apart n m (old n a h) (old m b i) same
 
     -- the new list has the next number
-    tied_more : Tied numbered (macros ++ ts ∷ []) after puts lists'
+    tied_more : Tied numbered (all_lists ++ ts ∷ []) after puts lists'
     tied_more = record {
       inside = λ n h. inside_then n h (cases_eq n id);
       within = λ n h. within_then n h (cases_eq n id);
@@ -312,20 +312,20 @@ module _ (number : ℕ → ℕ) (macros : List (List Token)) (held after : List 
       apart = λ n m h i e. apart_then n m h i e (cases_eq n id) (cases_eq m id);
     }
 
-module _ (number : ℕ → ℕ) (macros : List (List Token)) (global : Bool) (g : Groups) (puts : List Put) (lists lists' : List (List Token)) where
+module _ (number : ℕ → ℕ) (all_lists : List (List Token)) (global : Bool) (g : Groups) (puts : List Put) (lists lists' : List (List Token)) where
   -- of the macro that a name becomes
-  pub tied_defined : (name : Name) (long outer : Bool) (id : ℕ) (ts : List Token) → Tied number macros (lists_held g) puts lists → id < length lists' → length lists ≤ length lists' → slice_index_or lists' id [] ≡ ts →
+  pub tied_defined : (name : Name) (long outer : Bool) (id : ℕ) (ts : List Token) → Tied number all_lists (lists_held g) puts lists → id < length lists' → length lists ≤ length lists' → slice_index_or lists' id [] ≡ ts →
       ((n : ℕ) → (n ≡ id → ⊥) → IsHeld n (lists_held (set_name global g name (means.Macro long outer (Some id)))) puts → slice_index_or lists' n [] ≡ slice_index_or lists n []) →
-      Tied (renumbered number id (length macros)) (macros ++ ts ∷ []) (lists_held (set_name global g name (means.Macro long outer (Some id)))) puts lists'
+      Tied (renumbered number id (length all_lists)) (all_lists ++ ts ∷ []) (lists_held (set_name global g name (means.Macro long outer (Some id)))) puts lists'
   tied_defined name long outer id ts t there longer here kept =
-      tied_more number macros (lists_held g) (lists_held (set_name global g name (means.Macro long outer (Some id)))) puts lists lists' id ts (held_defined global g puts name long outer id) t there longer here kept
+      tied_more number all_lists (lists_held g) (lists_held (set_name global g name (means.Macro long outer (Some id)))) puts lists lists' id ts (held_defined global g puts name long outer id) t there longer here kept
 
   -- and of a location
-  pub tied_listed : (l : Loc) (id : ℕ) (ts : List Token) → Tied number macros (lists_held g) puts lists → id < length lists' → length lists ≤ length lists' → slice_index_or lists' id [] ≡ ts →
+  pub tied_listed : (l : Loc) (id : ℕ) (ts : List Token) → Tied number all_lists (lists_held g) puts lists → id < length lists' → length lists ≤ length lists' → slice_index_or lists' id [] ≡ ts →
       ((n : ℕ) → (n ≡ id → ⊥) → IsHeld n (lists_held (set global g l (val.Tokens (Some id)))) puts → slice_index_or lists' n [] ≡ slice_index_or lists n []) →
-      Tied (renumbered number id (length macros)) (macros ++ ts ∷ []) (lists_held (set global g l (val.Tokens (Some id)))) puts lists'
+      Tied (renumbered number id (length all_lists)) (all_lists ++ ts ∷ []) (lists_held (set global g l (val.Tokens (Some id)))) puts lists'
   tied_listed l id ts t there longer here kept =
-      tied_more number macros (lists_held g) (lists_held (set global g l (val.Tokens (Some id)))) puts lists lists' id ts (held_listed global g puts l id) t there longer here kept
+      tied_more number all_lists (lists_held g) (lists_held (set global g l (val.Tokens (Some id)))) puts lists lists' id ts (held_listed global g puts l id) t there longer here kept
 
 -- A NAME MEANS WHAT ANOTHER TOKEN MEANS
 
@@ -366,47 +366,47 @@ module _ (n : ℕ) where
   pub held_assigned : (global : Bool) (g : Groups) (puts : List Put) (name : Name) (m : Meaning (Option ℕ)) → (is_number n (list_of m) ≡ true → is_listed (lists_held g) n ≡ true) → IsHeld n (lists_held (set_name global g name m)) puts → IsHeld n (lists_held g) puts
   held_assigned global g puts name m given h = held_more n (lists_held (set_name global g name m)) (lists_held g) puts puts (λ a. ⊎_elim given (λ b. b) (name_cases n global g name m a)) (λ a. a) h
 
-module _ (number : ℕ → ℕ) (macros : List (List Token)) (g : Groups) (puts : List Put) (lists : List (List Token)) (t : Tied number macros (lists_held g) puts lists) where
+module _ (number : ℕ → ℕ) (all_lists : List (List Token)) (g : Groups) (puts : List Put) (lists : List (List Token)) (t : Tied number all_lists (lists_held g) puts lists) where
   -- a list is shared: no number is new
-  pub tied_set : (global : Bool) (l : Loc) (v : V) → ((n : ℕ) → is_number n (value_list v) ≡ true → is_listed (lists_held g) n ≡ true) → Tied number macros (lists_held (set global g l v)) puts lists
-  tied_set global l v given = tied_fewer number macros (lists_held g) puts lists t (lists_held (set global g l v)) puts (λ n h. held_set n global g puts l v (given n) h)
+  pub tied_set : (global : Bool) (l : Loc) (v : V) → ((n : ℕ) → is_number n (value_list v) ≡ true → is_listed (lists_held g) n ≡ true) → Tied number all_lists (lists_held (set global g l v)) puts lists
+  tied_set global l v given = tied_fewer number all_lists (lists_held g) puts lists t (lists_held (set global g l v)) puts (λ n h. held_set n global g puts l v (given n) h)
 
-  pub tied_assigned : (global : Bool) (name : Name) (m : Meaning (Option ℕ)) → ((n : ℕ) → is_number n (list_of m) ≡ true → is_listed (lists_held g) n ≡ true) → Tied number macros (lists_held (set_name global g name m)) puts lists
-  tied_assigned global name m given = tied_fewer number macros (lists_held g) puts lists t (lists_held (set_name global g name m)) puts (λ n h. held_assigned n global g puts name m (given n) h)
+  pub tied_assigned : (global : Bool) (name : Name) (m : Meaning (Option ℕ)) → ((n : ℕ) → is_number n (list_of m) ≡ true → is_listed (lists_held g) n ≡ true) → Tied number all_lists (lists_held (set_name global g name m)) puts lists
+  tied_assigned global name m given = tied_fewer number all_lists (lists_held g) puts lists t (lists_held (set_name global g name m)) puts (λ n h. held_assigned n global g puts name m (given n) h)
 
-  pub tied_number : (global : Bool) (l : Loc) (k : ℤ) → Tied number macros (lists_held (set global g l (val.Number k))) puts lists
+  pub tied_number : (global : Bool) (l : Loc) (k : ℤ) → Tied number all_lists (lists_held (set global g l (val.Number k))) puts lists
   tied_number global l k = tied_set global l (val.Number k) (λ n h. cc)
 
   -- what stands at another location
-  pub tied_shared : (global : Bool) (l m : Loc) → Tied number macros (lists_held (set global g l (get g.now m))) puts lists
+  pub tied_shared : (global : Bool) (l m : Loc) → Tied number all_lists (lists_held (set global g l (get g.now m))) puts lists
   tied_shared global l m = tied_set global l (get g.now m) (λ n h. value_is_held n g m h)
 
-  pub tied_let : (global : Bool) (name : Name) (x : Seen) → Tied number macros (lists_held (set_name global g name (meaning_to_let g.now.meanings x))) puts lists
+  pub tied_let : (global : Bool) (name : Name) (x : Seen) → Tied number all_lists (lists_held (set_name global g name (meaning_to_let g.now.meanings x))) puts lists
   tied_let global name x = tied_assigned global name (meaning_to_let g.now.meanings x) (λ n h. name_held n g (given_meant n g.now.meanings x h))
 
-  pub tied_primitive : (global : Bool) (name : Name) (k : ℕ) → Tied number macros (lists_held (set_name global g name (means.Prim k))) puts lists
+  pub tied_primitive : (global : Bool) (name : Name) (k : ℕ) → Tied number all_lists (lists_held (set_name global g name (means.Prim k))) puts lists
   tied_primitive global name k = tied_assigned global name (means.Prim k) (λ n h. cc)
 
-  pub tied_entered : Tied number macros (lists_held (entered g)) puts lists
-  tied_entered = subst (λ (held : List ℕ). Tied number macros held puts lists) (sym (entered_lists g)) t
+  pub tied_entered : Tied number all_lists (lists_held (entered g)) puts lists
+  tied_entered = subst (λ (held : List ℕ). Tied number all_lists held puts lists) (sym (entered_lists g)) t
 
   -- A group that is opened, and a token that is kept for its end, change no holder.
-  pub tied_opened : (kind : GroupKind) → Tied number macros (lists_held (opened g kind)) puts lists
+  pub tied_opened : (kind : GroupKind) → Tied number all_lists (lists_held (opened g kind)) puts lists
   tied_opened kind = t
 
-  pub tied_with_token : (x : Token) → Tied number macros (lists_held (with_token g x)) puts lists
+  pub tied_with_token : (x : Token) → Tied number all_lists (lists_held (with_token g x)) puts lists
   tied_with_token x = t
 
   -- Behind a group's end no more is held, where each list of the maps outside was held.
-  pub tied_closed : OutsideIsHeld g → Tied number macros (lists_held (closed g)) puts lists
-  tied_closed outside = tied_fewer number macros (lists_held g) puts lists t (lists_held (closed g)) puts (λ n h. held_more n (lists_held (closed g)) (lists_held g) puts puts (closed_held n g outside) (λ a. a) h)
+  pub tied_closed : OutsideIsHeld g → Tied number all_lists (lists_held (closed g)) puts lists
+  tied_closed outside = tied_fewer number all_lists (lists_held g) puts lists t (lists_held (closed g)) puts (λ n h. held_more n (lists_held (closed g)) (lists_held g) puts puts (closed_held n g outside) (λ a. a) h)
 
-module _ (number : ℕ → ℕ) (macros : List (List Token)) (held : List ℕ) (puts : List Put) (lists : List (List Token)) (t : Tied number macros held puts lists) where
+module _ (number : ℕ → ℕ) (all_lists : List (List Token)) (held : List ℕ) (puts : List Put) (lists : List (List Token)) (t : Tied number all_lists held puts lists) where
   -- the lists of what is held stay, each of which has a token
-  pub tied_stayed : (lists' : List (List Token)) → ((k : ℕ) → k < length macros → slice_index_or macros k [] ≡ [] → ⊥) → ((n : ℕ) → IsHeld n held puts → slice_index_or lists' n [] ≡ slice_index_or lists n []) →
-      Tied number macros held puts lists'
+  pub tied_stayed : (lists' : List (List Token)) → ((k : ℕ) → k < length all_lists → slice_index_or all_lists k [] ≡ [] → ⊥) → ((n : ℕ) → IsHeld n held puts → slice_index_or lists' n [] ≡ slice_index_or lists n []) →
+      Tied number all_lists held puts lists'
   tied_stayed lists' some stays = record { inside = λ n h. inside_then n h (cases_lt n (length lists')); within = t.within; tokens = tokens_then; apart = t.apart } where
-    tokens_then : (n : ℕ) → IsHeld n held puts → slice_index_or macros (number n) [] ≡ slice_index_or lists' n []
+    tokens_then : (n : ℕ) → IsHeld n held puts → slice_index_or all_lists (number n) [] ≡ slice_index_or lists' n []
     tokens_then n h = t.tokens n h ∙ sym (stays n h)
 
     inside_then : (n : ℕ) → IsHeld n held puts → (n < length lists') ⊎ (length lists' ≤ n) → n < length lists'
@@ -415,16 +415,16 @@ module _ (number : ℕ → ℕ) (macros : List (List Token)) (held : List ℕ) (
 
 -- WHAT IS SHOWN OF A MEANING
 
-module _ (number : ℕ → ℕ) (macros : List (List Token)) (g : Groups) (puts : List Put) (lists : List (List Token)) (t : Tied number macros (lists_held g) puts lists) where
-  macro_tokens_tied : (o : Option ℕ) → ((n : ℕ) → is_number n o ≡ true → IsHeld n (lists_held g) puts) → macro_tokens macros (number_of number o) ≡ macro_tokens lists o
+module _ (number : ℕ → ℕ) (all_lists : List (List Token)) (g : Groups) (puts : List Put) (lists : List (List Token)) (t : Tied number all_lists (lists_held g) puts lists) where
+  macro_tokens_tied : (o : Option ℕ) → ((n : ℕ) → is_number n o ≡ true → IsHeld n (lists_held g) puts) → shared_tokens all_lists (number_of_list number o) ≡ shared_tokens lists o
   macro_tokens_tied None held = refl
   macro_tokens_tied (Some k) held = t.tokens k (held k (eq-eqb k k refl))
 
-  tokens_tied : (m : Meaning (Option ℕ)) → ((n : ℕ) → is_number n (list_of m) ≡ true → IsHeld n (lists_held g) puts) → meaning_tokens (macro_tokens macros) (meaning_of number m) ≡ meaning_tokens (macro_tokens lists) m
+  tokens_tied : (m : Meaning (Option ℕ)) → ((n : ℕ) → is_number n (list_of m) ≡ true → IsHeld n (lists_held g) puts) → meaning_tokens (shared_tokens all_lists) (meaning_of number m) ≡ meaning_tokens (shared_tokens lists) m
   tokens_tied (means.Macro long outer list) held = macro_tokens_tied list held
   tokens_tied m held = refl
 
-  text_tied : (style : Style) (m : Meaning (Option ℕ)) → ((n : ℕ) → is_number n (list_of m) ≡ true → IsHeld n (lists_held g) puts) → meaning_text style (macro_tokens macros) (meaning_of number m) ≡ meaning_text style (macro_tokens lists) m
+  text_tied : (style : Style) (m : Meaning (Option ℕ)) → ((n : ℕ) → is_number n (list_of m) ≡ true → IsHeld n (lists_held g) puts) → meaning_text style (shared_tokens all_lists) (meaning_of number m) ≡ meaning_text style (shared_tokens lists) m
   text_tied style (means.Macro long outer list) held = ap (λ (ts : List Token). meaning_head style (means.Macro long outer list) ++ list_text style ts) (macro_tokens_tied list held)
   text_tied style m held = refl
 
@@ -432,16 +432,16 @@ module _ (number : ℕ → ℕ) (macros : List (List Token)) (g : Groups) (puts 
   given_held x n h = or_left (is_listed (lists_held g) n) (is_put n puts) (name_held n g (given_meant n g.now.meanings x h))
 
   -- by `\meaning`
-  pub text_let : (style : Style) (x : Seen) → meaning_text style (macro_tokens macros) (meaning_to_let (meanings_of number g.now.meanings) x) ≡ meaning_text style (macro_tokens lists) (meaning_to_let g.now.meanings x)
-  text_let style x = ap (meaning_text style (macro_tokens macros)) (meaning_to_let_of number g.now.meanings x) ∙ text_tied style (meaning_to_let g.now.meanings x) (given_held x)
+  pub text_let : (style : Style) (x : Seen) → meaning_text style (shared_tokens all_lists) (meaning_to_let (meanings_of number g.now.meanings) x) ≡ meaning_text style (shared_tokens lists) (meaning_to_let g.now.meanings x)
+  text_let style x = ap (meaning_text style (shared_tokens all_lists)) (meaning_to_let_of number g.now.meanings x) ∙ text_tied style (meaning_to_let g.now.meanings x) (given_held x)
 
   -- by `\show`
-  pub tokens_let : (x : Seen) → meaning_tokens (macro_tokens macros) (meaning_to_let (meanings_of number g.now.meanings) x) ≡ meaning_tokens (macro_tokens lists) (meaning_to_let g.now.meanings x)
-  tokens_let x = ap (meaning_tokens (macro_tokens macros)) (meaning_to_let_of number g.now.meanings x) ∙ tokens_tied (meaning_to_let g.now.meanings x) (given_held x)
+  pub tokens_let : (x : Seen) → meaning_tokens (shared_tokens all_lists) (meaning_to_let (meanings_of number g.now.meanings) x) ≡ meaning_tokens (shared_tokens lists) (meaning_to_let g.now.meanings x)
+  tokens_let x = ap (meaning_tokens (shared_tokens all_lists)) (meaning_to_let_of number g.now.meanings x) ∙ tokens_tied (meaning_to_let g.now.meanings x) (given_held x)
 
   pub standing_held : (l : Loc) (n : ℕ) → is_number n (tokens_of (get g.now l)) ≡ true → IsHeld n (lists_held g) puts
   standing_held l n h = or_left (is_listed (lists_held g) n) (is_put n puts) (standing_is_held n g l h)
 
   -- the list that stands at a location
-  pub standing_tied : (l : Loc) → macro_tokens macros (tokens_of (get (tables_of number g.now) l)) ≡ macro_tokens lists (tokens_of (get g.now l))
-  standing_tied l = ap (macro_tokens macros) (ap tokens_of (get_of number g.now l) ∙ tokens_as number (get g.now l)) ∙ macro_tokens_tied (tokens_of (get g.now l)) (standing_held l)
+  pub standing_tied : (l : Loc) → shared_tokens all_lists (tokens_of (get (tables_of number g.now) l)) ≡ shared_tokens lists (tokens_of (get g.now l))
+  standing_tied l = ap (shared_tokens all_lists) (ap tokens_of (get_of number g.now l) ∙ tokens_as number (get g.now l)) ∙ macro_tokens_tied (tokens_of (get g.now l)) (standing_held l)

@@ -15,7 +15,7 @@ use Rattle.plain_machine.specs.States.{Move, Handed, Taken, FirstTaken, FileOpen
 
 -- the words of main memory that are used
 abbrev pub words : State → ℕ
-words s = shared_words 0 (lists_held s.groups) (all_puts s.pending) s.macros + held_words (all_puts s.pending) s.making s.gathered
+words s = shared_words 0 (lists_held s.groups) (all_puts s.pending) s.all_lists + held_words (all_puts s.pending) s.making s.gathered
 
 -- one reading more
 abbrev pub depth : List Reading → Demand

@@ -3,7 +3,7 @@ use Rattle.std.specs.Prelude.{◌≡◌, ℕ, ◌+◌, ◌≤◌, List, [], ◌�
 use Rattle.tex_defs.specs.Places.{World, Rose}
 use Rattle.tex_defs.specs.declared.Full.{Full}
 use Rattle.tex_defs.specs.declared.Sizes.{Sizes}
-use Rattle.plain_machine.specs.States.{State, Move, Written, Settled, Taken, FirstTaken, FileClosed, FileOpened}
+use Rattle.plain_machine.specs.States.{State, Move, Written, ListsEnded, Taken, FirstTaken, FileClosed, FileOpened}
 use Rattle.plain_machine.specs.Demands.{refusal}
 use Rattle.plain_machine.specs.Plan.{Goes, next, plan}
 use Rattle.plain_machine.specs.Runs.{Wrote, made_all, steps, step_of}
@@ -82,7 +82,7 @@ IsOfFile m = ⊥
 
 -- the moves of a rule that begins with the file's next reading, or with the first line of a file that was opened
 abbrev pub ReadsFile : List Move → Type 0
-ReadsFile (Settled ∷ m ∷ ms) = IsOfFile m
+ReadsFile (ListsEnded ∷ m ∷ ms) = IsOfFile m
 ReadsFile ms = ⊥
 
 -- Something of the files is needed at a moment t. It is a file's next bytes: nothing is due, and the next rule begins with the file's next

@@ -7,7 +7,7 @@ use Rattle.plain_tokens.specs.Pending.{Pending, Source, Progress, Begun, Closed,
 use Rattle.rows.specs.declared.command.Effect.TheVariants as effect
 use Rattle.rows.specs.Readings.{Ask, ActsOn}
 use Rattle.plain_readings.specs.Readings.{Reading, ask}
-use Rattle.plain_machine.specs.States.{State, Files, Move, Handed, Taken, FirstTaken, Settled, Skipped, FileClosed, FileOpened, made}
+use Rattle.plain_machine.specs.States.{State, Files, Move, Handed, Taken, FirstTaken, ListsEnded, Skipped, FileClosed, FileOpened, made}
 use Rattle.plain_machine.specs.Demands.{refusal}
 use Rattle.plain_machine.specs.Plan.{planned, ruled}
 use Rattle.plain_machine.specs.Runs.{steps}
@@ -59,7 +59,7 @@ extended r s = record s { pending = extended_pending r.left s.pending; files = r
 
 -- the innermost file goes by this rule
 abbrev pub closes : List Move → Bool
-closes (Settled ∷ FileClosed ∷ ms) = true
+closes (ListsEnded ∷ FileClosed ∷ ms) = true
 closes ms = false
 
 -- What was left before the moves of a rule, where this is left behind them: a file that went had some bytes left.

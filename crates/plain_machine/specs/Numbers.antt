@@ -18,14 +18,14 @@ use Rattle.equivalents.specs.Tables.{Tables, get}
 use Rattle.equivalents.specs.Groups.{Groups, set, set_name, entered, opened, closed, with_token, depth, kind_of, tokens_after, saves, set_demands, name_demands, group_demands, token_demands}
 use Rattle.equivalents.specs.Holding.{lists_held, shared_words}
 use Rattle.plain_tokens.specs.Printed.{Style, meaning_text, meaning_tokens}
-use Rattle.plain_machine.specs.Plan.{macro_tokens}
+use Rattle.plain_machine.specs.Plan.{shared_tokens}
 
-abbrev pub number_of : (ℕ → ℕ) → Option ℕ → Option ℕ
-number_of number None = None
-number_of number (Some n) = Some (number n)
+abbrev pub number_of_list : (ℕ → ℕ) → Option ℕ → Option ℕ
+number_of_list number None = None
+number_of_list number (Some n) = Some (number n)
 
 abbrev pub meaning_of : (ℕ → ℕ) → Meaning (Option ℕ) → Meaning (Option ℕ)
-meaning_of number (means.Macro long outer list) = means.Macro long outer (number_of number list)
+meaning_of number (means.Macro long outer list) = means.Macro long outer (number_of_list number list)
 meaning_of number m = m
 
 abbrev pub meanings_of : (ℕ → ℕ) → List (Meaning (Option ℕ)) → List (Meaning (Option ℕ))
@@ -33,11 +33,11 @@ meanings_of number cells = map (meaning_of number) cells
 
 abbrev pub value_of : (ℕ → ℕ) → V → V
 value_of number (val.Meant m) = val.Meant (meaning_of number m)
-value_of number (val.Tokens list) = val.Tokens (number_of number list)
+value_of number (val.Tokens list) = val.Tokens (number_of_list number list)
 value_of number v = v
 
 abbrev pub tables_of : (ℕ → ℕ) → Tables → Tables
-tables_of number m = record m { toks = map (number_of number) m.toks; parameters = map (number_of number) m.parameters; meanings = meanings_of number m.meanings }
+tables_of number m = record m { toks = map (number_of_list number) m.toks; parameters = map (number_of_list number) m.parameters; meanings = meanings_of number m.meanings }
 
 abbrev pub saved_of : (ℕ → ℕ) → Saved V → Saved V
 saved_of number e = record { loc = e.loc; value = value_of number e.value; level = e.level }
@@ -78,10 +78,10 @@ abbrev pub IsHeld : ℕ → (held : List ℕ) → List Put → Type 0
 IsHeld n held puts = (is_listed held n || is_put n puts) ≡ true
 
 -- Each macro that is held has its list under its other number, and no two have the same.
-pub record Tied (number : ℕ → ℕ) (macros : List (List Token)) (held : List ℕ) (puts : List Put) (lists : List (List Token)) : Type 0 where
+pub record Tied (number : ℕ → ℕ) (all_lists : List (List Token)) (held : List ℕ) (puts : List Put) (lists : List (List Token)) : Type 0 where
   pub inside : (n : ℕ) → IsHeld n held puts → n < length lists
-  pub within : (n : ℕ) → IsHeld n held puts → number n < length macros
-  pub tokens : (n : ℕ) → IsHeld n held puts → slice_index_or macros (number n) [] ≡ slice_index_or lists n []
+  pub within : (n : ℕ) → IsHeld n held puts → number n < length all_lists
+  pub tokens : (n : ℕ) → IsHeld n held puts → slice_index_or all_lists (number n) [] ≡ slice_index_or lists n []
   pub apart : (n m : ℕ) → IsHeld n held puts → IsHeld m held puts → number n ≡ number m → n ≡ m
 
 -- The numbers of lists are seen nowhere: not in what is read, nor in what names mean and what `\let` gives, nor in what is fetched from a
@@ -96,14 +96,14 @@ pub record NumbersAreFree : Type 0 where
   pub lets : (number : ℕ → ℕ) (cells : List (Meaning (Option ℕ))) (x : Seen) → meaning_to_let (meanings_of number cells) x ≡ meaning_of number (meaning_to_let cells x)
   pub stands : (number : ℕ → ℕ) (m : Tables) (l : Loc) → get (tables_of number m) l ≡ value_of number (get m l)
   pub fetches : (number : ℕ → ℕ) (m : Tables) (l : Loc) → value_seen (get (tables_of number m) l) ≡ value_seen (get m l)
-  pub texts : (number : ℕ → ℕ) (macros : List (List Token)) (g : Groups) (puts : List Put) (lists : List (List Token)) →
-      Tied number macros (lists_held g) puts lists → (style : Style) (x : Seen) → meaning_text style (macro_tokens macros) (meaning_to_let (meanings_of number g.now.meanings) x) ≡ meaning_text style (macro_tokens lists) (meaning_to_let g.now.meanings x)
-  pub shows : (number : ℕ → ℕ) (macros : List (List Token)) (g : Groups) (puts : List Put) (lists : List (List Token)) →
-      Tied number macros (lists_held g) puts lists → (x : Seen) → meaning_tokens (macro_tokens macros) (meaning_to_let (meanings_of number g.now.meanings) x) ≡ meaning_tokens (macro_tokens lists) (meaning_to_let g.now.meanings x)
-  pub lists : (number : ℕ → ℕ) (macros : List (List Token)) (g : Groups) (puts : List Put) (lists : List (List Token)) →
-      Tied number macros (lists_held g) puts lists → (l : Loc) → macro_tokens macros (tokens_of (get (tables_of number g.now) l)) ≡ macro_tokens lists (tokens_of (get g.now l))
-  pub words : (number : ℕ → ℕ) (macros : List (List Token)) (g : Groups) (puts : List Put) (lists : List (List Token)) →
-      Tied number macros (lists_held g) puts lists → shared_words 0 (lists_held (groups_of number g)) (puts_of number puts) macros ≡ shared_words 0 (lists_held g) puts lists
+  pub texts : (number : ℕ → ℕ) (all_lists : List (List Token)) (g : Groups) (puts : List Put) (lists : List (List Token)) →
+      Tied number all_lists (lists_held g) puts lists → (style : Style) (x : Seen) → meaning_text style (shared_tokens all_lists) (meaning_to_let (meanings_of number g.now.meanings) x) ≡ meaning_text style (shared_tokens lists) (meaning_to_let g.now.meanings x)
+  pub shows : (number : ℕ → ℕ) (all_lists : List (List Token)) (g : Groups) (puts : List Put) (lists : List (List Token)) →
+      Tied number all_lists (lists_held g) puts lists → (x : Seen) → meaning_tokens (shared_tokens all_lists) (meaning_to_let (meanings_of number g.now.meanings) x) ≡ meaning_tokens (shared_tokens lists) (meaning_to_let g.now.meanings x)
+  pub lists : (number : ℕ → ℕ) (all_lists : List (List Token)) (g : Groups) (puts : List Put) (lists : List (List Token)) →
+      Tied number all_lists (lists_held g) puts lists → (l : Loc) → shared_tokens all_lists (tokens_of (get (tables_of number g.now) l)) ≡ shared_tokens lists (tokens_of (get g.now l))
+  pub words : (number : ℕ → ℕ) (all_lists : List (List Token)) (g : Groups) (puts : List Put) (lists : List (List Token)) →
+      Tied number all_lists (lists_held g) puts lists → shared_words 0 (lists_held (groups_of number g)) (puts_of number puts) all_lists ≡ shared_words 0 (lists_held g) puts lists
   -- what is assigned, where a group is opened and closed, and where a token is kept for its end
   pub sets : (number : ℕ → ℕ) (global : Bool) (g : Groups) (l : Loc) (v : V) → set global (groups_of number g) l (value_of number v) ≡ groups_of number (set global g l v)
   pub names : (number : ℕ → ℕ) (global : Bool) (g : Groups) (n : Name) (m : Meaning (Option ℕ)) → set_name global (groups_of number g) n (meaning_of number m) ≡ groups_of number (set_name global g n m)

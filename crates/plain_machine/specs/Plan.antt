@@ -79,16 +79,16 @@ use Rattle.rows.specs.declared.command.Effect.TheVariants as effect
 use Rattle.rows.specs.Table.{has_row}
 use Rattle.rows.specs.Arithmetic.{value_computed}
 use Rattle.rows.specs.Internal.{value_text}
-use Rattle.rows.specs.Readings.{Fed, Tok, Told, Cut, Fetched, Entered, Ask, More, Inner, Done, Acts, ActsOn, Defines, Ends as Closes, Calls, Fails, RunsAway, Tells, Inserts, Puts, Relaxes, Fetches, Magnifies}
+use Rattle.rows.specs.Readings.{Fed, Tok, Told, Cut, Fetched, Verbatim, Ask, More, Inner, Done, Acts, ActsOn, Defines, Ends as Closes, Calls, Fails, RunsAway, Tells, Inserts, Puts, Relaxes, Fetches, Magnifies}
 use Rattle.plain_readings.specs.Calls.{gathered, par_token}
 use Rattle.plain_readings.specs.Spelling.{endcsname_primitive}
 use Rattle.plain_readings.specs.Readings.{Kind, Reads, Spelling, FileName, Arguments, Behind, Skips, Reading, ask, lists}
 use Rattle.plain_readings.specs.Scanning.{Scanning, Builds, SkippedText, scanning}
 use Rattle.equivalents.specs.Parameters.{integer_in, style_in}
-use Rattle.plain_machine.specs.States.{Move, Handed, Taken, FirstTaken, Settled, Skipped, FileClosed, FileEnds, FileOpened, Spelt, NameInProgress, Files, Entered, Kept, Grows, Feeds, Completed, Opened, ListBegun, ListGrown, Put, ListDropped, Called, CalledWith, Set, Assigned, Defined, ListSet, GroupOpened, GroupClosed, KeptForGroup, KeptForAssignment, MagnificationSet, ConditionOpened, LimitSet, ConditionClosed, Written, Begun, BegunWith, Ended, Closed, Reported, Flawed, Stopped, State, no_token, made}
+use Rattle.plain_machine.specs.States.{Move, Handed, Taken, FirstTaken, ListsEnded, Skipped, FileClosed, FileEnds, FileOpened, Spelt, NameInProgress, Files, Entered, Kept, Grows, Feeds, Completed, Opened, ListBegun, ListGrown, Put, ListDropped, Called, CalledWith, Set, Assigned, Defined, ListSet, GroupOpened, GroupClosed, KeptForGroup, KeptForAssignment, MagnificationSet, ConditionOpened, LimitSet, ConditionClosed, Written, Begun, BegunWith, Ended, Closed, Reported, Flawed, Stopped, State, no_token, made}
 
 -- What the moves of a rule depend on: what stands at all locations, how many groups are open, the kind of the innermost and the tokens that come after it
--- (the last first), the token that comes behind the next assignment, the magnification that is set for good, the open conditionals, the names entered, the job's name, the macros' lists, the token
+-- (the last first), the token that comes behind the next assignment, the magnification that is set for good, the open conditionals, the names entered, the job's name, all lists so far, the token
 -- that a reading was fed with last, whether a file's name is being read, whether the transcript's column isn't 0, the number of the line that is read, the reports so far, and
 -- whether token lines are left out.
 pub record Page : Type 0 where
@@ -101,7 +101,7 @@ pub record Page : Type 0 where
   pub conditionals : List Conditional
   pub names : List (List ℕ)
   pub strings : List (List ℕ)
-  pub macros : List (List Token)
+  pub all_lists : List (List Token)
   pub last : Seen
   pub naming : Bool
   pub in_line : Bool
@@ -120,7 +120,7 @@ page_of s = record {
   conditionals = s.conditionals;
   names = s.names;
   strings = s.strings;
-  macros = s.macros;
+  all_lists = s.all_lists;
   last = s.last;
   naming = s.naming;
   in_line = s.in_line;
@@ -179,7 +179,7 @@ token_line page m = if page.quiet then [] else Written Transcript (token_line_by
 
 -- a token put in front: the list of it is begun, grown and put, once the finished lists in front have gone
 abbrev pub put_one : Token → List Move
-put_one t = Settled ∷ ListBegun ∷ ListGrown t ∷ Put (t ∷ []) ∷ []
+put_one t = ListsEnded ∷ ListBegun ∷ ListGrown t ∷ Put (t ∷ []) ∷ []
 
 -- the list that was made is put; one without tokens goes
 abbrev pub put_made : List Token → List Move
@@ -188,7 +188,7 @@ put_made (t ∷ ts) = Put (t ∷ ts) ∷ []
 
 -- a text put in front
 abbrev pub put_text : List Token → List Move
-put_text ts = Settled ∷ ListBegun ∷ (map ListGrown ts ++ put_made ts)
+put_text ts = ListsEnded ∷ ListBegun ∷ (map ListGrown ts ++ put_made ts)
 
 abbrev pub put_characters : List ℕ → List Move
 put_characters characters = put_text (made_text characters)
@@ -198,7 +198,7 @@ put_characters characters = put_text (made_text characters)
 -- the body of a macro is put; one without items isn't, and nothing is asked for
 abbrev pub body_put : PutList → List Item → List Move
 body_put p [] = []
-body_put p (x ∷ xs) = Settled ∷ Called p ∷ []
+body_put p (x ∷ xs) = ListsEnded ∷ Called p ∷ []
 
 abbrev pub put_body : PutList → List Move
 put_body p = body_put p p.items
@@ -211,7 +211,7 @@ called_by name long number ts =
 
 abbrev pub called_list : Page → Name → (long : Bool) → Option ℕ → List Move
 called_list page name long None = []
-called_list page name long (Some number) = called_by name long number (slice_index_or page.macros number [])
+called_list page name long (Some number) = called_by name long number (slice_index_or page.all_lists number [])
 
 abbrev pub called_meaning : Page → Name → Meaning (Option ℕ) → List Move
 called_meaning page name (means.Macro long outer list) = called_list page name long list
@@ -509,14 +509,14 @@ entered (name ∷ names) = Entered name ∷ []
 
 -- The next token or line, and what is made of the token. A reading that enters names enters a new one behind the step.
 abbrev pub handed : Page → (enters : Bool) → Option Scanning → (onward : Seen → List Move) → Pulled → List Move
-handed page enters s onward (TokenFrom t p) = Settled ∷ Handed t ∷ met page s onward (met_token page.now.meanings t)
+handed page enters s onward (TokenFrom t p) = ListsEnded ∷ Handed t ∷ met page s onward (met_token page.now.meanings t)
 handed page enters s onward (LexemeFrom x p) =
-    Settled ∷ Handed (token_of enters page.names x)
+    ListsEnded ∷ Handed (token_of enters page.names x)
     ∷ (entered (new_name enters page.names x) ++ met page s onward (met_token page.now.meanings (token_of enters page.names x)))
-handed page enters s onward (LineTaken line p) = Settled ∷ Taken line ∷ []
-handed page enters s onward (InvalidMet p) = Settled ∷ Skipped ∷ reported page InvalidCharacter []
-handed page enters s onward (FileOver p) = Settled ∷ FileClosed ∷ checked (at_line p.number page) s
-handed page enters s onward NothingLeft = Settled ∷ no_end page
+handed page enters s onward (LineTaken line p) = ListsEnded ∷ Taken line ∷ []
+handed page enters s onward (InvalidMet p) = ListsEnded ∷ Skipped ∷ reported page InvalidCharacter []
+handed page enters s onward (FileOver p) = ListsEnded ∷ FileClosed ∷ checked (at_line p.number page) s
+handed page enters s onward NothingLeft = ListsEnded ∷ no_end page
 
 -- a raw reading enters names
 abbrev pub enters_names : Want → Bool
@@ -555,7 +555,7 @@ done page r v back = given_back back page.last ++ Ended v (value_tokens v (lists
 -- the arguments of a call are there: they pass to the body, which is put; one without items isn't
 abbrev pub arguments_put : PutList → List Item → List Move
 arguments_put p [] = Closed ∷ []
-arguments_put p (x ∷ xs) = Settled ∷ CalledWith p ∷ []
+arguments_put p (x ∷ xs) = ListsEnded ∷ CalledWith p ∷ []
 
 abbrev pub put_with : PutList → List Move
 put_with p = arguments_put p p.items
@@ -590,17 +590,17 @@ abbrev pub marked : Token → Token
 marked (token.Named n) = token.Marked n
 marked t = t
 
--- what names mean, with the macros' lists, and the lists of locations
-abbrev pub macro_tokens : List (List Token) → Option ℕ → List Token
-macro_tokens macros None = []
-macro_tokens macros (Some number) = slice_index_or macros number []
+-- what names mean, with the lists of macros, and the lists of locations
+abbrev pub shared_tokens : List (List Token) → Option ℕ → List Token
+shared_tokens all_lists None = []
+shared_tokens all_lists (Some number) = slice_index_or all_lists number []
 
 abbrev pub meaning_characters : Page → Seen → List ℕ
-meaning_characters page x = meaning_text (style_of page) (macro_tokens page.macros) (meaning_to_let page.now.meanings x)
+meaning_characters page x = meaning_text (style_of page) (shared_tokens page.all_lists) (meaning_to_let page.now.meanings x)
 
 -- the tokens of the macro that a token means, where it means one
 abbrev pub tokens_meant : Page → Seen → List Token
-tokens_meant page x = meaning_tokens (macro_tokens page.macros) (meaning_to_let page.now.meanings x)
+tokens_meant page x = meaning_tokens (shared_tokens page.all_lists) (meaning_to_let page.now.meanings x)
 
 -- `\show`: it makes the status 1
 abbrev pub shown : Page → Seen → List Move
@@ -618,7 +618,7 @@ value_shown page text ts = Written Transcript (shown_value_bytes (style_of page)
 
 -- of a location
 abbrev pub standing_shown : Page → Loc → List Move
-standing_shown page l = value_shown page (value_text l (value_seen (get page.now l))) (macro_tokens page.macros (list_number page l))
+standing_shown page l = value_shown page (value_text l (value_seen (get page.now l))) (shared_tokens page.all_lists (list_number page l))
 
 -- Whether an assignment is global: where `\globaldefs` is positive, each is, and where it is negative, none is.
 abbrev pub globally : ℤ → (asked : Bool) → Bool
@@ -710,13 +710,13 @@ acts page c e = Closed ∷ []
 -- these tokens enter the list that the innermost reading builds
 abbrev pub tokens_entered : List Token → List Move
 tokens_entered [] = []
-tokens_entered (t ∷ ts) = Grows t ∷ Feeds (Entered t) ∷ tokens_entered ts
+tokens_entered (t ∷ ts) = Grows t ∷ Feeds (Verbatim t) ∷ tokens_entered ts
 
 -- In an expanded text the list enters as it stands, and else it is put in front; no list is none.
 abbrev pub list_given : Page → (copied : Bool) → Option ℕ → List Move
 list_given page copied None = []
-list_given page true (Some number) = tokens_entered (slice_index_or page.macros number [])
-list_given page false (Some number) = put_body (list_put number (slice_index_or page.macros number []))
+list_given page true (Some number) = tokens_entered (slice_index_or page.all_lists number [])
+list_given page false (Some number) = put_body (list_put number (slice_index_or page.all_lists number []))
 
 -- the innermost of these readings is an expanded text, where lists are copied
 abbrev pub copies : Ask → Bool
@@ -787,7 +787,7 @@ unless_found page name None =
 -- `\input` has read a file's name: the token behind it goes back, if it is to, the reading ends, and the file is opened. Its first line is the next step.
 abbrev pub input_begun : Files → Page → (give_back : Bool) → (name : List ℕ) → List Move
 input_begun files page back name =
-    given_back back page.last ++ (Spelt name ∷ Closed ∷ NameInProgress false ∷ Settled ∷ FileOpened name ∷ unless_found page name (files 0 name))
+    given_back back page.last ++ (Spelt name ∷ Closed ∷ NameInProgress false ∷ ListsEnded ∷ FileOpened name ∷ unless_found page name (files 0 name))
 
 -- what an act with a list comes to, where the files are these
 abbrev pub acts_in : Files → Page → Call → Effect → List Token → List Move
@@ -842,7 +842,7 @@ planned s (r ∷ rs) = answered s (r ∷ rs) r (ask r.kind r.fed)
 
 -- a file that was opened is begun with its first line, before all else
 abbrev pub ruled : State → Option (List ℕ) → List Move
-ruled s (Some bytes) = Settled ∷ FirstTaken (first_line bytes) ∷ []
+ruled s (Some bytes) = ListsEnded ∷ FirstTaken (first_line bytes) ∷ []
 ruled s None = planned s s.work
 
 -- the moves of the next rule
@@ -908,7 +908,7 @@ first_state groups quiet file job files = record {
   groups = groups;
   names = primitive_names;
   strings = [];
-  macros = [];
+  all_lists = [];
   after = None;
   mag_set = 0;
   conditionals = [];

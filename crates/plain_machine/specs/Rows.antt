@@ -153,8 +153,8 @@ texts (m ∷ ms) = text_of m ++ texts ms
 
 -- what was told of the end of a run of these moves, which lead to t: how it stopped, where it has ended; nothing, where they are
 -- as many as may be
-abbrev pub Told : ℕ → List Move → State → Option Outcome → Type 0
-Told n ms t stopped = ((next t ≡ Ends) × (stopped ≡ t.stopped)) ⊎ ((length ms ≡ n) × (stopped ≡ None))
+abbrev pub EndsSo : ℕ → List Move → State → Option Outcome → Type 0
+EndsSo n ms t stopped = ((next t ≡ Ends) × (stopped ≡ t.stopped)) ⊎ ((length ms ≡ n) × (stopped ≡ None))
 
 -- The machine makes these moves from s, at most n of them, and this is what they come to.
 pub record IsRun (n : ℕ) (s : State) (r : Result) : Type 0 where
@@ -162,7 +162,7 @@ pub record IsRun (n : ℕ) (s : State) (r : Result) : Type 0 where
   pub t : State
   pub moves : Moves s ms t
   pub within : length ms ≤ n
-  pub told : Told n ms t r.stopped
+  pub told : EndsSo n ms t r.stopped
   pub text : r.text ≡ texts ms
   pub count : r.steps ≡ steps ms
   pub names : r.names ≡ t.names

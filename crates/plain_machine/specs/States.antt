@@ -15,7 +15,7 @@ use Rattle.equivalents.specs.Locations.{V}
 use Rattle.save_stack.specs.declared.GroupKind.{GroupKind}
 use Rattle.equivalents.specs.Groups.{Groups, entered, set, set_name, opened as group_opened, closed as group_closed, with_token}
 use Rattle.plain_tokens.specs.Puts.{Put as PutList, token_put, grow_first, grown_by, list_of_tokens}
-use Rattle.plain_tokens.specs.Pending.{Pending, pulled, after_pull, with_end, put_front, settle, with_next, with_begun, ending}
+use Rattle.plain_tokens.specs.Pending.{Pending, pulled, after_pull, with_end, put_front, end_token_lists, with_next, with_begun, ending}
 use Rattle.plain_state.specs.Reports.{in_line_after}
 use Rattle.conditionals.specs.declared.limits.Limit.{Limit}
 use Rattle.conditionals.specs.declared.open.Conditional.{Conditional}
@@ -32,7 +32,7 @@ pub data Move : Type 0 where
   Taken : List ℕ → Move
   FirstTaken : List ℕ → Move
   -- a reading from pending or a push begins: the finished lists in front go
-  Settled : Move
+  ListsEnded : Move
   -- an invalid character is skipped
   Skipped : Move
   -- the innermost file goes behind its last line; it is to go behind its present one
@@ -118,7 +118,7 @@ pub record State : Type 0 where
   -- what stands at all locations, in all groups that are open, and the lists of all macros, token registers and token parameters so far, in the
   -- order of their definitions and assignments
   pub groups : Groups
-  pub macros : List (List Token)
+  pub all_lists : List (List Token)
   -- the token that `\afterassignment` keeps
   pub after : Option Token
   -- the magnification that a check has set for good, or 0 before the first: TeX's `mag_set`
@@ -188,7 +188,7 @@ abbrev pub made : Move → State → State
 made (Handed t) s = record s { pending = after_pull s.pending (pulled s.groups.now.categories s.pending) }
 made (Taken line) s = record s { pending = with_end (end_of_line s.groups.now) (after_pull s.pending (pulled s.groups.now.categories s.pending)) }
 made (FirstTaken line) s = record s { pending = with_end (end_of_line s.groups.now) (with_begun s.pending) }
-made Settled s = record s { pending = settle s.pending }
+made ListsEnded s = record s { pending = end_token_lists s.pending }
 made Skipped s = record s { pending = after_pull s.pending (pulled s.groups.now.categories s.pending) }
 made FileClosed s = record s { pending = after_pull s.pending (pulled s.groups.now.categories s.pending) }
 made FileEnds s = record s { pending = ending s.pending }
@@ -210,14 +210,14 @@ made (CalledWith p) s = record s { pending = put_front p s.pending; work = drop 
 made (Set global l v) s = record s { groups = set global s.groups l v }
 made (Assigned global name m) s = record s { groups = set_name global s.groups name m }
 made (Defined global name long outer ts) s = record s {
-  groups = set_name global s.groups name (means.Macro long outer (Some (length s.macros)));
-  macros = s.macros ++ ts ∷ [];
+  groups = set_name global s.groups name (means.Macro long outer (Some (length s.all_lists)));
+  all_lists = s.all_lists ++ ts ∷ [];
   work = drop 1 s.work;
   gathered = beneath s.work s.gathered;
 }
 made (ListSet global l ts) s = record s {
-  groups = set global s.groups l (val.Tokens (Some (length s.macros)));
-  macros = s.macros ++ ts ∷ [];
+  groups = set global s.groups l (val.Tokens (Some (length s.all_lists)));
+  all_lists = s.all_lists ++ ts ∷ [];
   work = drop 1 s.work;
   gathered = beneath s.work s.gathered;
 }

@@ -16,7 +16,7 @@ use Rattle.rows.specs.Internal.{byte_of, location_in, internal_of, list_of, inte
 use Rattle.rows.specs.Arithmetic.{measured}
 use Rattle.plain_readings.specs.Integers.{is_minus, is_plus, is_digit, digit_of}
 use Rattle.plain_readings.specs.Factors.{is_point}
-use Rattle.plain_readings.specs.declared.measures.Amount.{Amount}
+use Rattle.plain_readings.specs.declared.measures.Quantity.{Quantity}
 use Rattle.plain_readings.specs.declared.measures.Measure.{Measure}
 use Rattle.plain_readings.specs.Dimens.{Fed, Tok, Factored, Numbered, Found, Told, Fetched, Answer, too_large_told, finished, spaced, illegal, in_units, points, physical, scaled_points, by_unit, magnified_amount, magnification_in, by_magnification, magnification_fetched, magnified, true_or_not, ex_or_not, em_or_not, mu_or_not, incompatible, valued, no_number, fetched, bad_numbered, with_number, numbered, times, unit_fetched, internal_unit, word_unit, internal_or_word, unit_at, unit_sought, longer, fil_or_not, unit_behind, unit_with, amount, with_digit, behind_digits, fraction, pointed, turned, with_factor, factor_read, factored, is_integer_at, value_fetched, internal_value, internal_or_factor, unsigned, dimension}
 use Rattle.plain_readings.specs.Measures.{dimen_ask}
@@ -82,99 +82,99 @@ module _ (y : Fed) where
 
 -- UNITS
 
-scaled_ends : (y : Fed) (negative : Bool) (a : Amount) → Steps y (scaled_points negative a []) (scaled_points negative a (y ∷ []))
+scaled_ends : (y : Fed) (negative : Bool) (a : Quantity) → Steps y (scaled_points negative a []) (scaled_points negative a (y ∷ []))
 scaled_ends (Found true) negative a = omega arith
 scaled_ends (Found false) negative a = omega arith
 scaled_ends (Tok x) negative a = tt
 scaled_ends y negative a = omega arith
 
-units_light : (negative : Bool) (a : Amount) (us : List Measure) → weighs (dimen_ask (by_unit negative a us [])) ≤ value_weight
+units_light : (negative : Bool) (a : Quantity) (us : List Measure) → weighs (dimen_ask (by_unit negative a us [])) ≤ value_weight
 units_light negative a [] = omega arith
 units_light negative a (u ∷ us) = omega arith
 
-unit_light : (y : Fed) (negative : Bool) (a : Amount) (u : Measure) (us : List Measure) → weighs (dimen_ask (by_unit negative a (u ∷ us) (y ∷ []))) ≤ value_weight
+unit_light : (y : Fed) (negative : Bool) (a : Quantity) (u : Measure) (us : List Measure) → weighs (dimen_ask (by_unit negative a (u ∷ us) (y ∷ []))) ≤ value_weight
 unit_light (Found true) negative a u us = omega arith
 unit_light (Found false) negative a u us = units_light negative a us
 unit_light y negative a u us = omega arith
 
 module _ (y : Fed) where
-  scaled_steps : (negative : Bool) (a : Amount) (fed : List Fed) → Steps y (scaled_points negative a fed) (scaled_points negative a (fed ++ y ∷ []))
+  scaled_steps : (negative : Bool) (a : Quantity) (fed : List Fed) → Steps y (scaled_points negative a fed) (scaled_points negative a (fed ++ y ∷ []))
   scaled_steps negative a [] = scaled_ends y negative a
   scaled_steps negative a (Found true ∷ fed) = spaced_steps y negative (measured (pos a.whole)) 0 fed
   scaled_steps negative a (Found false ∷ fed) = illegal_steps y taken.Pt negative (points a) fed
   scaled_steps negative a (z ∷ fed) = light_follows (item_of y) _ _ (omega arith)
 
-  units_step : (negative : Bool) (a : Amount) (us : List Measure) (fed : List Fed) → Steps y (by_unit negative a us fed) (by_unit negative a us (fed ++ y ∷ []))
+  units_step : (negative : Bool) (a : Quantity) (us : List Measure) (fed : List Fed) → Steps y (by_unit negative a us fed) (by_unit negative a us (fed ++ y ∷ []))
   units_step negative a [] fed = scaled_steps negative a fed
   units_step negative a (u ∷ us) [] = light_follows (item_of y) _ _ (unit_light y negative a u us)
   units_step negative a (u ∷ us) (Found true ∷ fed) = spaced_steps y negative (measured (pos (in_units a u))) 0 fed
   units_step negative a (u ∷ us) (Found false ∷ fed) = units_step negative a us fed
   units_step negative a (u ∷ us) (z ∷ fed) = light_follows (item_of y) _ _ (omega arith)
 
-  by_magnification_steps : (negative : Bool) (a : Amount) (mag : ℕ) (fed : List Fed) → Steps y (by_magnification negative a mag fed) (by_magnification negative a mag (fed ++ y ∷ []))
+  by_magnification_steps : (negative : Bool) (a : Quantity) (mag : ℕ) (fed : List Fed) → Steps y (by_magnification negative a mag fed) (by_magnification negative a mag (fed ++ y ∷ []))
   by_magnification_steps negative a mag fed = either y (mag == 0) _ _ _ _ (light_follows (item_of y) _ _ (omega arith)) (units_step negative (magnified_amount a mag) physical fed)
 
-magnification_light : (y : Fed) (negative : Bool) (a : Amount) → weighs (dimen_ask (magnification_fetched negative a (y ∷ []))) ≤ value_weight
+magnification_light : (y : Fed) (negative : Bool) (a : Quantity) → weighs (dimen_ask (magnification_fetched negative a (y ∷ []))) ≤ value_weight
 magnification_light (Fetched v) negative a = light_if (magnification_in v == 0) _ _ _ (omega arith) (omega arith)
 magnification_light y negative a = omega arith
 
-magnified_ends : (y : Fed) (negative : Bool) (a : Amount) → Steps y (magnified negative a []) (magnified negative a (y ∷ []))
+magnified_ends : (y : Fed) (negative : Bool) (a : Quantity) → Steps y (magnified negative a []) (magnified negative a (y ∷ []))
 magnified_ends Told negative a = (omega arith, omega arith)
 magnified_ends (Tok x) negative a = tt
 magnified_ends y negative a = omega arith
 
-true_ends : (y : Fed) (negative : Bool) (a : Amount) → Steps y (true_or_not negative a []) (true_or_not negative a (y ∷ []))
+true_ends : (y : Fed) (negative : Bool) (a : Quantity) → Steps y (true_or_not negative a []) (true_or_not negative a (y ∷ []))
 true_ends (Found true) negative a = omega arith
 true_ends (Found false) negative a = omega arith
 true_ends (Tok x) negative a = tt
 true_ends y negative a = omega arith
 
-ex_light : (y : Fed) (negative : Bool) (a : Amount) → weighs (dimen_ask (ex_or_not negative a (y ∷ []))) ≤ value_weight
+ex_light : (y : Fed) (negative : Bool) (a : Quantity) → weighs (dimen_ask (ex_or_not negative a (y ∷ []))) ≤ value_weight
 ex_light (Found true) negative a = omega arith
 ex_light (Found false) negative a = omega arith
 ex_light y negative a = omega arith
 
-em_light : (y : Fed) (negative : Bool) (a : Amount) → weighs (dimen_ask (em_or_not negative a (y ∷ []))) ≤ value_weight
+em_light : (y : Fed) (negative : Bool) (a : Quantity) → weighs (dimen_ask (em_or_not negative a (y ∷ []))) ≤ value_weight
 em_light (Found true) negative a = omega arith
 em_light (Found false) negative a = omega arith
 em_light y negative a = omega arith
 
-mu_ends : (y : Fed) (negative : Bool) (a : Amount) → Steps y (mu_or_not negative a []) (mu_or_not negative a (y ∷ []))
+mu_ends : (y : Fed) (negative : Bool) (a : Quantity) → Steps y (mu_or_not negative a []) (mu_or_not negative a (y ∷ []))
 mu_ends (Found true) negative a = omega arith
 mu_ends (Found false) negative a = omega arith
 mu_ends (Tok x) negative a = tt
 mu_ends y negative a = omega arith
 
 module _ (y : Fed) where
-  magnification_steps : (negative : Bool) (a : Amount) (fed : List Fed) → Steps y (magnification_fetched negative a fed) (magnification_fetched negative a (fed ++ y ∷ []))
+  magnification_steps : (negative : Bool) (a : Quantity) (fed : List Fed) → Steps y (magnification_fetched negative a fed) (magnification_fetched negative a (fed ++ y ∷ []))
   magnification_steps negative a [] = light_follows (item_of y) _ _ (magnification_light y negative a)
   magnification_steps negative a (Fetched v ∷ fed) = by_magnification_steps y negative a (magnification_in v) fed
   magnification_steps negative a (z ∷ fed) = light_follows (item_of y) _ _ (omega arith)
 
-  magnified_steps : (negative : Bool) (a : Amount) (fed : List Fed) → Steps y (magnified negative a fed) (magnified negative a (fed ++ y ∷ []))
+  magnified_steps : (negative : Bool) (a : Quantity) (fed : List Fed) → Steps y (magnified negative a fed) (magnified negative a (fed ++ y ∷ []))
   magnified_steps negative a [] = magnified_ends y negative a
   magnified_steps negative a (Told ∷ fed) = magnification_steps negative a fed
   magnified_steps negative a (z ∷ fed) = light_follows (item_of y) _ _ (omega arith)
 
-  true_steps : (negative : Bool) (a : Amount) (fed : List Fed) → Steps y (true_or_not negative a fed) (true_or_not negative a (fed ++ y ∷ []))
+  true_steps : (negative : Bool) (a : Quantity) (fed : List Fed) → Steps y (true_or_not negative a fed) (true_or_not negative a (fed ++ y ∷ []))
   true_steps negative a [] = true_ends y negative a
   true_steps negative a (Found true ∷ fed) = magnified_steps negative a fed
   true_steps negative a (Found false ∷ fed) = units_step y negative a physical fed
   true_steps negative a (z ∷ fed) = light_follows (item_of y) _ _ (omega arith)
 
-  ex_steps : (negative : Bool) (a : Amount) (fed : List Fed) → Steps y (ex_or_not negative a fed) (ex_or_not negative a (fed ++ y ∷ []))
+  ex_steps : (negative : Bool) (a : Quantity) (fed : List Fed) → Steps y (ex_or_not negative a fed) (ex_or_not negative a (fed ++ y ∷ []))
   ex_steps negative a [] = light_follows (item_of y) _ _ (ex_light y negative a)
   ex_steps negative a (Found true ∷ fed) = spaced_steps y negative (Some (pos 0)) 0 fed
   ex_steps negative a (Found false ∷ fed) = true_steps negative a fed
   ex_steps negative a (z ∷ fed) = light_follows (item_of y) _ _ (omega arith)
 
-  em_steps : (negative : Bool) (a : Amount) (fed : List Fed) → Steps y (em_or_not negative a fed) (em_or_not negative a (fed ++ y ∷ []))
+  em_steps : (negative : Bool) (a : Quantity) (fed : List Fed) → Steps y (em_or_not negative a fed) (em_or_not negative a (fed ++ y ∷ []))
   em_steps negative a [] = light_follows (item_of y) _ _ (em_light y negative a)
   em_steps negative a (Found true ∷ fed) = spaced_steps y negative (Some (pos 0)) 0 fed
   em_steps negative a (Found false ∷ fed) = ex_steps negative a fed
   em_steps negative a (z ∷ fed) = light_follows (item_of y) _ _ (omega arith)
 
-  mu_steps : (negative : Bool) (a : Amount) (fed : List Fed) → Steps y (mu_or_not negative a fed) (mu_or_not negative a (fed ++ y ∷ []))
+  mu_steps : (negative : Bool) (a : Quantity) (fed : List Fed) → Steps y (mu_or_not negative a fed) (mu_or_not negative a (fed ++ y ∷ []))
   mu_steps negative a [] = mu_ends y negative a
   mu_steps negative a (Found true ∷ fed) = spaced_steps y negative (points a) 0 fed
   mu_steps negative a (Found false ∷ fed) = illegal_steps y taken.Mu negative (points a) fed
@@ -261,56 +261,56 @@ module _ (onward : Loc → ℤ → List Fed → Answer) (light : (l : Loc) (v : 
 
 -- THE UNIT
 
-unit_fetched_light : (k : DimenKind) (negative : Bool) (a : Amount) (l : Loc) (v : ℤ) → weighs (dimen_ask (unit_fetched k negative a l v [])) ≤ value_weight + 2
+unit_fetched_light : (k : DimenKind) (negative : Bool) (a : Quantity) (l : Loc) (v : ℤ) → weighs (dimen_ask (unit_fetched k negative a l v [])) ≤ value_weight + 2
 unit_fetched_light k negative a l v = valued_light k.mu (is_mu l) negative (measured (times a v))
 
-sought_ends : (y : Fed) (k : DimenKind) (negative : Bool) (a : Amount) → Steps y (unit_sought k negative a []) (unit_sought k negative a (y ∷ []))
+sought_ends : (y : Fed) (k : DimenKind) (negative : Bool) (a : Quantity) → Steps y (unit_sought k negative a []) (unit_sought k negative a (y ∷ []))
 sought_ends (Tok x) k negative a = tt
 sought_ends y k negative a = omega arith
 
-longer_ends : (y : Fed) (negative : Bool) (a : Amount) (order : ℕ) → Steps y (longer negative a order false []) (longer negative a order false (y ∷ []))
+longer_ends : (y : Fed) (negative : Bool) (a : Quantity) (order : ℕ) → Steps y (longer negative a order false []) (longer negative a order false (y ∷ []))
 longer_ends (Found true) negative a order = light_if (order == 3) _ _ _ (omega arith) (omega arith)
 longer_ends (Found false) negative a order = omega arith
 longer_ends (Tok x) negative a order = tt
 longer_ends y negative a order = omega arith
 
-too_long_light : (y : Fed) (negative : Bool) (a : Amount) (order : ℕ) → weighs (dimen_ask (longer negative a order true (y ∷ []))) ≤ value_weight
+too_long_light : (y : Fed) (negative : Bool) (a : Quantity) (order : ℕ) → weighs (dimen_ask (longer negative a order true (y ∷ []))) ≤ value_weight
 too_long_light Told negative a order = omega arith
 too_long_light y negative a order = omega arith
 
-fil_light : (y : Fed) (k : DimenKind) (negative : Bool) (a : Amount) (begins : Bool) → weighs (dimen_ask (fil_or_not k negative a begins (y ∷ []))) ≤ value_weight
+fil_light : (y : Fed) (k : DimenKind) (negative : Bool) (a : Quantity) (begins : Bool) → weighs (dimen_ask (fil_or_not k negative a begins (y ∷ []))) ≤ value_weight
 fil_light (Found true) k negative a begins = omega arith
 fil_light (Found false) k negative a begins = omega arith
 fil_light y k negative a begins = omega arith
 
-unit_behind_light : (k : DimenKind) (negative : Bool) (a : Amount) → weighs (dimen_ask (unit_behind k negative a [])) ≤ value_weight
+unit_behind_light : (k : DimenKind) (negative : Bool) (a : Quantity) → weighs (dimen_ask (unit_behind k negative a [])) ≤ value_weight
 unit_behind_light k negative a = light_if k.infinite _ _ _ (omega arith) (omega arith)
 
 module _ (y : Fed) where
-  unit_fetched_steps : (k : DimenKind) (negative : Bool) (a : Amount) (l : Loc) (v : ℤ) (fed : List Fed) → Steps y (unit_fetched k negative a l v fed) (unit_fetched k negative a l v (fed ++ y ∷ []))
+  unit_fetched_steps : (k : DimenKind) (negative : Bool) (a : Quantity) (l : Loc) (v : ℤ) (fed : List Fed) → Steps y (unit_fetched k negative a l v fed) (unit_fetched k negative a l v (fed ++ y ∷ []))
   unit_fetched_steps k negative a l v fed = valued_steps y k.mu (is_mu l) negative (measured (times a v)) fed
 
-  internal_unit_steps : (k : DimenKind) (negative : Bool) (a : Amount) (i : Internal) (fed : List Fed) → Steps y (internal_unit k negative a i fed) (internal_unit k negative a i (fed ++ y ∷ []))
+  internal_unit_steps : (k : DimenKind) (negative : Bool) (a : Quantity) (i : Internal) (fed : List Fed) → Steps y (internal_unit k negative a i fed) (internal_unit k negative a i (fed ++ y ∷ []))
   internal_unit_steps k negative a (internal.Given n) fed = valued_steps y k.mu false negative (measured (times a (pos n))) fed
   internal_unit_steps k negative a (internal.At l) fed = fetched_steps (unit_fetched k negative a) (unit_fetched_light k negative a) y (unit_fetched_steps k negative a) l fed
   internal_unit_steps k negative a (internal.Numbered b) fed = numbered_steps (unit_fetched k negative a) (unit_fetched_light k negative a) y (unit_fetched_steps k negative a) b fed
 
-  word_steps : (mu negative : Bool) (a : Amount) (fed : List Fed) → Steps y (word_unit mu negative a fed) (word_unit mu negative a (fed ++ y ∷ []))
+  word_steps : (mu negative : Bool) (a : Quantity) (fed : List Fed) → Steps y (word_unit mu negative a fed) (word_unit mu negative a (fed ++ y ∷ []))
   word_steps mu negative a fed = either y mu _ _ _ _ (mu_steps y negative a fed) (em_steps y negative a fed)
 
-  internal_or_word_steps : (k : DimenKind) (negative : Bool) (a : Amount) (o : Option Internal) (fed : List Fed) → Steps y (internal_or_word k negative a o fed) (internal_or_word k negative a o (fed ++ y ∷ []))
+  internal_or_word_steps : (k : DimenKind) (negative : Bool) (a : Quantity) (o : Option Internal) (fed : List Fed) → Steps y (internal_or_word k negative a o fed) (internal_or_word k negative a o (fed ++ y ∷ []))
   internal_or_word_steps k negative a (Some i) fed = internal_unit_steps k negative a i fed
   internal_or_word_steps k negative a None fed = word_steps k.mu negative a fed
 
-  unit_at_steps : (k : DimenKind) (negative : Bool) (a : Amount) (x : Seen) (fed : List Fed) → Steps y (unit_at k negative a x fed) (unit_at k negative a x (fed ++ y ∷ []))
+  unit_at_steps : (k : DimenKind) (negative : Bool) (a : Quantity) (x : Seen) (fed : List Fed) → Steps y (unit_at k negative a x fed) (unit_at k negative a x (fed ++ y ∷ []))
   unit_at_steps k negative a x fed = either y (is_some (list_of x.meaning)) _ _ _ _ (no_number_steps y k.mu negative fed) (internal_or_word_steps k negative a (internal_of x.meaning) fed)
 
-  sought_steps : (k : DimenKind) (negative : Bool) (a : Amount) (fed : List Fed) → Steps y (unit_sought k negative a fed) (unit_sought k negative a (fed ++ y ∷ []))
+  sought_steps : (k : DimenKind) (negative : Bool) (a : Quantity) (fed : List Fed) → Steps y (unit_sought k negative a fed) (unit_sought k negative a (fed ++ y ∷ []))
   sought_steps k negative a [] = sought_ends y k negative a
   sought_steps k negative a (Tok x ∷ fed) = unit_at_steps k negative a x fed
   sought_steps k negative a (z ∷ fed) = light_follows (item_of y) _ _ (omega arith)
 
-  longer_steps : (negative : Bool) (a : Amount) (order : ℕ) (too_long : Bool) (fed : List Fed) → Steps y (longer negative a order too_long fed) (longer negative a order too_long (fed ++ y ∷ []))
+  longer_steps : (negative : Bool) (a : Quantity) (order : ℕ) (too_long : Bool) (fed : List Fed) → Steps y (longer negative a order too_long fed) (longer negative a order too_long (fed ++ y ∷ []))
   longer_steps negative a order false [] = longer_ends y negative a order
   longer_steps negative a order false (Found true ∷ fed) = either y (order == 3) _ _ _ _ (longer_steps negative a order true fed) (longer_steps negative a (order + 1) false fed)
   longer_steps negative a order false (Found false ∷ fed) = spaced_steps y negative (points a) order fed
@@ -319,16 +319,16 @@ module _ (y : Fed) where
   longer_steps negative a order true (Told ∷ fed) = longer_steps negative a order false fed
   longer_steps negative a order true (z ∷ fed) = light_follows (item_of y) _ _ (omega arith)
 
-  fil_steps : (k : DimenKind) (negative : Bool) (a : Amount) (begins : Bool) (fed : List Fed) → Steps y (fil_or_not k negative a begins fed) (fil_or_not k negative a begins (fed ++ y ∷ []))
+  fil_steps : (k : DimenKind) (negative : Bool) (a : Quantity) (begins : Bool) (fed : List Fed) → Steps y (fil_or_not k negative a begins fed) (fil_or_not k negative a begins (fed ++ y ∷ []))
   fil_steps k negative a begins [] = light_follows (item_of y) _ _ (fil_light y k negative a begins)
   fil_steps k negative a begins (Found true ∷ fed) = longer_steps negative a 1 false fed
   fil_steps k negative a begins (Found false ∷ fed) = sought_steps k negative a fed
   fil_steps k negative a begins (z ∷ fed) = light_follows (item_of y) _ _ (omega arith)
 
-  unit_behind_steps : (k : DimenKind) (negative : Bool) (a : Amount) (fed : List Fed) → Steps y (unit_behind k negative a fed) (unit_behind k negative a (fed ++ y ∷ []))
+  unit_behind_steps : (k : DimenKind) (negative : Bool) (a : Quantity) (fed : List Fed) → Steps y (unit_behind k negative a fed) (unit_behind k negative a (fed ++ y ∷ []))
   unit_behind_steps k negative a fed = either y k.infinite _ _ _ _ (fil_steps k negative a false fed) (sought_steps k negative a fed)
 
-  unit_with_steps : (k : DimenKind) (negative : Bool) (a : Amount) (x : Seen) (fed : List Fed) → Steps y (unit_with k negative a x fed) (unit_with k negative a x (fed ++ y ∷ []))
+  unit_with_steps : (k : DimenKind) (negative : Bool) (a : Quantity) (x : Seen) (fed : List Fed) → Steps y (unit_with k negative a x fed) (unit_with k negative a x (fed ++ y ∷ []))
   unit_with_steps k negative a x fed = either y k.infinite _ _ _ _ (fil_steps k negative a true fed) (unit_at_steps k negative a x fed)
 
 -- THE FACTOR
@@ -359,7 +359,7 @@ dimension_ends (Tok x) k negative = tt
 dimension_ends y k negative = omega arith
 
 module _ (y : Fed) where
-  behind_digits_steps : (k : DimenKind) (negative : Bool) (a : Amount) (x : Seen) (fed : List Fed) → Steps y (behind_digits k negative a x fed) (behind_digits k negative a x (fed ++ y ∷ []))
+  behind_digits_steps : (k : DimenKind) (negative : Bool) (a : Quantity) (x : Seen) (fed : List Fed) → Steps y (behind_digits k negative a x fed) (behind_digits k negative a x (fed ++ y ∷ []))
   behind_digits_steps k negative a x fed = either y (is_space x) _ _ _ _ (unit_behind_steps y k negative a fed) (unit_with_steps y k negative a x fed)
 
   fraction_steps : (k : DimenKind) (negative : Bool) (n : ℕ) (ds : List ℕ) (fed : List Fed) → Steps y (fraction k negative n ds fed) (fraction k negative n ds (fed ++ y ∷ []))

@@ -11,11 +11,11 @@ use Rattle.plain_tokens.specs.Tokens.{has_category, means_category}
 use Rattle.plain_tokens.specs.Puts.{grow_first}
 use Rattle.plain_tokens.specs.Arguments as call
 use Rattle.plain_state.specs.Definitions as build
-use Rattle.plain_state.specs.Definitions.{Body, Answer, More, Tells, Done, is_parameter, character_of, is_digit, is_number, number_of, is_reference, count_of, body, reference, illegal, macro_body, no_body, parameters, place, tenth, misnumbered, text_body, missing, first}
+use Rattle.plain_state.specs.Definitions.{Body, Answer, More, Tells, Done, is_parameter, character_of, is_digit, is_number, place_digit, is_reference, count_of, body, reference, illegal, macro_body, no_body, parameters, place, tenth, misnumbered, text_body, missing, first}
 use Rattle.rows.specs.declared.words.Datum.TheVariants as datum
 use Rattle.rows.specs.declared.words.Value.TheVariants as value
 use Rattle.rows.specs.declared.words.Kind.TheVariants.{Command, Integer, Factor, Dimension, Glue, Keyword, Text, Definition}
-use Rattle.rows.specs.Readings.{Fed, Tok, Val, Told, Fetched, Entered, Cut, Ask}
+use Rattle.rows.specs.Readings.{Fed, Tok, Val, Told, Fetched, Verbatim, Cut, Ask}
 use Rattle.rows.specs.Readings as reading
 use Rattle.plain_readings.specs.Integers.{integer}
 use Rattle.plain_readings.specs.Lists.{build_ask, built, build_fed, manner, text, definition}
@@ -71,7 +71,7 @@ module _ (t : Token) where
     reference_goes m b depth character list (build.Given ts ∷ fed) = reference_goes m b depth character list fed
     reference_goes m b depth character list (build.Tok y ∷ fed) =
         either (is_parameter y) _ _ _ _ (body_goes m b depth (list ++ y.token ∷ []) fed)
-        (either (is_number (count_of b.places) y.token) _ _ _ _ (body_goes m b depth (list ++ Number (number_of y.token) ∷ []) fed) (illegal_goes m b depth character list fed))
+        (either (is_number (count_of b.places) y.token) _ _ _ _ (body_goes m b depth (list ++ Number (place_digit y.token) ∷ []) fed) (illegal_goes m b depth character list fed))
 
     illegal_goes : (m : Manner) (b : Body) (depth : ℕ) (character : Token) (list : List Token) (fed : List build.Fed) →
         Enters t (illegal m b depth character list fed) (illegal m b depth character list (entered fed))
@@ -131,21 +131,21 @@ module _ (t : Token) where
   first_goes m list (build.Tok x ∷ fed) =
       either (means_category begin_group x.meaning) _ _ _ _ (body_goes m text_body 0 list fed) (missing_goes m list fed)
 
-  build_last : (fed : List Fed) → build_fed (fed ++ Entered t ∷ []) ≡ entered (build_fed fed)
+  build_last : (fed : List Fed) → build_fed (fed ++ Verbatim t ∷ []) ≡ entered (build_fed fed)
   build_last [] = refl
   build_last (Tok x ∷ fed) = rw (build_last fed) refl
   build_last (Told ∷ fed) = rw (build_last fed) refl
-  build_last (Entered u ∷ fed) = rw (build_last fed) refl
+  build_last (Verbatim u ∷ fed) = rw (build_last fed) refl
   build_last (Val v ts ∷ fed) = build_last fed
   build_last (Fetched v ∷ fed) = build_last fed
   build_last (Cut ∷ fed) = build_last fed
 
-  text_goes : (name : Name) (expanded : Bool) (fed : List Fed) → Enters t (text name expanded fed) (text name expanded (fed ++ Entered t ∷ []))
+  text_goes : (name : Name) (expanded : Bool) (fed : List Fed) → Enters t (text name expanded fed) (text name expanded (fed ++ Verbatim t ∷ []))
   text_goes name expanded fed =
       subst (λ (more : List build.Fed). Enters t (text name expanded fed) (build.text (manner name expanded) more)) (sym (build_last fed))
       (first_goes (manner name expanded) [] (build_fed fed))
 
-  definition_goes : (name : Name) (expanded : Bool) (fed : List Fed) → Enters t (definition name expanded fed) (definition name expanded (fed ++ Entered t ∷ []))
+  definition_goes : (name : Name) (expanded : Bool) (fed : List Fed) → Enters t (definition name expanded fed) (definition name expanded (fed ++ Verbatim t ∷ []))
   definition_goes name expanded fed =
       subst (λ (more : List build.Fed). Enters t (definition name expanded fed) (build.definition (manner name expanded) more)) (sym (build_last fed))
       (parameters_go (manner name expanded) 0 [] (build_fed fed))
@@ -202,8 +202,8 @@ uncopied (Skips c aim line) fed h = skipping_holds (λ b a. AsksUncopied a) (λ 
 uncopied (Arguments name long number ts) [] h = tt
 uncopied (Arguments name long number ts) (y ∷ fed) h = call_uncopied name (gathered long ts (y ∷ fed))
 
-pub enters : (k : Kind) (fed : List Fed) (t : Token) → ask k fed ≡ reading.More Copied → Entering t (ask k fed) (ask k (fed ++ Entered t ∷ [])) (lists k fed) (lists k (fed ++ Entered t ∷ []))
-enters (Reads (Text name expanded)) fed t e = built_enters t (text name expanded fed) (text name expanded (fed ++ Entered t ∷ [])) (text_goes t name expanded fed) e
+pub enters : (k : Kind) (fed : List Fed) (t : Token) → ask k fed ≡ reading.More Copied → Entering t (ask k fed) (ask k (fed ++ Verbatim t ∷ [])) (lists k fed) (lists k (fed ++ Verbatim t ∷ []))
+enters (Reads (Text name expanded)) fed t e = built_enters t (text name expanded fed) (text name expanded (fed ++ Verbatim t ∷ [])) (text_goes t name expanded fed) e
 enters (Reads (Definition name expanded)) fed t e =
-    built_enters t (definition name expanded fed) (definition name expanded (fed ++ Entered t ∷ [])) (definition_goes t name expanded fed) e
-enters k fed t e = never t (ask k fed) (ask k (fed ++ Entered t ∷ [])) (lists k fed) (lists k (fed ++ Entered t ∷ [])) (uncopied k fed tt) e
+    built_enters t (definition name expanded fed) (definition name expanded (fed ++ Verbatim t ∷ [])) (definition_goes t name expanded fed) e
+enters k fed t e = never t (ask k fed) (ask k (fed ++ Verbatim t ∷ [])) (lists k fed) (lists k (fed ++ Verbatim t ∷ [])) (uncopied k fed tt) e

@@ -6,7 +6,7 @@ use Rattle.tex_defs.specs.declared.Token.{Token}
 use Rattle.tex_defs.specs.declared.Token.TheVariants.{Place, Number, EndPlaces}
 use Rattle.plain_tokens.specs.Categories.{begin_group, end_group}
 use Rattle.plain_tokens.specs.Tokens.{has_category}
-use Rattle.plain_state.specs.Definitions.{Body, Fed, Tok, Told, Given, Answer, More, Tells, Done, is_parameter, character_of, is_digit, is_number, number_of, is_reference, count_of, with_cell, body, reference, illegal, macro_body, no_body, parameters, place, tenth, misnumbered}
+use Rattle.plain_state.specs.Definitions.{Body, Fed, Tok, Told, Given, Answer, More, Tells, Done, is_parameter, character_of, is_digit, is_number, place_digit, is_reference, count_of, with_cell, body, reference, illegal, macro_body, no_body, parameters, place, tenth, misnumbered}
 
 -- a list that is done has a token
 abbrev pub EndsFull : Answer → Type 0
@@ -56,11 +56,11 @@ mutual
   reference_full m b depth character list (Told ∷ fed) h = reference_full m b depth character list fed h
   reference_full m b depth character list (Given ts ∷ fed) h = reference_full m b depth character list fed h
   reference_full m b depth character list (Tok y ∷ fed) h =
-      let number : Answer = if is_number (count_of b.places) y.token then body m b depth (list ++ Number (number_of y.token) ∷ []) fed else illegal m b depth character list fed in
+      let number : Answer = if is_number (count_of b.places) y.token then body m b depth (list ++ Number (place_digit y.token) ∷ []) fed else illegal m b depth character list fed in
       full_if (is_parameter y) (body m b depth (list ++ y.token ∷ []) fed) number
       (body_full m b depth (list ++ y.token ∷ []) fed (one_more list y.token))
-      (full_if (is_number (count_of b.places) y.token) (body m b depth (list ++ Number (number_of y.token) ∷ []) fed) (illegal m b depth character list fed)
-      (body_full m b depth (list ++ Number (number_of y.token) ∷ []) fed (one_more list (Number (number_of y.token)))) (illegal_full m b depth character list fed h))
+      (full_if (is_number (count_of b.places) y.token) (body m b depth (list ++ Number (place_digit y.token) ∷ []) fed) (illegal m b depth character list fed)
+      (body_full m b depth (list ++ Number (place_digit y.token) ∷ []) fed (one_more list (Number (place_digit y.token)))) (illegal_full m b depth character list fed h))
 
   illegal_full : (m : Manner) (b : Body) (depth : ℕ) (character : Token) (list : List Token) (fed : List Fed) → list ≢ [] → EndsFull (illegal m b depth character list fed)
   illegal_full m b depth character list [] h = tt

@@ -21,7 +21,7 @@ use Rattle.rows.specs.declared.command.Call.{Call}
 use Rattle.rows.specs.Readings.{Fed, Tok, Val, Told, Ask}
 use Rattle.rows.specs.Table.{stages_of}
 use Rattle.rows.specs.Stages.{start, on_token, on_value, numbered_by}
-use Rattle.rows.specs.Run.{Outcome, Asks, Takes, Passes, Gathers, Makes, Turns, comes, due, noted, valued, inner, begins, numbers, met_with, looks, again, started, behind, run, no_turn, turned, row}
+use Rattle.rows.specs.Run.{Outcome, Asks, Takes, Passes, Gathers, Makes, Becomes, comes, due, noted, valued, inner, begins, numbers, met_with, looks, again, started, behind, run, no_turn, turned, row}
 use Rattle.plain_readings.specs.Laws.{is_met, Lends}
 
 -- what comes of a stage that was fed with a list whose last item is a token or not
@@ -31,7 +31,7 @@ Fits t (Takes d fed) = (b : Bool) × (t ≡ is_met b fed)
 Fits t (Passes fed) = (b : Bool) × (t ≡ is_met b fed)
 Fits t (Gathers ts) = Unit {0}
 Fits t (Makes ts) = Unit {0}
-Fits t (Turns c fed) = (b : Bool) × (t ≡ is_met b fed)
+Fits t (Becomes c fed) = (b : Bool) × (t ≡ is_met b fed)
 
 due_fits : (b : Bool) (n : Note) → Lends b (due n)
 due_fits b (note.Tells report back) = tt
@@ -42,7 +42,7 @@ comes_fits : (m : Next) (b : Bool) (fed : List Fed) → Fits (is_met b fed) (com
 comes_fits (next.Takes d) b fed = (b, refl)
 comes_fits next.Stops b fed = tt
 comes_fits (next.Unassigned c) b fed = tt
-comes_fits (next.Turns c) b fed = (b, refl)
+comes_fits (next.Becomes c) b fed = (b, refl)
 
 noted_fits : (n : Note) (m : Next) (b : Bool) (fed : List Fed) → Fits (is_met b fed) (noted n m fed)
 noted_fits n m b [] = due_fits b n
@@ -81,7 +81,7 @@ met_fits s x (met.Notes n m) skipped retried fed h i = noted_fits n m true fed
 met_fits s x (met.Retries n) skipped retried fed h i = i n
 met_fits s x (met.Numbers k) skipped retried fed h i = numbers_fits k true fed
 met_fits s x (met.Begins k) skipped retried fed h i = inner_fits s k fed
-met_fits s x (met.Turns c) skipped retried fed h i = (true, refl)
+met_fits s x (met.Becomes c) skipped retried fed h i = (true, refl)
 
 mutual
   looks_fits : (s : Stage) (c : Call) (want : Want) (b : Bool) (fed : List Fed) → Fits (is_met b fed) (looks s c want fed)
@@ -107,7 +107,7 @@ module _ (turn : Call → List Fed → Ask) (turns : (c : Call) (b : Bool) (fed 
   behind_lends c ds onward h t (Passes fed) (b, e) = subst (λ (t : Bool). Lends t (onward ds fed)) (sym e) (h ds b fed)
   behind_lends c ds onward h t (Gathers ts) fits = tt
   behind_lends c ds onward h t (Makes ts) fits = tt
-  behind_lends c ds onward h t (Turns d fed) (b, e) = subst (λ (t : Bool). Lends t (turn d fed)) (sym e) (turns d b fed)
+  behind_lends c ds onward h t (Becomes d fed) (b, e) = subst (λ (t : Bool). Lends t (turn d fed)) (sym e) (turns d b fed)
 
   run_lends : (c : Call) (ss : List Stage) (ds : List Datum) (b : Bool) (fed : List Fed) → Lends (is_met b fed) (run turn c ss ds fed)
   run_lends c [] ds b fed = tt

@@ -16,7 +16,7 @@ use Rattle.rows.specs.Internal.{byte_of, location_in, internal_of, list_of, inte
 use Rattle.rows.specs.Arithmetic.{measured, glue_at}
 use Rattle.plain_readings.specs.Integers.{is_minus, is_plus, is_digit, digit_of}
 use Rattle.plain_readings.specs.Factors.{is_point}
-use Rattle.plain_readings.specs.declared.measures.Amount.{Amount}
+use Rattle.plain_readings.specs.declared.measures.Quantity.{Quantity}
 use Rattle.plain_readings.specs.declared.measures.Measure.{Measure}
 use Rattle.plain_readings.specs.Dimens as dimens
 use Rattle.plain_readings.specs.Dimens.{Fed, Tok, Factored, Numbered, Found, Told, Fetched, Answer, in_units, points, physical, magnified_amount, magnification_in, times, amount, with_digit, turned}
@@ -52,48 +52,48 @@ illegal_fits unit negative v [] = tt
 illegal_fits unit negative v (Told ∷ fed) = spaced_fits negative v 0 fed
 illegal_fits unit negative v (y ∷ fed) = tt
 
-scaled_fits : (negative : Bool) (a : Amount) (fed : List Fed) → Fits (dimens.scaled_points negative a fed)
+scaled_fits : (negative : Bool) (a : Quantity) (fed : List Fed) → Fits (dimens.scaled_points negative a fed)
 scaled_fits negative a [] = tt
 scaled_fits negative a (Found true ∷ fed) = spaced_fits negative (measured (pos a.whole)) 0 fed
 scaled_fits negative a (Found false ∷ fed) = illegal_fits taken.Pt negative (points a) fed
 scaled_fits negative a (y ∷ fed) = tt
 
-units_fit : (negative : Bool) (a : Amount) (us : List Measure) (fed : List Fed) → Fits (dimens.by_unit negative a us fed)
+units_fit : (negative : Bool) (a : Quantity) (us : List Measure) (fed : List Fed) → Fits (dimens.by_unit negative a us fed)
 units_fit negative a [] fed = scaled_fits negative a fed
 units_fit negative a (u ∷ us) [] = tt
 units_fit negative a (u ∷ us) (Found true ∷ fed) = spaced_fits negative (measured (pos (in_units a u))) 0 fed
 units_fit negative a (u ∷ us) (Found false ∷ fed) = units_fit negative a us fed
 units_fit negative a (u ∷ us) (y ∷ fed) = tt
 
-magnification_fits : (negative : Bool) (a : Amount) (fed : List Fed) → Fits (dimens.magnification_fetched negative a fed)
+magnification_fits : (negative : Bool) (a : Quantity) (fed : List Fed) → Fits (dimens.magnification_fetched negative a fed)
 magnification_fits negative a [] = tt
 magnification_fits negative a (Fetched v ∷ fed) = either (magnification_in v == 0) _ _ tt (units_fit negative (magnified_amount a (magnification_in v)) physical fed)
 magnification_fits negative a (y ∷ fed) = tt
 
-magnified_fits : (negative : Bool) (a : Amount) (fed : List Fed) → Fits (dimens.magnified negative a fed)
+magnified_fits : (negative : Bool) (a : Quantity) (fed : List Fed) → Fits (dimens.magnified negative a fed)
 magnified_fits negative a [] = tt
 magnified_fits negative a (Told ∷ fed) = magnification_fits negative a fed
 magnified_fits negative a (y ∷ fed) = tt
 
-true_fits : (negative : Bool) (a : Amount) (fed : List Fed) → Fits (dimens.true_or_not negative a fed)
+true_fits : (negative : Bool) (a : Quantity) (fed : List Fed) → Fits (dimens.true_or_not negative a fed)
 true_fits negative a [] = tt
 true_fits negative a (Found true ∷ fed) = magnified_fits negative a fed
 true_fits negative a (Found false ∷ fed) = units_fit negative a physical fed
 true_fits negative a (y ∷ fed) = tt
 
-ex_fits : (negative : Bool) (a : Amount) (fed : List Fed) → Fits (dimens.ex_or_not negative a fed)
+ex_fits : (negative : Bool) (a : Quantity) (fed : List Fed) → Fits (dimens.ex_or_not negative a fed)
 ex_fits negative a [] = tt
 ex_fits negative a (Found true ∷ fed) = spaced_fits negative (Some (pos 0)) 0 fed
 ex_fits negative a (Found false ∷ fed) = true_fits negative a fed
 ex_fits negative a (y ∷ fed) = tt
 
-em_fits : (negative : Bool) (a : Amount) (fed : List Fed) → Fits (dimens.em_or_not negative a fed)
+em_fits : (negative : Bool) (a : Quantity) (fed : List Fed) → Fits (dimens.em_or_not negative a fed)
 em_fits negative a [] = tt
 em_fits negative a (Found true ∷ fed) = spaced_fits negative (Some (pos 0)) 0 fed
 em_fits negative a (Found false ∷ fed) = ex_fits negative a fed
 em_fits negative a (y ∷ fed) = tt
 
-mu_fits : (negative : Bool) (a : Amount) (fed : List Fed) → Fits (dimens.mu_or_not negative a fed)
+mu_fits : (negative : Bool) (a : Quantity) (fed : List Fed) → Fits (dimens.mu_or_not negative a fed)
 mu_fits negative a [] = tt
 mu_fits negative a (Found true ∷ fed) = spaced_fits negative (points a) 0 fed
 mu_fits negative a (Found false ∷ fed) = illegal_fits taken.Mu negative (points a) fed
@@ -132,27 +132,27 @@ module _ (onward : Loc → ℤ → List Fed → Answer) (h : (l : Loc) (v : ℤ)
   numbered_fits b (Numbered n ∷ fed) = either (is_at_most 255 n) _ _ (fetched_fits (location_in b (byte_of n)) fed) (bad_fits b n fed)
   numbered_fits b (y ∷ fed) = tt
 
-unit_fetched_fits : (k : DimenKind) (negative : Bool) (a : Amount) (l : Loc) (v : ℤ) (fed : List Fed) → Fits (dimens.unit_fetched k negative a l v fed)
+unit_fetched_fits : (k : DimenKind) (negative : Bool) (a : Quantity) (l : Loc) (v : ℤ) (fed : List Fed) → Fits (dimens.unit_fetched k negative a l v fed)
 unit_fetched_fits k negative a l v fed = valued_fits k.mu (is_mu l) negative (measured (times a v)) fed
 
-internal_unit_fits : (k : DimenKind) (negative : Bool) (a : Amount) (i : Internal) (fed : List Fed) → Fits (dimens.internal_unit k negative a i fed)
+internal_unit_fits : (k : DimenKind) (negative : Bool) (a : Quantity) (i : Internal) (fed : List Fed) → Fits (dimens.internal_unit k negative a i fed)
 internal_unit_fits k negative a (internal.Given n) fed = valued_fits k.mu false negative (measured (times a (pos n))) fed
 internal_unit_fits k negative a (internal.At l) fed = fetched_fits (dimens.unit_fetched k negative a) (unit_fetched_fits k negative a) l fed
 internal_unit_fits k negative a (internal.Numbered b) fed = numbered_fits (dimens.unit_fetched k negative a) (unit_fetched_fits k negative a) b fed
 
-internal_or_word_fits : (k : DimenKind) (negative : Bool) (a : Amount) (o : Option Internal) (fed : List Fed) → Fits (dimens.internal_or_word k negative a o fed)
+internal_or_word_fits : (k : DimenKind) (negative : Bool) (a : Quantity) (o : Option Internal) (fed : List Fed) → Fits (dimens.internal_or_word k negative a o fed)
 internal_or_word_fits k negative a (Some i) fed = internal_unit_fits k negative a i fed
 internal_or_word_fits k negative a None fed = either k.mu _ _ (mu_fits negative a fed) (em_fits negative a fed)
 
-unit_at_fits : (k : DimenKind) (negative : Bool) (a : Amount) (x : Seen) (fed : List Fed) → Fits (dimens.unit_at k negative a x fed)
+unit_at_fits : (k : DimenKind) (negative : Bool) (a : Quantity) (x : Seen) (fed : List Fed) → Fits (dimens.unit_at k negative a x fed)
 unit_at_fits k negative a x fed = either (is_some (list_of x.meaning)) _ _ (no_number_fits k.mu negative fed) (internal_or_word_fits k negative a (internal_of x.meaning) fed)
 
-sought_fits : (k : DimenKind) (negative : Bool) (a : Amount) (fed : List Fed) → Fits (dimens.unit_sought k negative a fed)
+sought_fits : (k : DimenKind) (negative : Bool) (a : Quantity) (fed : List Fed) → Fits (dimens.unit_sought k negative a fed)
 sought_fits k negative a [] = tt
 sought_fits k negative a (Tok x ∷ fed) = unit_at_fits k negative a x fed
 sought_fits k negative a (y ∷ fed) = tt
 
-longer_fits : (negative : Bool) (a : Amount) (order : ℕ) (too_long : Bool) (fed : List Fed) → Fits (dimens.longer negative a order too_long fed)
+longer_fits : (negative : Bool) (a : Quantity) (order : ℕ) (too_long : Bool) (fed : List Fed) → Fits (dimens.longer negative a order too_long fed)
 longer_fits negative a order false [] = tt
 longer_fits negative a order false (Found true ∷ fed) = either (order == 3) _ _ (longer_fits negative a order true fed) (longer_fits negative a (order + 1) false fed)
 longer_fits negative a order false (Found false ∷ fed) = spaced_fits negative (points a) order fed
@@ -161,16 +161,16 @@ longer_fits negative a order true [] = tt
 longer_fits negative a order true (Told ∷ fed) = longer_fits negative a order false fed
 longer_fits negative a order true (y ∷ fed) = tt
 
-fil_fits : (k : DimenKind) (negative : Bool) (a : Amount) (begins : Bool) (fed : List Fed) → Fits (dimens.fil_or_not k negative a begins fed)
+fil_fits : (k : DimenKind) (negative : Bool) (a : Quantity) (begins : Bool) (fed : List Fed) → Fits (dimens.fil_or_not k negative a begins fed)
 fil_fits k negative a begins [] = tt
 fil_fits k negative a begins (Found true ∷ fed) = longer_fits negative a 1 false fed
 fil_fits k negative a begins (Found false ∷ fed) = sought_fits k negative a fed
 fil_fits k negative a begins (y ∷ fed) = tt
 
-unit_behind_fits : (k : DimenKind) (negative : Bool) (a : Amount) (fed : List Fed) → Fits (dimens.unit_behind k negative a fed)
+unit_behind_fits : (k : DimenKind) (negative : Bool) (a : Quantity) (fed : List Fed) → Fits (dimens.unit_behind k negative a fed)
 unit_behind_fits k negative a fed = either k.infinite _ _ (fil_fits k negative a false fed) (sought_fits k negative a fed)
 
-behind_digits_fits : (k : DimenKind) (negative : Bool) (a : Amount) (x : Seen) (fed : List Fed) → Fits (dimens.behind_digits k negative a x fed)
+behind_digits_fits : (k : DimenKind) (negative : Bool) (a : Quantity) (x : Seen) (fed : List Fed) → Fits (dimens.behind_digits k negative a x fed)
 behind_digits_fits k negative a x fed =
     either (is_space x) _ _ (unit_behind_fits k negative a fed) (either k.infinite _ _ (fil_fits k negative a true fed) (unit_at_fits k negative a x fed))
 

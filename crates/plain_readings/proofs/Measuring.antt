@@ -8,7 +8,7 @@ use Rattle.rows.specs.declared.words.Value.{Value}
 use Rattle.rows.specs.declared.words.Value.TheVariants as value
 use Rattle.rows.specs.declared.words.Kind.TheVariants.{Dimension, Glue}
 use Rattle.rows.specs.declared.words.DimenKind.{DimenKind}
-use Rattle.rows.specs.Readings.{Fed, Tok, Val, Told, Fetched, Entered, Cut, Ask, Inner, Fetches}
+use Rattle.rows.specs.Readings.{Fed, Tok, Val, Told, Fetched, Verbatim, Cut, Ask, Inner, Fetches}
 use Rattle.plain_readings.specs.Dimens as dimens
 use Rattle.plain_readings.specs.Glues as glues
 use Rattle.plain_readings.specs.Measures.{dimen_item, dimen_value, dimen_fed, dimen_ask, dimension, glue_item, glue_value, glue_fed, glue_ask, glue}
@@ -103,7 +103,7 @@ dimension_lent k fed (Val v ts) =
     unlent (dimen_steps.item_of (dimen_value v)) (dimension k fed) (dimension k (fed ++ Val v ts ∷ [])) (dimen_valued v) (dimension_follows k fed (Val v ts))
 dimension_lent k fed Told = unlent Note (dimension k fed) (dimension k (fed ++ Told ∷ [])) tt (dimension_follows k fed Told)
 dimension_lent k fed (Fetched v) = unlent Standing (dimension k fed) (dimension k (fed ++ Fetched v ∷ [])) tt (dimension_follows k fed (Fetched v))
-dimension_lent k fed (Entered t) = unlent Valued (dimension k fed) (dimension k (fed ++ Entered t ∷ [])) tt (dimension_follows k fed (Entered t))
+dimension_lent k fed (Verbatim t) = unlent Valued (dimension k fed) (dimension k (fed ++ Verbatim t ∷ [])) tt (dimension_follows k fed (Verbatim t))
 dimension_lent k fed Cut = unlent Valued (dimension k fed) (dimension k (fed ++ Cut ∷ [])) tt (dimension_follows k fed Cut)
 
 glue_lent : (mu : Bool) (fed : List Fed) (y : Fed) → Lends (is_token y) (glue mu (fed ++ y ∷ []))
@@ -112,7 +112,7 @@ glue_lent mu fed (Val v ts) =
     unlent (glue_steps_of.item_of (glue_value v)) (glue mu fed) (glue mu (fed ++ Val v ts ∷ [])) (glue_valued v) (glue_follows mu fed (Val v ts))
 glue_lent mu fed Told = unlent Note (glue mu fed) (glue mu (fed ++ Told ∷ [])) tt (glue_follows mu fed Told)
 glue_lent mu fed (Fetched v) = unlent Standing (glue mu fed) (glue mu (fed ++ Fetched v ∷ [])) tt (glue_follows mu fed (Fetched v))
-glue_lent mu fed (Entered t) = unlent Valued (glue mu fed) (glue mu (fed ++ Entered t ∷ [])) tt (glue_follows mu fed (Entered t))
+glue_lent mu fed (Verbatim t) = unlent Valued (glue mu fed) (glue mu (fed ++ Verbatim t ∷ [])) tt (glue_follows mu fed (Verbatim t))
 glue_lent mu fed Cut = unlent Valued (glue mu fed) (glue mu (fed ++ Cut ∷ [])) tt (glue_follows mu fed Cut)
 
 pub dimension_lends : (k : DimenKind) (fed : List Fed) → Lends (is_met false fed) (dimension k fed)

@@ -9,7 +9,7 @@ use Rattle.tex_syntax.specs.declared.words.Want.TheVariants.{Nonblank}
 use Rattle.rows.specs.declared.words.Kind.TheVariants.{Command, Integer, Factor, Dimension, Glue, Keyword, Text, Definition}
 use Rattle.rows.specs.declared.stage.Note.{Note}
 use Rattle.rows.specs.Laws.{is_told}
-use Rattle.rows.specs.Readings.{Fed, Tok, Val, Told, Fetched, Entered, Cut, Ask, Relaxes}
+use Rattle.rows.specs.Readings.{Fed, Tok, Val, Told, Fetched, Verbatim, Cut, Ask, Relaxes}
 use Rattle.rows.specs.Run.{due}
 use Rattle.rows.proofs.Runs.{row_holds}
 use Rattle.plain_readings.specs.Lists.{build_ask, build_fed, manner, text, definition}
@@ -46,7 +46,7 @@ told_last b (Told ∷ fed) = told_last true fed
 told_last b (Tok x ∷ fed) = told_last false fed
 told_last b (Val v ts ∷ fed) = told_last false fed
 told_last b (Fetched v ∷ fed) = told_last false fed
-told_last b (Entered t ∷ fed) = told_last false fed
+told_last b (Verbatim t ∷ fed) = told_last false fed
 told_last b (Cut ∷ fed) = told_last false fed
 
 quiet_last : (a : Ask) (b : Bool) (fed : List Fed) → IsQuiet (is_told b (fed ++ Told ∷ [])) a → notes_due a ≡ 0
@@ -63,7 +63,7 @@ build_last : (fed : List Fed) → build_fed (fed ++ Told ∷ []) ≡ quiet.noted
 build_last [] = refl
 build_last (Tok x ∷ fed) = rw (build_last fed) refl
 build_last (Told ∷ fed) = rw (build_last fed) refl
-build_last (Entered t ∷ fed) = rw (build_last fed) refl
+build_last (Verbatim t ∷ fed) = rw (build_last fed) refl
 build_last (Val v ts ∷ fed) = build_last fed
 build_last (Fetched v ∷ fed) = build_last fed
 build_last (Cut ∷ fed) = build_last fed
@@ -75,7 +75,7 @@ call_last (Told ∷ fed) = rw (call_last fed) refl
 call_last (Cut ∷ fed) = rw (call_last fed) refl
 call_last (Val v ts ∷ fed) = call_last fed
 call_last (Fetched v ∷ fed) = call_last fed
-call_last (Entered t ∷ fed) = call_last fed
+call_last (Verbatim t ∷ fed) = call_last fed
 
 build_quiet : (a : build.Answer) → quiet.IsQuiet a → notes_due (build_ask a) ≡ 0
 build_quiet (build.More want list) h = refl

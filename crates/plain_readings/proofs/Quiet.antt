@@ -6,7 +6,7 @@ use Rattle.tex_defs.specs.declared.Token.{Token}
 use Rattle.tex_defs.specs.declared.Token.TheVariants.{Place, Number, EndPlaces}
 use Rattle.plain_tokens.specs.Categories.{begin_group, end_group}
 use Rattle.plain_tokens.specs.Tokens.{has_category, means_category}
-use Rattle.plain_state.specs.Definitions.{Body, Fed, Tok, Told, Given, Answer, More, Tells, Done, is_parameter, character_of, is_digit, is_number, number_of, is_reference, count_of, body, reference, illegal, macro_body, no_body, parameters, place, tenth, misnumbered, text_body, missing, first}
+use Rattle.plain_state.specs.Definitions.{Body, Fed, Tok, Told, Given, Answer, More, Tells, Done, is_parameter, character_of, is_digit, is_number, place_digit, is_reference, count_of, body, reference, illegal, macro_body, no_body, parameters, place, tenth, misnumbered, text_body, missing, first}
 
 abbrev pub IsQuiet : Answer → Type 0
 IsQuiet (More want list) = Unit {0}
@@ -37,7 +37,7 @@ mutual
   reference_quiet m b depth character list (Given ts ∷ fed) = reference_quiet m b depth character list fed
   reference_quiet m b depth character list (Tok y ∷ fed) =
       quiet_if (is_parameter y) _ _ (body_quiet m b depth (list ++ y.token ∷ []) fed)
-      (quiet_if (is_number (count_of b.places) y.token) _ _ (body_quiet m b depth (list ++ Number (number_of y.token) ∷ []) fed) (illegal_quiet m b depth character list fed))
+      (quiet_if (is_number (count_of b.places) y.token) _ _ (body_quiet m b depth (list ++ Number (place_digit y.token) ∷ []) fed) (illegal_quiet m b depth character list fed))
 
   illegal_quiet : (m : Manner) (b : Body) (depth : ℕ) (character : Token) (list : List Token) (fed : List Fed) → IsQuiet (illegal m b depth character list (noted fed))
   illegal_quiet m b depth character list [] = tt

@@ -21,7 +21,7 @@ use Rattle.rows.specs.declared.command.Call.{Call}
 use Rattle.rows.specs.Readings.{Fed, Tok, Val, Told, Ask}
 use Rattle.rows.specs.Table.{stages_of}
 use Rattle.rows.specs.Stages.{start, on_token, on_value, numbered_by}
-use Rattle.rows.specs.Run.{Outcome, Asks, Takes, Passes, Gathers, Makes, Turns, comes, due, noted, valued, inner, begins, numbers, met_with, looks, again, started, behind, run, no_turn, turned, row}
+use Rattle.rows.specs.Run.{Outcome, Asks, Takes, Passes, Gathers, Makes, Becomes, comes, due, noted, valued, inner, begins, numbers, met_with, looks, again, started, behind, run, no_turn, turned, row}
 use Rattle.plain_readings.proofs.Wants.{IsUncopied, AsksUncopied}
 
 abbrev Fits : Outcome → Type 0
@@ -45,7 +45,7 @@ comes_fits : (m : Next) (fed : List Fed) → Fits (comes m fed)
 comes_fits (next.Takes d) fed = tt
 comes_fits next.Stops fed = tt
 comes_fits (next.Unassigned c) fed = tt
-comes_fits (next.Turns c) fed = tt
+comes_fits (next.Becomes c) fed = tt
 
 noted_fits : (n : Note) (m : Next) (fed : List Fed) → Fits (noted n m fed)
 noted_fits n m [] = due_fits n
@@ -84,7 +84,7 @@ met_fits s y (met.Notes n m) skipped retried fed h i = noted_fits n m fed
 met_fits s y (met.Retries n) skipped retried fed h i = i n
 met_fits s y (met.Numbers k) skipped retried fed h i = numbers_fits k fed
 met_fits s y (met.Begins k) skipped retried fed h i = inner_fits s k fed
-met_fits s y (met.Turns c) skipped retried fed h i = tt
+met_fits s y (met.Becomes c) skipped retried fed h i = tt
 
 mutual
   looks_fits : (s : Stage) (c : Call) (want : Want) → IsUncopied want → (fed : List Fed) → Fits (looks s c want fed)
@@ -110,7 +110,7 @@ module _ (turn : Call → List Fed → Ask) (turns : (c : Call) (fed : List Fed)
   behind_fits c ds onward h (Passes fed) fits = h ds fed
   behind_fits c ds onward h (Gathers ts) fits = tt
   behind_fits c ds onward h (Makes ts) fits = tt
-  behind_fits c ds onward h (Turns d fed) fits = turns d fed
+  behind_fits c ds onward h (Becomes d fed) fits = turns d fed
 
   run_fits : (c : Call) (ss : List Stage) (ds : List Datum) (fed : List Fed) → AsksUncopied (run turn c ss ds fed)
   run_fits c [] ds fed = tt

@@ -26,7 +26,7 @@ use Rattle.plain_readings.specs.Integers.{is_minus, is_plus, is_digit, digit_of}
 use Rattle.rows.specs.declared.words.DimenKind.{DimenKind}
 use Rattle.rows.specs.Arithmetic.{too_large, measured}
 use Rattle.plain_readings.specs.Factors.{is_point}
-use Rattle.plain_readings.specs.declared.measures.Amount.{Amount}
+use Rattle.plain_readings.specs.declared.measures.Quantity.{Quantity}
 use Rattle.plain_readings.specs.declared.measures.Measure.{Measure}
 
 -- What is read within: the integer before a fraction, with whether a point stands directly behind its decimal digits; the number of a register or of a
@@ -56,8 +56,8 @@ pub data Answer : Type 0 where
   Done : ℤ → (order : ℕ) → (give_back : Bool) → Answer
 
 -- the end of a dimension that was fed with what it didn't ask for, to which no run comes
-abbrev pub senseless : Answer
-senseless = Done (pos 0) 0 false
+abbrev pub impossible : Answer
+impossible = Done (pos 0) 0 false
 
 -- THE END
 
@@ -65,7 +65,7 @@ senseless = Done (pos 0) 0 false
 abbrev pub too_large_told : (negative : Bool) → (order : ℕ) → (give_back : Bool) → List Fed → Answer
 too_large_told negative order back [] = Tells DimensionTooLarge back
 too_large_told negative order back (Told ∷ fed) = Done (with_sign negative (pos (too_large - 1))) order false
-too_large_told negative order back (y ∷ fed) = senseless
+too_large_told negative order back (y ∷ fed) = impossible
 
 abbrev pub finished : (negative : Bool) → Option ℤ → (order : ℕ) → (give_back : Bool) → List Fed → Answer
 finished negative (Some n) order back fed = Done (with_sign negative n) order back
@@ -75,26 +75,26 @@ finished negative None order back fed = too_large_told negative order back fed
 abbrev pub spaced : (negative : Bool) → Option ℤ → (order : ℕ) → List Fed → Answer
 spaced negative v order [] = More Expanded
 spaced negative v order (Tok x ∷ fed) = finished negative v order (not (is_space x)) fed
-spaced negative v order (y ∷ fed) = senseless
+spaced negative v order (y ∷ fed) = impossible
 
 -- another unit is taken
 abbrev pub illegal : UnitTaken → (negative : Bool) → Option ℤ → List Fed → Answer
 illegal unit negative v [] = Tells (IllegalUnit unit) false
 illegal unit negative v (Told ∷ fed) = spaced negative v 0 fed
-illegal unit negative v (y ∷ fed) = senseless
+illegal unit negative v (y ∷ fed) = impossible
 
 -- UNITS behind a factor
 
 -- in sp, where the unit is a point
-abbrev pub in_points : Amount → ℕ
-in_points a = 65536 * a.whole + a.fraction
+abbrev pub in_scaled_points : Quantity → ℕ
+in_scaled_points a = 65536 * a.whole + a.fraction
 
 -- and where it is num/den points
-abbrev pub in_units : Amount → Measure → ℕ
-in_units a u = in_points a * u.num / u.den
+abbrev pub in_units : Quantity → Measure → ℕ
+in_units a u = in_scaled_points a * u.num / u.den
 
-abbrev pub points : Amount → Option ℤ
-points a = measured (pos (in_points a))
+abbrev pub points : Quantity → Option ℤ
+points a = measured (pos (in_scaled_points a))
 
 -- the physical units, each of num/den points
 abbrev pub physical : List Measure
@@ -104,29 +104,29 @@ physical =
     ∷ record { word = Dd; num = 1238; den = 1157 } ∷ record { word = Cc; num = 14856; den = 1157 } ∷ []
 
 -- scaled points, of which the fraction is dropped; and points, where there is no unit
-abbrev pub scaled_points : (negative : Bool) → Amount → List Fed → Answer
+abbrev pub scaled_points : (negative : Bool) → Quantity → List Fed → Answer
 scaled_points negative a [] = Begins (Key Sp) false
 scaled_points negative a (Found true ∷ fed) = spaced negative (measured (pos a.whole)) 0 fed
 scaled_points negative a (Found false ∷ fed) = illegal taken.Pt negative (points a) fed
-scaled_points negative a (y ∷ fed) = senseless
+scaled_points negative a (y ∷ fed) = impossible
 
 -- one of these units, in this order
-abbrev pub by_unit : (negative : Bool) → Amount → List Measure → List Fed → Answer
+abbrev pub by_unit : (negative : Bool) → Quantity → List Measure → List Fed → Answer
 by_unit negative a [] fed = scaled_points negative a fed
 by_unit negative a (u ∷ us) [] = Begins (Key u.word) false
 by_unit negative a (u ∷ us) (Found true ∷ fed) = spaced negative (measured (pos (in_units a u))) 0 fed
 by_unit negative a (u ∷ us) (Found false ∷ fed) = by_unit negative a us fed
-by_unit negative a (u ∷ us) (y ∷ fed) = senseless
+by_unit negative a (u ∷ us) (y ∷ fed) = impossible
 
 abbrev pub positive_part : ℤ → ℕ
 positive_part (pos n) = n
 positive_part (negsuc n) = 0
 
 -- `true`: the factor is divided by the magnification, in thousandths
-abbrev pub magnified_points : Amount → (mag : ℕ) → ℕ
-magnified_points a mag = in_points a * 1000 / mag
+abbrev pub magnified_points : Quantity → (mag : ℕ) → ℕ
+magnified_points a mag = in_scaled_points a * 1000 / mag
 
-abbrev pub magnified_amount : Amount → (mag : ℕ) → Amount
+abbrev pub magnified_amount : Quantity → (mag : ℕ) → Quantity
 magnified_amount a mag =
     if mag == 1000 then a else record { whole = magnified_points a mag / 65536; fraction = magnified_points a mag % 65536 }
 
@@ -134,46 +134,46 @@ magnified_amount a mag =
 abbrev pub magnification_in : SeenValue → ℕ
 magnification_in v = positive_part (integer_of v)
 
-abbrev pub by_magnification : (negative : Bool) → Amount → (mag : ℕ) → List Fed → Answer
-by_magnification negative a mag fed = if mag == 0 then senseless else by_unit negative (magnified_amount a mag) physical fed
+abbrev pub by_magnification : (negative : Bool) → Quantity → (mag : ℕ) → List Fed → Answer
+by_magnification negative a mag fed = if mag == 0 then impossible else by_unit negative (magnified_amount a mag) physical fed
 
-abbrev pub magnification_fetched : (negative : Bool) → Amount → List Fed → Answer
+abbrev pub magnification_fetched : (negative : Bool) → Quantity → List Fed → Answer
 magnification_fetched negative a [] = Fetches (loc.Integer magnification)
 magnification_fetched negative a (Fetched v ∷ fed) = by_magnification negative a (magnification_in v) fed
-magnification_fetched negative a (y ∷ fed) = senseless
+magnification_fetched negative a (y ∷ fed) = impossible
 
 -- it is checked before it is fetched
-abbrev pub magnified : (negative : Bool) → Amount → List Fed → Answer
+abbrev pub magnified : (negative : Bool) → Quantity → List Fed → Answer
 magnified negative a [] = Magnifies
 magnified negative a (Told ∷ fed) = magnification_fetched negative a fed
-magnified negative a (y ∷ fed) = senseless
+magnified negative a (y ∷ fed) = impossible
 
-abbrev pub true_or_not : (negative : Bool) → Amount → List Fed → Answer
+abbrev pub true_or_not : (negative : Bool) → Quantity → List Fed → Answer
 true_or_not negative a [] = Begins (Key True) false
 true_or_not negative a (Found true ∷ fed) = magnified negative a fed
 true_or_not negative a (Found false ∷ fed) = by_unit negative a physical fed
-true_or_not negative a (y ∷ fed) = senseless
+true_or_not negative a (y ∷ fed) = impossible
 
 -- `em` and `ex`: there is no font, and both are 0
-abbrev pub ex_or_not : (negative : Bool) → Amount → List Fed → Answer
+abbrev pub ex_or_not : (negative : Bool) → Quantity → List Fed → Answer
 ex_or_not negative a [] = Begins (Key Ex) false
 ex_or_not negative a (Found true ∷ fed) = spaced negative (Some (pos 0)) 0 fed
 ex_or_not negative a (Found false ∷ fed) = true_or_not negative a fed
-ex_or_not negative a (y ∷ fed) = senseless
+ex_or_not negative a (y ∷ fed) = impossible
 
 -- the first of these begins with the token that was looked at for an internal unit
-abbrev pub em_or_not : (negative : Bool) → Amount → List Fed → Answer
+abbrev pub em_or_not : (negative : Bool) → Quantity → List Fed → Answer
 em_or_not negative a [] = Begins (Key Em) true
 em_or_not negative a (Found true ∷ fed) = spaced negative (Some (pos 0)) 0 fed
 em_or_not negative a (Found false ∷ fed) = ex_or_not negative a fed
-em_or_not negative a (y ∷ fed) = senseless
+em_or_not negative a (y ∷ fed) = impossible
 
 -- so does the only one of mu glue
-abbrev pub mu_or_not : (negative : Bool) → Amount → List Fed → Answer
+abbrev pub mu_or_not : (negative : Bool) → Quantity → List Fed → Answer
 mu_or_not negative a [] = Begins (Key Mu) true
 mu_or_not negative a (Found true ∷ fed) = spaced negative (points a) 0 fed
 mu_or_not negative a (Found false ∷ fed) = illegal taken.Mu negative (points a) fed
-mu_or_not negative a (y ∷ fed) = senseless
+mu_or_not negative a (y ∷ fed) = impossible
 
 -- INTERNAL VALUES, behind which no space is read
 
@@ -181,7 +181,7 @@ mu_or_not negative a (y ∷ fed) = senseless
 abbrev pub incompatible : (negative : Bool) → Option ℤ → List Fed → Answer
 incompatible negative v [] = Tells IncompatibleUnits false
 incompatible negative v (Told ∷ fed) = finished negative v 0 false fed
-incompatible negative v (y ∷ fed) = senseless
+incompatible negative v (y ∷ fed) = impossible
 
 -- a value in mu or not, where that is wanted or not
 abbrev pub valued : (wanted mu : Bool) → (negative : Bool) → Option ℤ → List Fed → Answer
@@ -193,19 +193,19 @@ valued wanted mu negative v fed = incompatible negative v fed
 abbrev pub no_number : (mu : Bool) → (negative : Bool) → List Fed → Answer
 no_number mu negative [] = Tells MissingNumber true
 no_number mu negative (Told ∷ fed) = valued mu false negative (Some (pos 0)) fed
-no_number mu negative (y ∷ fed) = senseless
+no_number mu negative (y ∷ fed) = impossible
 
 -- what stands at a location, as an integer: a dimension in sp, glue by its width
 abbrev pub fetched : (onward : Loc → ℤ → List Fed → Answer) → Loc → List Fed → Answer
 fetched onward l [] = Fetches l
 fetched onward l (Fetched v ∷ fed) = onward l (integer_of v) fed
-fetched onward l (y ∷ fed) = senseless
+fetched onward l (y ∷ fed) = impossible
 
 -- another number than one from 0 to 255 is reported, and the location of number 0 taken
 abbrev pub bad_numbered : Bank → ℤ → (onward : Loc → ℤ → List Fed → Answer) → List Fed → Answer
 bad_numbered b n onward [] = Tells (bad_number b n) false
 bad_numbered b n onward (Told ∷ fed) = fetched onward (location_in b 0) fed
-bad_numbered b n onward (y ∷ fed) = senseless
+bad_numbered b n onward (y ∷ fed) = impossible
 
 abbrev pub with_number : Bank → ℤ → (onward : Loc → ℤ → List Fed → Answer) → List Fed → Answer
 with_number b n onward fed = if is_at_most 255 n then fetched onward (location_in b (byte_of n)) fed else bad_numbered b n onward fed
@@ -214,64 +214,64 @@ with_number b n onward fed = if is_at_most 255 n then fetched onward (location_i
 abbrev pub numbered : Bank → (onward : Loc → ℤ → List Fed → Answer) → List Fed → Answer
 numbered b onward [] = Begins Number false
 numbered b onward (Numbered n ∷ fed) = with_number b n onward fed
-numbered b onward (y ∷ fed) = senseless
+numbered b onward (y ∷ fed) = impossible
 
 -- AN INTERNAL UNIT: the factor times its value, where the fraction's part is cut towards zero
 
-abbrev pub times : Amount → ℤ → ℤ
+abbrev pub times : Quantity → ℤ → ℤ
 times a v = pos a.whole *ℤ v +ℤ int_div (v *ℤ pos a.fraction) (pos 65536)
 
-abbrev pub unit_fetched : DimenKind → (negative : Bool) → Amount → Loc → ℤ → List Fed → Answer
+abbrev pub unit_fetched : DimenKind → (negative : Bool) → Quantity → Loc → ℤ → List Fed → Answer
 unit_fetched k negative a l v fed = valued k.mu (is_mu l) negative (measured (times a v)) fed
 
-abbrev pub internal_unit : DimenKind → (negative : Bool) → Amount → Internal → List Fed → Answer
+abbrev pub internal_unit : DimenKind → (negative : Bool) → Quantity → Internal → List Fed → Answer
 internal_unit k negative a (internal.Given n) fed = valued k.mu false negative (measured (times a (pos n))) fed
 internal_unit k negative a (internal.At l) fed = fetched (unit_fetched k negative a) l fed
 internal_unit k negative a (internal.Numbered b) fed = numbered b (unit_fetched k negative a) fed
 
-abbrev pub word_unit : (mu : Bool) → (negative : Bool) → Amount → List Fed → Answer
+abbrev pub word_unit : (mu : Bool) → (negative : Bool) → Quantity → List Fed → Answer
 word_unit mu negative a fed = if mu then mu_or_not negative a fed else em_or_not negative a fed
 
-abbrev pub internal_or_word : DimenKind → (negative : Bool) → Amount → Option Internal → List Fed → Answer
+abbrev pub internal_or_word : DimenKind → (negative : Bool) → Quantity → Option Internal → List Fed → Answer
 internal_or_word k negative a (Some i) fed = internal_unit k negative a i fed
 internal_or_word k negative a None fed = word_unit k.mu negative a fed
 
 -- the token that is looked at for a unit
-abbrev pub unit_at : DimenKind → (negative : Bool) → Amount → Seen → List Fed → Answer
+abbrev pub unit_at : DimenKind → (negative : Bool) → Quantity → Seen → List Fed → Answer
 unit_at k negative a x fed = if is_some (list_of x.meaning) then no_number k.mu negative fed else internal_or_word k negative a (internal_of x.meaning) fed
 
-abbrev pub unit_sought : DimenKind → (negative : Bool) → Amount → List Fed → Answer
+abbrev pub unit_sought : DimenKind → (negative : Bool) → Quantity → List Fed → Answer
 unit_sought k negative a [] = More Nonblank
 unit_sought k negative a (Tok x ∷ fed) = unit_at k negative a x fed
-unit_sought k negative a (y ∷ fed) = senseless
+unit_sought k negative a (y ∷ fed) = impossible
 
 -- INFINITE UNITS: `fil`, and then `l` while it follows; a third is reported, and so is each further one
-abbrev pub longer : (negative : Bool) → Amount → (order : ℕ) → (too_long : Bool) → List Fed → Answer
+abbrev pub longer : (negative : Bool) → Quantity → (order : ℕ) → (too_long : Bool) → List Fed → Answer
 longer negative a order false [] = Begins (Key L) false
 longer negative a order false (Found true ∷ fed) = if order == 3 then longer negative a order true fed else longer negative a (order + 1) false fed
 longer negative a order false (Found false ∷ fed) = spaced negative (points a) order fed
-longer negative a order false (y ∷ fed) = senseless
+longer negative a order false (y ∷ fed) = impossible
 longer negative a order true [] = Tells (IllegalUnit taken.Filll) false
 longer negative a order true (Told ∷ fed) = longer negative a order false fed
-longer negative a order true (y ∷ fed) = senseless
+longer negative a order true (y ∷ fed) = impossible
 
-abbrev pub fil_or_not : DimenKind → (negative : Bool) → Amount → (begins : Bool) → List Fed → Answer
+abbrev pub fil_or_not : DimenKind → (negative : Bool) → Quantity → (begins : Bool) → List Fed → Answer
 fil_or_not k negative a begins [] = Begins (Key Fil) begins
 fil_or_not k negative a begins (Found true ∷ fed) = longer negative a 1 false fed
 fil_or_not k negative a begins (Found false ∷ fed) = unit_sought k negative a fed
-fil_or_not k negative a begins (y ∷ fed) = senseless
+fil_or_not k negative a begins (y ∷ fed) = impossible
 
 -- the unit behind a factor
-abbrev pub unit_behind : DimenKind → (negative : Bool) → Amount → List Fed → Answer
+abbrev pub unit_behind : DimenKind → (negative : Bool) → Quantity → List Fed → Answer
 unit_behind k negative a fed = if k.infinite then fil_or_not k negative a false fed else unit_sought k negative a fed
 
 -- the unit that begins with this token
-abbrev pub unit_with : DimenKind → (negative : Bool) → Amount → Seen → List Fed → Answer
+abbrev pub unit_with : DimenKind → (negative : Bool) → Quantity → Seen → List Fed → Answer
 unit_with k negative a x fed = if k.infinite then fil_or_not k negative a true fed else unit_at k negative a x fed
 
 -- FACTORS
 
-abbrev pub amount : (whole : ℕ) → (digits : List ℕ) → Amount
+abbrev pub amount : (whole : ℕ) → (digits : List ℕ) → Quantity
 amount n ds = record { whole = n; fraction = fraction_of ds }
 
 -- the first 17 digits count
@@ -279,7 +279,7 @@ abbrev pub with_digit : List ℕ → ℕ → List ℕ
 with_digit ds d = if nat_lt (length ds) 17 then ds ++ d ∷ [] else ds
 
 -- one space behind the digits goes, another token begins the unit
-abbrev pub behind_digits : DimenKind → (negative : Bool) → Amount → Seen → List Fed → Answer
+abbrev pub behind_digits : DimenKind → (negative : Bool) → Quantity → Seen → List Fed → Answer
 behind_digits k negative a x fed = if is_space x then unit_behind k negative a fed else unit_with k negative a x fed
 
 -- the digits behind a point
@@ -287,13 +287,13 @@ abbrev pub fraction : DimenKind → (negative : Bool) → (whole : ℕ) → (dig
 fraction k negative n ds [] = More Expanded
 fraction k negative n ds (Tok x ∷ fed) =
     if is_digit 10 x then fraction k negative n (with_digit ds (digit_of x.token)) fed else behind_digits k negative (amount n ds) x fed
-fraction k negative n ds (y ∷ fed) = senseless
+fraction k negative n ds (y ∷ fed) = impossible
 
 -- a point that was given back is read again
 abbrev pub pointed : DimenKind → (negative : Bool) → (whole : ℕ) → List Fed → Answer
 pointed k negative n [] = More Expanded
 pointed k negative n (Tok x ∷ fed) = fraction k negative n [] fed
-pointed k negative n (y ∷ fed) = senseless
+pointed k negative n (y ∷ fed) = impossible
 
 -- a number below 0 turns the sign
 abbrev pub turned : (negative : Bool) → ℤ → Bool
@@ -313,7 +313,7 @@ factor_read k negative n false fed = with_factor k negative n fed
 abbrev pub factored : DimenKind → (negative : Bool) → List Fed → Answer
 factored k negative [] = Begins Factor true
 factored k negative (Factored n point ∷ fed) = factor_read k negative (in_bounds n) point fed
-factored k negative (y ∷ fed) = senseless
+factored k negative (y ∷ fed) = impossible
 
 -- AN INTERNAL VALUE in place of the factor: an integer is the factor, another value is the dimension
 
@@ -349,4 +349,4 @@ dimension k negative (Tok x ∷ fed) =
     if is_minus x then dimension k (not negative) fed
     else if is_plus x then dimension k negative fed
     else unsigned k negative x fed
-dimension k negative (y ∷ fed) = senseless
+dimension k negative (y ∷ fed) = impossible

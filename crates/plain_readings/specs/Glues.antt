@@ -46,8 +46,8 @@ pub data Answer : Type 0 where
   Done : Glue → Answer
 
 -- the end of glue that was fed with what it didn't ask for, to which no run comes
-abbrev pub senseless : Answer
-senseless = Done zero_glue
+abbrev pub impossible : Answer
+impossible = Done zero_glue
 
 -- PARTS
 
@@ -75,31 +75,31 @@ with_shrink g n order = record { width = g.width; stretch = g.stretch; stretch_o
 -- the shrink comes, behind the glue so far
 abbrev pub shrink : (mu : Bool) → Glue → List Fed → Answer
 shrink mu g [] = Begins (Dimension (infinite mu)) false
-shrink mu g (Measured n order ∷ fed) = if is_part n order then Done (with_shrink g n order) else senseless
-shrink mu g (y ∷ fed) = senseless
+shrink mu g (Measured n order ∷ fed) = if is_part n order then Done (with_shrink g n order) else impossible
+shrink mu g (y ∷ fed) = impossible
 
 abbrev pub minus_or_not : (mu : Bool) → Glue → List Fed → Answer
 minus_or_not mu g [] = Begins (Key Minus) false
 minus_or_not mu g (Found true ∷ fed) = shrink mu g fed
 minus_or_not mu g (Found false ∷ fed) = Done g
-minus_or_not mu g (y ∷ fed) = senseless
+minus_or_not mu g (y ∷ fed) = impossible
 
 abbrev pub stretch : (mu : Bool) → Glue → List Fed → Answer
 stretch mu g [] = Begins (Dimension (infinite mu)) false
-stretch mu g (Measured n order ∷ fed) = if is_part n order then minus_or_not mu (with_stretch g n order) fed else senseless
-stretch mu g (y ∷ fed) = senseless
+stretch mu g (Measured n order ∷ fed) = if is_part n order then minus_or_not mu (with_stretch g n order) fed else impossible
+stretch mu g (y ∷ fed) = impossible
 
 abbrev pub plus_or_not : (mu : Bool) → Glue → List Fed → Answer
 plus_or_not mu g [] = Begins (Key Plus) false
 plus_or_not mu g (Found true ∷ fed) = stretch mu g fed
 plus_or_not mu g (Found false ∷ fed) = minus_or_not mu g fed
-plus_or_not mu g (y ∷ fed) = senseless
+plus_or_not mu g (y ∷ fed) = impossible
 
 -- the reading of the width begins with the token behind the signs
 abbrev pub width : (mu negative : Bool) → List Fed → Answer
 width mu negative [] = Begins (Dimension (finite mu)) true
-width mu negative (Measured n order ∷ fed) = if is_part n order then plus_or_not mu (with_width negative n) fed else senseless
-width mu negative (y ∷ fed) = senseless
+width mu negative (Measured n order ∷ fed) = if is_part n order then plus_or_not mu (with_width negative n) fed else impossible
+width mu negative (y ∷ fed) = impossible
 
 -- INTERNAL GLUE, behind which nothing is read
 
@@ -117,7 +117,7 @@ signed_glue negative g =
 abbrev pub incompatible : Glue → List Fed → Answer
 incompatible g [] = Tells IncompatibleUnits
 incompatible g (Told ∷ fed) = Done g
-incompatible g (y ∷ fed) = senseless
+incompatible g (y ∷ fed) = impossible
 
 -- in mu or not, where that is wanted or not
 abbrev pub valued : (wanted mu : Bool) → Glue → List Fed → Answer
@@ -128,13 +128,13 @@ valued wanted mu g fed = incompatible g fed
 abbrev pub fetched : (mu negative : Bool) → Loc → List Fed → Answer
 fetched mu negative l [] = Fetches l
 fetched mu negative l (Fetched v ∷ fed) = valued mu (is_mu l) (signed_glue negative (glue_at v)) fed
-fetched mu negative l (y ∷ fed) = senseless
+fetched mu negative l (y ∷ fed) = impossible
 
 -- another number than one from 0 to 255 is reported, and the register of number 0 taken
 abbrev pub bad_numbered : (mu negative : Bool) → Bank → ℤ → List Fed → Answer
 bad_numbered mu negative b n [] = Tells (bad_number b n)
 bad_numbered mu negative b n (Told ∷ fed) = fetched mu negative (location_in b 0) fed
-bad_numbered mu negative b n (y ∷ fed) = senseless
+bad_numbered mu negative b n (y ∷ fed) = impossible
 
 abbrev pub with_number : (mu negative : Bool) → Bank → ℤ → List Fed → Answer
 with_number mu negative b n fed = if is_at_most 255 n then fetched mu negative (location_in b (byte_of n)) fed else bad_numbered mu negative b n fed
@@ -143,7 +143,7 @@ with_number mu negative b n fed = if is_at_most 255 n then fetched mu negative (
 abbrev pub numbered : (mu negative : Bool) → Bank → List Fed → Answer
 numbered mu negative b [] = Begins Number false
 numbered mu negative b (Numbered n ∷ fed) = with_number mu negative b n fed
-numbered mu negative b (y ∷ fed) = senseless
+numbered mu negative b (y ∷ fed) = impossible
 
 -- another internal value is the width's
 abbrev pub internal_or_width : (mu negative : Bool) → Option Internal → List Fed → Answer
@@ -158,4 +158,4 @@ glue mu negative (Tok x ∷ fed) =
     if is_minus x then glue mu (not negative) fed
     else if is_plus x then glue mu negative fed
     else internal_or_width mu negative (internal_of x.meaning) fed
-glue mu negative (y ∷ fed) = senseless
+glue mu negative (y ∷ fed) = impossible

@@ -27,8 +27,8 @@ abbrev pub ends_with : ℤ → (give_back : Bool) → Ask
 ends_with n back = Done (value.Plain (datum.Number n)) back
 
 -- The end of an integer that was fed with what it didn't ask for, to which no run comes.
-abbrev pub senseless : Ask
-senseless = ends_with (pos 0) false
+abbrev pub impossible : Ask
+impossible = ends_with (pos 0) false
 
 abbrev pub is_minus : Seen → Bool
 is_minus x = is_other 45 x.token
@@ -71,13 +71,13 @@ number_ended negative n x = ends_with (signed negative n) (not (is_space x))
 abbrev pub digits_dropped : (negative : Bool) → (radix : ℕ) → List Fed → Ask
 digits_dropped negative radix [] = More Expanded
 digits_dropped negative radix (Tok x ∷ fed) = if is_digit radix x then digits_dropped negative radix fed else number_ended negative greatest_integer x
-digits_dropped negative radix (y ∷ fed) = senseless
+digits_dropped negative radix (y ∷ fed) = impossible
 
 -- a value above the greatest integer is reported at its digit
 abbrev pub too_big : (negative : Bool) → (radix : ℕ) → List Fed → Ask
 too_big negative radix [] = Tells NumberTooBig false
 too_big negative radix (Told ∷ fed) = digits_dropped negative radix fed
-too_big negative radix (y ∷ fed) = senseless
+too_big negative radix (y ∷ fed) = impossible
 
 -- digits behind those of this value, and the token behind the last
 abbrev pub digits : (negative : Bool) → (radix n : ℕ) → List Fed → Ask
@@ -87,19 +87,19 @@ digits negative radix n (Tok x ∷ fed) =
     if nat_le (n * radix + digit_of x.token) greatest_integer then digits negative radix (n * radix + digit_of x.token) fed
     else too_big negative radix fed
     ) else number_ended negative n x
-digits negative radix n (y ∷ fed) = senseless
+digits negative radix n (y ∷ fed) = impossible
 
 -- in place of a number, where there is none: the token is given back and the report written
 abbrev pub missing : ℤ → Report → List Fed → Ask
 missing n report [] = Tells report true
 missing n report (Told ∷ fed) = ends_with n false
-missing n report (y ∷ fed) = senseless
+missing n report (y ∷ fed) = impossible
 
 -- the first digit behind ' or "
 abbrev pub first_digit : (negative : Bool) → (radix : ℕ) → List Fed → Ask
 first_digit negative radix [] = More Expanded
 first_digit negative radix (Tok x ∷ fed) = if is_digit radix x then digits negative radix (digit_of x.token) fed else missing (pos 0) MissingNumber fed
-first_digit negative radix (y ∷ fed) = senseless
+first_digit negative radix (y ∷ fed) = impossible
 
 -- CONSTANTS: a backquote, and a character, an active character or a name of one character, which gives its code
 
@@ -122,7 +122,7 @@ improper_code = 48
 abbrev pub behind_number : (negative : Bool) → ℕ → List Fed → Ask
 behind_number negative n [] = More Expanded
 behind_number negative n (Tok x ∷ fed) = number_ended negative n x
-behind_number negative n (y ∷ fed) = senseless
+behind_number negative n (y ∷ fed) = impossible
 
 abbrev pub behind_code : (negative : Bool) → Option ℕ → List Fed → Ask
 behind_code negative None fed = missing (signed negative improper_code) ImproperConstant fed
@@ -132,7 +132,7 @@ behind_code negative (Some c) fed = behind_number negative c fed
 abbrev pub constant : (negative : Bool) → List Fed → Ask
 constant negative [] = More Raw
 constant negative (Tok x ∷ fed) = behind_code negative (code_of x.token) fed
-constant negative (y ∷ fed) = senseless
+constant negative (y ∷ fed) = impossible
 
 -- INTERNAL INTEGERS: no space is read behind one
 
@@ -140,20 +140,20 @@ constant negative (y ∷ fed) = senseless
 abbrev pub mu_found : ℤ → List Fed → Ask
 mu_found n [] = Tells IncompatibleUnits false
 mu_found n (Told ∷ fed) = ends_with n false
-mu_found n (y ∷ fed) = senseless
+mu_found n (y ∷ fed) = impossible
 
 -- what stands at a location
 abbrev pub fetched : (negative : Bool) → Loc → List Fed → Ask
 fetched negative l [] = Fetches l
 fetched negative l (Fetched v ∷ fed) =
     if is_mu l then mu_found (with_sign negative (integer_of v)) fed else ends_with (with_sign negative (integer_of v)) false
-fetched negative l (y ∷ fed) = senseless
+fetched negative l (y ∷ fed) = impossible
 
 -- another number than that of a register or a character is reported, and number 0 taken
 abbrev pub bad_numbered : (negative : Bool) → Bank → ℤ → List Fed → Ask
 bad_numbered negative b n [] = Tells (bad_number b n) false
 bad_numbered negative b n (Told ∷ fed) = fetched negative (location_in b 0) fed
-bad_numbered negative b n (y ∷ fed) = senseless
+bad_numbered negative b n (y ∷ fed) = impossible
 
 abbrev pub with_number : (negative : Bool) → Bank → ℤ → List Fed → Ask
 with_number negative b n fed = if is_at_most 255 n then fetched negative (location_in b (byte_of n)) fed else bad_numbered negative b n fed
@@ -162,7 +162,7 @@ with_number negative b n fed = if is_at_most 255 n then fetched negative (locati
 abbrev pub numbered : (negative : Bool) → Bank → List Fed → Ask
 numbered negative b [] = Inner kind.Integer false
 numbered negative b (Val (value.Plain (datum.Number n)) ts ∷ fed) = with_number negative b n fed
-numbered negative b (y ∷ fed) = senseless
+numbered negative b (y ∷ fed) = impossible
 
 abbrev pub internal_integer : (negative : Bool) → Internal → List Fed → Ask
 internal_integer negative (internal.Given n) fed = ends_with (with_sign negative (pos n)) false
@@ -192,4 +192,4 @@ integer negative (Tok x ∷ fed) =
     if is_minus x then integer (not negative) fed
     else if is_plus x then integer negative fed
     else unsigned negative x fed
-integer negative (y ∷ fed) = senseless
+integer negative (y ∷ fed) = impossible

@@ -17,7 +17,7 @@ use Rattle.rows.specs.declared.words.Kind.TheVariants.{Command, Integer, Factor,
 use Rattle.rows.specs.declared.command.Call.{Call}
 use Rattle.rows.specs.declared.command.Effect.TheVariants.{Reach}
 use Rattle.rows.specs.Laws.{IsValueless}
-use Rattle.rows.specs.Readings.{Fed, Tok, Told, Entered, Ask, More, Inner, Done, Acts, ActsOn, Tells, Inserts, Puts, Fetches, Magnifies}
+use Rattle.rows.specs.Readings.{Fed, Tok, Told, Verbatim, Ask, More, Inner, Done, Acts, ActsOn, Tells, Inserts, Puts, Fetches, Magnifies}
 use Rattle.plain_readings.specs.Readings.{Kind, Reads, Spelling, FileName, Behind, Skips, ask, lists}
 
 -- RANKS. A reading that was fed with nothing begins only readings of a lower rank.
@@ -115,9 +115,9 @@ pub record NamesAreHeld : Type 0 where
 -- TOKENS THAT ENTER an expanded text as they stand: a reading that asks for one of its tokens has one list, to which such a token goes, and asks for
 -- another so.
 pub record TokensEnter : Type 0 where
-  pub copies : (k : Kind) (fed : List Fed) (t : Token) → ask k fed ≡ More Copied → ask k (fed ++ Entered t ∷ []) ≡ More Copied
+  pub copies : (k : Kind) (fed : List Fed) (t : Token) → ask k fed ≡ More Copied → ask k (fed ++ Verbatim t ∷ []) ≡ More Copied
   pub listed : (k : Kind) (fed : List Fed) → ask k fed ≡ More Copied → length (lists k fed) ≡ 1
-  pub grows : (k : Kind) (fed : List Fed) (t : Token) → ask k fed ≡ More Copied → lists k (fed ++ Entered t ∷ []) ≡ grow_first t (lists k fed)
+  pub grows : (k : Kind) (fed : List Fed) (t : Token) → ask k fed ≡ More Copied → lists k (fed ++ Verbatim t ∷ []) ≡ grow_first t (lists k fed)
 
 -- NOTES. How many reports may come at once behind this one, in a dimension, at most: behind a number that is missing in mu, that this isn't mu, and behind
 -- that, that a dimension is too large. (Behind what is fetched more may come.)

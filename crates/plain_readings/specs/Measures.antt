@@ -7,7 +7,7 @@ use Rattle.rows.specs.declared.words.Value.TheVariants as value
 use Rattle.rows.specs.declared.words.Kind.{Kind}
 use Rattle.rows.specs.declared.words.Kind.TheVariants as kind
 use Rattle.rows.specs.declared.words.DimenKind.{DimenKind}
-use Rattle.rows.specs.Readings.{Fed, Tok, Val, Told, Fetched, Entered, Cut, Ask, More, Inner, Done, Tells, Fetches, Magnifies}
+use Rattle.rows.specs.Readings.{Fed, Tok, Val, Told, Fetched, Verbatim, Cut, Ask, More, Inner, Done, Tells, Fetches, Magnifies}
 use Rattle.plain_readings.specs.Dimens as dimens
 use Rattle.plain_readings.specs.Glues as glues
 
@@ -28,7 +28,7 @@ dimen_item (Tok x) = dimens.Tok x
 dimen_item (Val v ts) = dimen_value v
 dimen_item Told = dimens.Told
 dimen_item (Fetched v) = dimens.Fetched v
-dimen_item (Entered t) = dimens.Numbered (pos 0)
+dimen_item (Verbatim t) = dimens.Numbered (pos 0)
 dimen_item Cut = dimens.Numbered (pos 0)
 
 abbrev pub dimen_fed : List Fed → List dimens.Fed
@@ -68,7 +68,7 @@ glue_item (Tok x) = glues.Tok x
 glue_item (Val v ts) = glue_value v
 glue_item Told = glues.Told
 glue_item (Fetched v) = glues.Fetched v
-glue_item (Entered t) = glues.Numbered (pos 0)
+glue_item (Verbatim t) = glues.Numbered (pos 0)
 glue_item Cut = glues.Numbered (pos 0)
 
 abbrev pub glue_fed : List Fed → List glues.Fed

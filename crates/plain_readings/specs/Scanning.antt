@@ -34,10 +34,10 @@ pub data Scanning : Type 0 where
   SkippedText : (line : ℕ) → Scanning
 
 -- the first of so many lists; where there is none, that of no token
-abbrev pub first_of : (count : ℕ) → List (List Token) → List Token
-first_of zero held = []
-first_of (suc n) [] = []
-first_of (suc n) (ts ∷ held) = ts
+abbrev pub list_on_top : (count : ℕ) → List (List Token) → List Token
+list_on_top zero held = []
+list_on_top (suc n) [] = []
+list_on_top (suc n) (ts ∷ held) = ts
 
 abbrev pub scanned_at : Status → (list : List Token) → (around : Option Scanning) → Option Scanning
 scanned_at (Scans what name) list around = Some (Builds what name list)
@@ -49,7 +49,7 @@ scanned_at s list around = around
 abbrev pub innermost_scanned : List Reading → (held : List (List Token)) → Option Scanning
 innermost_scanned [] held = None
 innermost_scanned (r ∷ rs) held =
-    scanned_at (status r.kind) (first_of (length (lists r.kind r.fed)) held) (innermost_scanned rs (drop (length (lists r.kind r.fed)) held))
+    scanned_at (status r.kind) (list_on_top (length (lists r.kind r.fed)) held) (innermost_scanned rs (drop (length (lists r.kind r.fed)) held))
 
 abbrev pub unless_unguarded : Status → Option Scanning → Option Scanning
 unless_unguarded Unguarded s = None

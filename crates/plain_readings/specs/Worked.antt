@@ -30,7 +30,7 @@ use Rattle.equivalents.specs.declared.values.Loc.TheVariants as loc
 use Rattle.equivalents.specs.declared.values.Val.TheVariants as val
 use Rattle.equivalents.specs.First.{magnification}
 use Rattle.rows.specs.Worked.{character, primitive, call, asked, number, x, y, x_name, a_letter, a_space}
-use Rattle.rows.specs.Readings.{Fed, Tok, Val, Told, Fetched, Entered, Cut, Ask, More, Inner, Done, Acts, ActsOn, Ends, Calls, Fails, RunsAway, Tells, Inserts, Puts, Fetches, Magnifies}
+use Rattle.rows.specs.Readings.{Fed, Tok, Val, Told, Fetched, Verbatim, Cut, Ask, More, Inner, Done, Acts, ActsOn, Ends, Calls, Fails, RunsAway, Tells, Inserts, Puts, Fetches, Magnifies}
 use Rattle.plain_readings.specs.Integers.{ends_with}
 use Rattle.plain_readings.specs.Keywords.{ends_found}
 use Rattle.plain_readings.specs.Calls.{par_token}
@@ -398,10 +398,10 @@ pub record WorkedLists : Type 0 where
   pub text_held : holds (Reads (Text x_name true)) (Tok left ∷ Tok a_letter ∷ Tok right ∷ []) ≡ ([] ∷ []) ∷ ([] ∷ []) ∷ ((a_letter.token ∷ []) ∷ []) ∷ ((a_letter.token ∷ []) ∷ []) ∷ []
   pub raw_text : steps (Reads (Text x_name false)) (Tok left ∷ Tok a_letter ∷ Tok right ∷ []) ≡ More want.Command ∷ More Raw ∷ More Raw ∷ Done value.List false ∷ []
   pub entered :
-      steps (Reads (Text x_name true)) (Tok left ∷ Entered left.token ∷ Entered parameter_token.token ∷ Tok right ∷ []) ≡
+      steps (Reads (Text x_name true)) (Tok left ∷ Verbatim left.token ∷ Verbatim parameter_token.token ∷ Tok right ∷ []) ≡
       More want.Command ∷ More Copied ∷ More Copied ∷ More Copied ∷ Done value.List false ∷ []
   pub entered_held :
-      holds (Reads (Text x_name true)) (Tok left ∷ Entered left.token ∷ Entered parameter_token.token ∷ Tok right ∷ []) ≡
+      holds (Reads (Text x_name true)) (Tok left ∷ Verbatim left.token ∷ Verbatim parameter_token.token ∷ Tok right ∷ []) ≡
       ([] ∷ []) ∷ ([] ∷ []) ∷ ((left.token ∷ []) ∷ []) ∷ ((left.token ∷ parameter_token.token ∷ []) ∷ []) ∷ ((left.token ∷ parameter_token.token ∷ []) ∷ []) ∷ []
   pub brace : steps (Reads (Text x_name true)) (Tok a_letter ∷ Told ∷ Tok right ∷ []) ≡ More want.Command ∷ Tells MissingBrace true ∷ More Copied ∷ Done value.List false ∷ []
   pub message_held : holds (Reads (Command (call 9))) (Val value.List (a_letter.token ∷ []) ∷ []) ≡ [] ∷ ((a_letter.token ∷ []) ∷ []) ∷ []
@@ -411,10 +411,10 @@ pub record WorkedLists : Type 0 where
   pub waiting : steps (Behind (call 54) a_letter) [] ≡ Acts (call 54) (PutBack a_letter) ∷ []
   pub waiting_held : holds (Behind (call 54) a_letter) [] ≡ [] ∷ []
   pub macro_entered :
-      steps (Reads (Definition x_name true)) (Tok parameter_token ∷ Tok one ∷ Tok left ∷ Entered parameter_token.token ∷ Entered one.token ∷ Tok parameter_token ∷ Tok one ∷ []) ≡
+      steps (Reads (Definition x_name true)) (Tok parameter_token ∷ Tok one ∷ Tok left ∷ Verbatim parameter_token.token ∷ Verbatim one.token ∷ Tok parameter_token ∷ Tok one ∷ []) ≡
       More Raw ∷ More Raw ∷ More Raw ∷ More Copied ∷ More Copied ∷ More Copied ∷ More Expanded ∷ More Copied ∷ []
   pub macro_entered_list :
-      lists (Reads (Definition x_name true)) (Tok parameter_token ∷ Tok one ∷ Tok left ∷ Entered parameter_token.token ∷ Entered one.token ∷ Tok parameter_token ∷ Tok one ∷ []) ≡
+      lists (Reads (Definition x_name true)) (Tok parameter_token ∷ Tok one ∷ Tok left ∷ Verbatim parameter_token.token ∷ Verbatim one.token ∷ Tok parameter_token ∷ Tok one ∷ []) ≡
       (token.Place 35 ∷ token.EndPlaces ∷ parameter_token.token ∷ one.token ∷ token.Number 1 ∷ []) ∷ []
   pub macro_held :
       holds (Reads (Definition x_name false)) (Tok parameter_token ∷ Tok (character other 49) ∷ Tok left ∷ Tok a_letter ∷ Tok right ∷ []) ≡

@@ -9,4 +9,4 @@ pub use laws::{
     names_are_held, notes_fall, readings_begin_lower, readings_start, skipped_texts,
     tokens_are_lent, tokens_enter, values_are_theirs, weights_fall, worked_readings,
 };
-pub use measures::{Amount, Measure};
+pub use measures::{Measure, Quantity};

@@ -3,7 +3,7 @@ use rows::Keyword;
 
 /// The factor of a unit: an integer, and a fraction in units of 1/65536, at most 1.
 #[derive(Clone, Copy)]
-pub struct Amount {
+pub struct Quantity {
     pub whole: u64,
     pub fraction: u32,
 }

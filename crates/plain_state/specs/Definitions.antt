@@ -54,9 +54,9 @@ abbrev pub is_number : ℕ → Token → Bool
 is_number n (Char category code) = (category == other) && is_between 49 (48 + n) code
 is_number n t = false
 
-abbrev pub number_of : Token → ℕ
-number_of (Char category code) = code - 48
-number_of t = 0
+abbrev pub place_digit : Token → ℕ
+place_digit (Char category code) = code - 48
+place_digit t = 0
 
 -- THE BODY, of a macro or of a text, up to the brace that closes it.
 
@@ -100,7 +100,7 @@ abbrev mutual
   reference m b depth character list (Given ts ∷ fed) = reference m b depth character list fed
   reference m b depth character list (Tok y ∷ fed) =
       if is_parameter y then body m b depth (list ++ y.token ∷ []) fed
-      else if is_number (count_of b.places) y.token then body m b depth (list ++ Number (number_of y.token) ∷ []) fed
+      else if is_number (count_of b.places) y.token then body m b depth (list ++ Number (place_digit y.token) ∷ []) fed
       else illegal m b depth character list fed
 
   pub illegal : Manner → Body → (depth : ℕ) → (character : Token) → (list : List Token) → List Fed → Answer

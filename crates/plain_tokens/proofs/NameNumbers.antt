@@ -3,7 +3,7 @@ use Rattle.std.proofs.Common.{◌≡◌, ◌≢◌, ℕ, ◌+◌, suc, true, fal
 use Rattle.std.specs.List.{AllByRecursion}
 use Rattle.std.proofs.lemmas.List.Elements.{recursion_from_All}
 use Rattle.std.proofs.lemmas.Slice.Eq.{bytes_eq-Decides}
-use Rattle.plain_tokens.specs.Lookup.{number_from, number_of}
+use Rattle.plain_tokens.specs.Lookup.{number_from, name_number}
 use Rattle.plain_tokens.specs.LookupLaws.{IsNew}
 
 same_bytes : (a : List ℕ) → bytes_eq a a ≡ true
@@ -24,8 +24,8 @@ module _ (name : List ℕ) where
   new_from k [] h = refl
   new_from k (other ∷ names) h = rw (other_bytes other name h.0) (new_from (suc k) names h.1)
 
-  pub entered : (before behind : List (List ℕ)) → IsNew before name → number_of (before ++ name ∷ behind) name ≡ Some (length before + 1)
+  pub entered : (before behind : List (List ℕ)) → IsNew before name → name_number (before ++ name ∷ behind) name ≡ Some (length before + 1)
   entered before behind h = entered_from 1 before behind (recursion_from_All (λ (other : List ℕ). other ≢ name) before h)
 
-  pub new : (names : List (List ℕ)) → IsNew names name → number_of names name ≡ None
+  pub new : (names : List (List ℕ)) → IsNew names name → name_number names name ≡ None
   new names h = new_from 1 names (recursion_from_All (λ (other : List ℕ). other ≢ name) names h)

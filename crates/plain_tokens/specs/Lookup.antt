@@ -13,21 +13,21 @@ number_from k [] name = None
 number_from k (first ∷ names) name = if bytes_eq first name then Some k else number_from (suc k) names name
 
 -- the number of a name among these, from 1, if it is one of them
-abbrev pub number_of : List (List ℕ) → List ℕ → Option ℕ
-number_of names name = number_from 1 names name
+abbrev pub name_number : List (List ℕ) → List ℕ → Option ℕ
+name_number names name = number_from 1 names name
 
 -- A name that isn't entered: a reading that enters names gives it the next number, another meets it as an unknown name.
 abbrev pub unknown : Bool → ℕ → Name
 unknown true count = Word (count + 1)
 unknown false count = Frozen Unknown
 
-abbrev pub numbered : Bool → ℕ → Option ℕ → Name
-numbered enters count (Some number) = Word number
-numbered enters count None = unknown enters count
+abbrev pub numbered_name : Bool → ℕ → Option ℕ → Name
+numbered_name enters count (Some number) = Word number
+numbered_name enters count None = unknown enters count
 
 -- a name of two or more characters, where these are entered
 abbrev pub name_among : Bool → List (List ℕ) → List ℕ → Name
-name_among enters names bytes = numbered enters (length names) (number_of names bytes)
+name_among enters names bytes = numbered_name enters (length names) (name_number names bytes)
 
 -- The token, where these names are entered. `\par` at an empty line is the name `par`, whatever it means now.
 abbrev pub token_of : Bool → List (List ℕ) → Lexeme → Token
@@ -44,7 +44,7 @@ joins bytes (Some number) = []
 joins bytes None = bytes ∷ []
 
 abbrev pub new_among : Bool → List (List ℕ) → List ℕ → List (List ℕ)
-new_among true names bytes = joins bytes (number_of names bytes)
+new_among true names bytes = joins bytes (name_number names bytes)
 new_among false names bytes = []
 
 -- the name that joins them, if one does

@@ -3,7 +3,7 @@ use Rattle.std.specs.Prelude.{ℕ, ◌+◌, ℤ, Bool, true, false, List, [], �
 use Rattle.tex_defs.specs.declared.Token.{Token}
 use Rattle.plain_tokens.specs.Lines.{first_line, behind_feed}
 use Rattle.plain_tokens.specs.Printed.{character_of}
-use Rattle.plain_tokens.specs.Puts.{Item, Put, settled, passed, with_put, item_token}
+use Rattle.plain_tokens.specs.Puts.{Item, Put, without_ended, passed, with_put, item_token}
 use Rattle.plain_tokens.specs.Lex.{LineState, NewLine, Lexeme, Lexed, Gives, Invalid, UsedUp, lexed}
 
 -- A file is begun once its first line was taken. Beneath all files stands what is none: nothing but lists that were put in front.
@@ -58,8 +58,8 @@ pub data Pulled : Type 0 where
 abbrev pub with_puts : List Put → Pending → Pending
 with_puts ps p = record p { puts = ps }
 
-abbrev pub settle : Pending → Pending
-settle p = with_puts (settled p.puts) p
+abbrev pub end_token_lists : Pending → Pending
+end_token_lists p = with_puts (without_ended p.puts) p
 
 -- a list in front of all that is pending; one without items is none
 abbrev pub put_front : Put → Pending → Pending

@@ -77,9 +77,9 @@ settled_top p [] below rest = below
 settled_top p (x ∷ xs) below rest = p ∷ rest
 
 -- without the finished lists in front: a list whose last item was read stays until the next reading or the next push begins
-abbrev pub settled : List Put → List Put
-settled [] = []
-settled (p ∷ ps) = settled_top p p.items (settled ps) ps
+abbrev pub without_ended : List Put → List Put
+without_ended [] = []
+without_ended (p ∷ ps) = settled_top p p.items (without_ended ps) ps
 
 -- behind the gaps
 abbrev pub without_gaps : List Item → List Item

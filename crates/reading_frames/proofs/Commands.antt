@@ -11,7 +11,7 @@ use Rattle.rows.specs.Readings.{Fed, Val, ActsOn, Defines}
 use Rattle.row_frames.specs.declared.frame.RowFrame.{RowFrame}
 use Rattle.row_frames.specs.Resumes.{resume}
 use Rattle.plain_readings.specs.Readings.{kept_list}
-use Rattle.reading_frames.specs.Sees.{Lists, top_list, has_no_token, kept_list_of}
+use Rattle.reading_frames.specs.Views.{Lists, top_list, has_no_token, kept_list_of}
 use Rattle.reading_frames.specs.Resumes.{resume_command, command_lists, has_list, with_list, IsOver, keeps}
 use Rattle.reading_frames.specs.declared.command.CommandScan.{CommandScan}
 use Rattle.reading_frames.specs.declared.command.CommandScan.TheVariants as command

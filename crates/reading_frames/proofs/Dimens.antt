@@ -12,7 +12,7 @@ use Rattle.rows.specs.declared.internal.Bank.TheVariants as bank
 use Rattle.rows.specs.Internal.{in_bounds, integer_of, is_mu}
 use Rattle.rows.specs.Tokens.{is_at_most}
 use Rattle.rows.specs.Arithmetic.{measured}
-use Rattle.plain_readings.specs.declared.measures.Amount.{Amount}
+use Rattle.plain_readings.specs.declared.measures.Quantity.{Quantity}
 use Rattle.plain_readings.specs.declared.measures.Measure.{Measure}
 use Rattle.plain_readings.specs.Dimens.{Inner, Factor, Number, Key, Fed, Factored, Numbered, Found, Told, Fetched, Answer, More, Begins, Fetches, Magnifies, Tells, Done, physical, magnification_in, magnified_amount, by_magnification, by_unit, finished, valued, fil_or_not, unit_sought, unit_behind, turned, factor_read, with_factor, longer, with_number, is_integer_at, times}
 use Rattle.plain_readings.specs.Measures.{dimen_ask, dimen_value}
@@ -46,7 +46,7 @@ inner_most Number false = omega arith
 inner_most (Key w) true = omega arith
 inner_most (Key w) false = omega arith
 
-unit_light : (negative : Bool) (a : Amount) (us : List Measure) → Most 11 (by_unit negative a us [])
+unit_light : (negative : Bool) (a : Quantity) (us : List Measure) → Most 11 (by_unit negative a us [])
 unit_light negative a [] = omega arith
 unit_light negative a (u ∷ us) = omega arith
 
@@ -60,7 +60,7 @@ valued_light false false negative v = omega (arith, finished_light negative v)
 valued_light true false negative v = omega arith
 valued_light false true negative v = omega arith
 
-behind_light : (k : DimenKind) (negative : Bool) (a : Amount) → Most 11 (unit_behind k negative a [])
+behind_light : (k : DimenKind) (negative : Bool) (a : Quantity) → Most 11 (unit_behind k negative a [])
 behind_light k negative a = most_if 11 k.infinite (fil_or_not k negative a false []) (unit_sought k negative a []) (omega arith) (omega arith)
 
 -- WHEREVER IT STANDS
@@ -99,7 +99,7 @@ dimension_light s = light_at s.kind s.negative s.place
 
 -- BEHIND A NOTE
 
-unit_unnoted : (negative : Bool) (a : Amount) (us : List Measure) → IsNoted (dimen_ask (by_unit negative a us [])) → ⊥
+unit_unnoted : (negative : Bool) (a : Quantity) (us : List Measure) → IsNoted (dimen_ask (by_unit negative a us [])) → ⊥
 unit_unnoted negative a [] h = h
 unit_unnoted negative a (u ∷ us) h = h
 
@@ -139,7 +139,7 @@ dimension_told s h = told_at s.kind s.negative s.place h
 
 -- BEHIND WHAT STANDS AT A LOCATION
 
-unit_fetched : (negative : Bool) (a : Amount) (us : List Measure) (v : SeenValue) → Most 58 (by_unit negative a us (Fetched v ∷ []))
+unit_fetched : (negative : Bool) (a : Quantity) (us : List Measure) (v : SeenValue) → Most 58 (by_unit negative a us (Fetched v ∷ []))
 unit_fetched negative a [] v = omega arith
 unit_fetched negative a (u ∷ us) v = omega arith
 
@@ -149,7 +149,7 @@ onward_light k negative sought.Dimension l n =
     (omega (arith, behind_light k (turned negative n) (record { whole = nat_abs n; fraction = 0 }))) (valued_light k.mu (is_mu l) negative (measured n))
 onward_light k negative (sought.Unit a) l n = valued_light k.mu (is_mu l) negative (measured (times a n))
 
-magnified_light : (negative : Bool) (a : Amount) (mag : ℕ) → Most 58 (by_magnification negative a mag [])
+magnified_light : (negative : Bool) (a : Quantity) (mag : ℕ) → Most 58 (by_magnification negative a mag [])
 magnified_light negative a mag = most_if 58 (mag == 0) (Done (pos 0) 0 false) (by_unit negative (magnified_amount a mag) physical []) (omega arith) (omega arith)
 
 fetched_at : (k : DimenKind) (negative : Bool) (p : DimenPlace) (v : SeenValue) → Most 58 (resume_at k negative p (Fetched v ∷ []))
@@ -188,15 +188,15 @@ factor_light : (k : DimenKind) (negative : Bool) (n : ℤ) (point : Bool) → Mo
 factor_light k negative n true = omega arith
 factor_light k negative n false = omega (arith, behind_light k (turned negative n) (record { whole = nat_abs n; fraction = 0 }))
 
-unit_factored : (negative : Bool) (a : Amount) (us : List Measure) (n : ℤ) (point : Bool) → Most 60 (by_unit negative a us (Factored n point ∷ []))
+unit_factored : (negative : Bool) (a : Quantity) (us : List Measure) (n : ℤ) (point : Bool) → Most 60 (by_unit negative a us (Factored n point ∷ []))
 unit_factored negative a [] n point = omega arith
 unit_factored negative a (u ∷ us) n point = omega arith
 
-unit_numbered : (negative : Bool) (a : Amount) (us : List Measure) (n : ℤ) → Most 60 (by_unit negative a us (Numbered n ∷ []))
+unit_numbered : (negative : Bool) (a : Quantity) (us : List Measure) (n : ℤ) → Most 60 (by_unit negative a us (Numbered n ∷ []))
 unit_numbered negative a [] n = omega arith
 unit_numbered negative a (u ∷ us) n = omega arith
 
-unit_found : (negative : Bool) (a : Amount) (us : List Measure) (found : Bool) → Most 60 (by_unit negative a us (Found found ∷ []))
+unit_found : (negative : Bool) (a : Quantity) (us : List Measure) (found : Bool) → Most 60 (by_unit negative a us (Found found ∷ []))
 unit_found negative a [] true = omega arith
 unit_found negative a [] false = omega arith
 unit_found negative a (u ∷ us) true = omega arith

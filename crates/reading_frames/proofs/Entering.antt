@@ -7,10 +7,10 @@ use Rattle.tex_syntax.specs.declared.words.Manner.{Manner}
 use Rattle.tex_syntax.specs.declared.words.Want.TheVariants.{Raw, Expanded, Copied}
 use Rattle.list_builder.specs.declared.stage.Stage.TheVariants as stage
 use Rattle.rows.specs.declared.command.Call.{Call}
-use Rattle.rows.specs.Readings.{Ask, More, Entered}
+use Rattle.rows.specs.Readings.{Ask, More, Verbatim}
 use Rattle.plain_readings.specs.Readings.{Reading, ask}
 use Rattle.plain_readings.proofs.Entering as readings
-use Rattle.reading_frames.specs.Sees.{Lists}
+use Rattle.reading_frames.specs.Views.{Lists}
 use Rattle.reading_frames.specs.Resumes.{resume, name_at, file_at, list_count}
 use Rattle.reading_frames.specs.Stands.{FrameStands, FramesStand, GoesOn, AreShallow}
 use Rattle.reading_frames.specs.Stack.{AsksCopied, asks_in, Enters}
@@ -28,7 +28,7 @@ use Rattle.reading_frames.proofs.Feeding.{fed_on}
 
 -- what a frame does that takes the token: it stays
 abbrev Takes : Frame → List Token → Lists → Token → Type 0
-Takes f list held t = GoesOn f f (list ∷ held) ((list ++ t ∷ []) ∷ held) (Entered t)
+Takes f list held t = GoesOn f f (list ∷ held) ((list ++ t ∷ []) ∷ held) (Verbatim t)
 
 module _ (list : List Token) (held : Lists) (t : Token) where
   number_raw : (expanded : Bool) → More (if expanded then Expanded else Raw) ≡ More Copied → ⊥
@@ -72,10 +72,10 @@ enters_above f fs [] r rs t n stands e = absurd (omega (arith, n, stands.0.holds
 enters_above f fs (list ∷ held) r rs t n stands e =
     let on : Takes f list held t = takes list held t f n e in
     record {
-      stands = fed_on f f fs (list ∷ held) ((list ++ t ∷ []) ∷ held) (Entered t) (r ∷ rs) on stands;
+      stands = fed_on f f fs (list ∷ held) ((list ++ t ∷ []) ∷ held) (Verbatim t) (r ∷ rs) on stands;
       copies =
           ap (λ (a : Ask). Some a)
-          (sym (on.asks []) ∙ sym (stands.0.goes_on (Entered t ∷ [])) ∙ (readings.enters r.kind r.fed t (reading_asks f (list ∷ held) r stands.0 e)).copies);
+          (sym (on.asks []) ∙ sym (stands.0.goes_on (Verbatim t ∷ [])) ∙ (readings.enters r.kind r.fed t (reading_asks f (list ∷ held) r stands.0 e)).copies);
       beneath = on.beneath;
       shallow = λ s. (omega (arith, s.0, length-append list (t ∷ [])), subst (λ (l : Lists). AreShallow fs l) (sym on.beneath) s.1);
     }

@@ -2,7 +2,7 @@
 use Rattle.std.proofs.Common.{List, [], ◌∷◌, sym, ◌∙◌, append_assoc, subst}
 use Rattle.rows.specs.Readings.{Fed}
 use Rattle.plain_readings.specs.Readings.{Kind, Reading, opened, fed_with}
-use Rattle.reading_frames.specs.Sees.{Lists}
+use Rattle.reading_frames.specs.Views.{Lists}
 use Rattle.reading_frames.specs.Stands.{FramesStand, Begins, GoesOn}
 use Rattle.reading_frames.specs.declared.frame.Frame.{Frame}
 

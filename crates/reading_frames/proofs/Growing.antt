@@ -2,7 +2,7 @@
 use Rattle.std.proofs.Common.{◌≡◌, ◌≤◌, ℕ, suc, ◌+◌, length, arith, List, [], ◌∷◌, ◌++◌, drop, refl, sym, ap, ◌∙◌, Option, Some, None, Bool, true, false, append_assoc}
 use Rattle.plain_state.specs.Definitions.{with_cell}
 use Rattle.tex_defs.specs.declared.Token.{Token}
-use Rattle.reading_frames.specs.Sees.{Lists, top_list, put, on_top, grown}
+use Rattle.reading_frames.specs.Views.{Lists, top_list, put, on_top, grown}
 use Rattle.reading_frames.specs.Resumes.{with_list, listed_count}
 use Rattle.reading_frames.specs.declared.ask.Grown.{Grown}
 

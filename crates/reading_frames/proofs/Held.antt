@@ -14,7 +14,7 @@ use Rattle.row_frames.specs.declared.frame.RowFrame.{RowFrame}
 use Rattle.row_frames.specs.Resumes as row
 use Rattle.plain_readings.specs.Lists.{built}
 use Rattle.plain_readings.specs.Readings.{Reading, lists, kept_list}
-use Rattle.reading_frames.specs.Sees.{Lists, top_list}
+use Rattle.reading_frames.specs.Views.{Lists, top_list}
 use Rattle.reading_frames.specs.Resumes.{building, build_at, name_list_at, file_list_at, list_count, listed_count, listed_lists}
 use Rattle.reading_frames.specs.Stands.{FrameStands, AreHeld}
 use Rattle.reading_frames.specs.declared.command.CommandScan.TheVariants as command

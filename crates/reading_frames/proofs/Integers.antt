@@ -12,7 +12,7 @@ use Rattle.rows.specs.Internal.{internal_of, is_mu}
 use Rattle.rows.specs.Readings.{Tok, Told, Fetched, Ask}
 use Rattle.plain_readings.specs.Integers.{is_digit, digit_of, is_minus, is_plus, greatest_integer, digits, too_big, missing, code_of, behind_code, internal_integer, by_meaning, unsigned, integer}
 use Rattle.plain_readings.specs.Weights.{value_weight, ask_weight, IsNoted}
-use Rattle.scan_numbers.specs.Sees.{radix_number}
+use Rattle.scan_numbers.specs.Views.{radix_number}
 use Rattle.scan_numbers.specs.Resumes.{resume_at, resume}
 use Rattle.scan_numbers.specs.declared.number.Place.{Place}
 use Rattle.scan_numbers.specs.declared.number.Place.TheVariants as place

@@ -8,7 +8,7 @@ use Rattle.rows.specs.Readings.{Told, Fetches}
 use Rattle.plain_readings.specs.Keywords.{letters, giving_back, keyword_from}
 use Rattle.plain_readings.specs.Weights.{value_weight, ask_weight, IsNoted}
 use Rattle.plain_readings.proofs.Keywords.{letters_few}
-use Rattle.scan_dimens.specs.Sees.{letters_at, back_at, kept, kept_at}
+use Rattle.scan_dimens.specs.Views.{letters_at, back_at, kept, kept_at}
 use Rattle.scan_dimens.specs.Resumes.{resume, resume_at, kept_in}
 use Rattle.scan_dimens.specs.declared.keyword.KeywordPlace.{KeywordPlace}
 use Rattle.scan_dimens.specs.declared.keyword.KeywordPlace.TheVariants.{Letters, PutsBack, Ended}

@@ -21,7 +21,7 @@ use Rattle.rows.specs.declared.command.Call.{Call}
 use Rattle.rows.specs.Readings.{Fed, Tok, Val, Told, Ask, Acts, ActsOn, Defines, Ends}
 use Rattle.rows.specs.Table.{stages_of, stages_left}
 use Rattle.rows.specs.Stages.{start, on_token, on_value, numbered_by}
-use Rattle.rows.specs.Run.{Outcome, Asks, Takes, Passes, Gathers, Makes, Turns, comes, due, noted, valued, inner, begins, numbers, met_with, looks, again, started, behind, run, no_turn, turned}
+use Rattle.rows.specs.Run.{Outcome, Asks, Takes, Passes, Gathers, Makes, Becomes, comes, due, noted, valued, inner, begins, numbers, met_with, looks, again, started, behind, run, no_turn, turned}
 use Rattle.row_frames.specs.declared.frame.RowFrame.{RowFrame}
 use Rattle.row_frames.specs.declared.turn.Kept.{Kept}
 use Rattle.row_frames.specs.declared.turn.Kept.TheVariants as kept
@@ -48,13 +48,13 @@ module _ (more : List Fed) where
   Same (Passes fed) o = o ≡ Passes (fed ++ more)
   Same (Gathers ts) o = o ≡ Gathers ts
   Same (Makes ts) o = o ≡ Makes ts
-  Same (Turns c fed) o = o ≡ Turns c (fed ++ more)
+  Same (Becomes c fed) o = o ≡ Becomes c (fed ++ more)
 
   comes_same : (m : Next) (fed : List Fed) → Same (comes m fed) (comes m (fed ++ more))
   comes_same (next.Takes d) fed = refl
   comes_same next.Stops fed = λ over. refl
   comes_same (next.Unassigned c) fed = λ over. refl
-  comes_same (next.Turns c) fed = refl
+  comes_same (next.Becomes c) fed = refl
 
   noted_same : (n : Note) (m : Next) (fed : List Fed) → Same (noted n m fed) (noted n m (fed ++ more))
   noted_same n m [] = λ over. absurd (due_goes_on n over)
@@ -94,7 +94,7 @@ module _ (more : List Fed) where
   met_same s x (met.Retries n) skipped skipped' retried retried' fed h i = i n
   met_same s x (met.Numbers b) skipped skipped' retried retried' fed h i = numbers_same b fed
   met_same s x (met.Begins k) skipped skipped' retried retried' fed h i = inner_same s k fed
-  met_same s x (met.Turns c) skipped skipped' retried retried' fed h i = refl
+  met_same s x (met.Becomes c) skipped skipped' retried retried' fed h i = refl
 
   mutual
     looks_same : (s : Stage) (c : Call) (want : Want) (fed : List Fed) → Same (looks s c want fed) (looks s c want (fed ++ more))
@@ -130,7 +130,7 @@ module _ (more : List Fed) where
     behind_same c ds onward h (Passes fed) p same over = ap (behind turn c ds onward) same ∙ h ds fed over
     behind_same c ds onward h (Gathers ts) p same over = ap (behind turn c ds onward) same
     behind_same c ds onward h (Makes ts) p same over = ap (behind turn c ds onward) same
-    behind_same c ds onward h (Turns d fed) p same over = ap (behind turn c ds onward) same ∙ turns d fed over
+    behind_same c ds onward h (Becomes d fed) p same over = ap (behind turn c ds onward) same ∙ turns d fed over
 
     run_same : (c : Call) (ss : List Stage) (ds : List Datum) (fed : List Fed) → IsOver (run turn c ss ds fed) → run turn c ss ds (fed ++ more) ≡ run turn c ss ds fed
     run_same c [] ds fed over = refl

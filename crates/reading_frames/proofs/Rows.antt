@@ -21,7 +21,7 @@ use Rattle.rows.specs.Readings.{Fed, Val, Told, Ask, More, Inner, Acts, ActsOn, 
 use Rattle.rows.specs.Table.{stages_of, stages_left}
 use Rattle.rows.specs.Stages.{start, on_value, numbered_by, name}
 use Rattle.rows.specs.Effects.{effect_of, as_definition}
-use Rattle.rows.specs.Run.{Outcome, Asks, Takes, Passes, Gathers, Makes, Turns, comes, valued, started, behind, run, no_turn}
+use Rattle.rows.specs.Run.{Outcome, Asks, Takes, Passes, Gathers, Makes, Becomes, comes, valued, started, behind, run, no_turn}
 use Rattle.row_frames.specs.declared.frame.RowFrame.{RowFrame}
 use Rattle.row_frames.specs.declared.turn.Kept.{Kept}
 use Rattle.row_frames.specs.declared.turn.Kept.TheVariants as kept
@@ -44,7 +44,7 @@ module _
     Fits (Passes fed) = fed ≡ []
     Fits (Gathers ts) = Unit {0}
     Fits (Makes ts) = Unit {0}
-    Fits (Turns c fed) = fed ≡ []
+    Fits (Becomes c fed) = fed ≡ []
 
     start_fits : (s : Stage) (c : Call) (begun : Start) → Fits (started s c begun [])
     start_fits s c (Looks want) = more want
@@ -57,7 +57,7 @@ module _
       behind_fits c ds onward h (Passes fed) e = subst (λ (l : List Fed). P (onward ds l)) (sym e) (h ds)
       behind_fits c ds onward h (Gathers ts) fits = act_on c (effect_of c ds) ts
       behind_fits c ds onward h (Makes ts) fits = define (as_definition c) (name 0 ds) ts
-      behind_fits c ds onward h (Turns d fed) e = subst (λ (l : List Fed). P (turn d l)) (sym e) (turns d)
+      behind_fits c ds onward h (Becomes d fed) e = subst (λ (l : List Fed). P (turn d l)) (sym e) (turns d)
 
       run_fits : (c : Call) (ss : List Stage) (ds : List Datum) → P (run turn c ss ds [])
       run_fits c [] ds = act c (effect_of c ds)
@@ -82,7 +82,7 @@ module _
     comes_fits (next.Takes d) = refl
     comes_fits next.Stops = end
     comes_fits (next.Unassigned c) = act c Unassigned
-    comes_fits (next.Turns c) = refl
+    comes_fits (next.Becomes c) = refl
 
     start_told : (s : Stage) (c : Call) (begun : Start) → Fits (started s c begun (Told ∷ []))
     start_told s c (Looks want) = end

@@ -5,9 +5,9 @@ use Rattle.std.proofs.lemmas.List.{drop-drop, reverse-append}
 use Rattle.tex_defs.specs.declared.Token.{Token}
 use Rattle.rows.specs.Table.{reads_under_normal}
 use Rattle.plain_readings.specs.Readings.{Reading, lists}
-use Rattle.plain_readings.specs.Scanning.{Status, Scans, SkipsText, Unguarded, Inherits, command_status, Scanning, first_of, scanned_at, innermost_scanned, scanning}
+use Rattle.plain_readings.specs.Scanning.{Status, Scans, SkipsText, Unguarded, Inherits, command_status, Scanning, list_on_top, scanned_at, innermost_scanned, scanning}
 use Rattle.plain_readings.specs.Scanning as machine
-use Rattle.reading_frames.specs.Sees.{Lists, top_list}
+use Rattle.reading_frames.specs.Views.{Lists, top_list}
 use Rattle.reading_frames.specs.Resumes.{list_count, frame_status, read_at, reads_unguarded}
 use Rattle.reading_frames.specs.Stands.{FramesStand}
 use Rattle.reading_frames.specs.Stack.{found_at, innermost_found, unless_unguarded, found_in, scanning_of}
@@ -22,12 +22,12 @@ command_inherits : (b : Bool) (list : List Token) (o : Option Scanning) → scan
 command_inherits true list o = refl
 command_inherits false list o = refl
 
-first_list : (held : Lists) → first_of 1 held ≡ top_list held
+first_list : (held : Lists) → list_on_top 1 held ≡ top_list held
 first_list [] = refl
 first_list (list ∷ held) = refl
 
 -- what is read itself has its list on top; of what is skipped none counts
-on_top : (f : Frame) (held : Lists) (o : Option Scanning) → scanned_at (frame_status f) (first_of (list_count f) held) o ≡ scanned_at (frame_status f) (top_list held) o
+on_top : (f : Frame) (held : Lists) (o : Option Scanning) → scanned_at (frame_status f) (list_on_top (list_count f) held) o ≡ scanned_at (frame_status f) (top_list held) o
 on_top (Command scan p) held o = command_inherits (reads_under_normal p) _ o ∙ sym (command_inherits (reads_under_normal p) (top_list held) o)
 on_top (Integer scan) held o = refl
 on_top (Factor scan) held o = refl
@@ -54,10 +54,10 @@ among (f ∷ fs) n held (r ∷ rs) stands =
     let dropped : drop (list_count f) (drop n held) ≡ drop (n + list_count f) held = drop-drop (list_count f) n held in
     let beneath : innermost_scanned rs (drop (n + list_count f) held) ≡ scanning_of held (innermost_found fs (n + list_count f)) =
     among fs (n + list_count f) held rs (subst (λ (l : Lists). FramesStand fs l rs) dropped stands.1) in
-    ap (λ (s : Status). scanned_at s (first_of (length (lists r.kind r.fed)) (drop n held)) (innermost_scanned rs (drop (length (lists r.kind r.fed)) (drop n held)))) stands.0.checks ∙
-    ap (λ (m : ℕ). scanned_at (frame_status f) (first_of m (drop n held)) (innermost_scanned rs (drop m (drop n held)))) (lists_counted f (drop n held) r stands.0) ∙
-    ap (λ (l : Lists). scanned_at (frame_status f) (first_of (list_count f) (drop n held)) (innermost_scanned rs l)) dropped ∙
-    ap (λ (o : Option Scanning). scanned_at (frame_status f) (first_of (list_count f) (drop n held)) o) beneath ∙
+    ap (λ (s : Status). scanned_at s (list_on_top (length (lists r.kind r.fed)) (drop n held)) (innermost_scanned rs (drop (length (lists r.kind r.fed)) (drop n held)))) stands.0.checks ∙
+    ap (λ (m : ℕ). scanned_at (frame_status f) (list_on_top m (drop n held)) (innermost_scanned rs (drop m (drop n held)))) (lists_counted f (drop n held) r stands.0) ∙
+    ap (λ (l : Lists). scanned_at (frame_status f) (list_on_top (list_count f) (drop n held)) (innermost_scanned rs l)) dropped ∙
+    ap (λ (o : Option Scanning). scanned_at (frame_status f) (list_on_top (list_count f) (drop n held)) o) beneath ∙
     on_top f (drop n held) (scanning_of held (innermost_found fs (n + list_count f))) ∙
     sym (found_scanned (frame_status f) n held (innermost_found fs (n + list_count f)))
 

@@ -40,7 +40,7 @@ use Rattle.scan_numbers.specs.Resumes as number
 use Rattle.scan_numbers.specs.FactorResumes as factor
 use Rattle.scan_numbers.specs.declared.number.NumberScan.{NumberScan}
 use Rattle.scan_numbers.specs.declared.factor.FactorScan.{FactorScan}
-use Rattle.reading_frames.specs.Sees.{Lists, has_no_token}
+use Rattle.reading_frames.specs.Views.{Lists, has_no_token}
 use Rattle.reading_frames.specs.Resumes.{resume, resume_command, name_at, file_at, skip_at, resume_build, build_at}
 use Rattle.reading_frames.specs.Stack.{asks_in, frames_of}
 use Rattle.reading_frames.specs.Weights.{frame_end, own_weight, asks_weight, innermost_weight, begun_weight, fed_weight, IsReported, IsEnd}

@@ -1,6 +1,6 @@
 -- The lists of a frame and those beneath it are all that are held.
 use Rattle.std.proofs.Common.{◌≡◌, ◌≤◌, ℕ, zero, suc, List, [], ◌∷◌, ◌++◌, length, take, drop, arith, refl, sym, ap, ◌∙◌}
-use Rattle.reading_frames.specs.Sees.{Lists}
+use Rattle.reading_frames.specs.Views.{Lists}
 use Rattle.reading_frames.specs.Resumes.{list_count}
 use Rattle.reading_frames.specs.Stack.{innermost_lists, innermost_count, lists_beneath}
 use Rattle.reading_frames.specs.Stands.{opened_lists}

@@ -1,4 +1,4 @@
-pub mod Sees
+pub mod Views
 pub mod Resumes
 pub mod Stands
 pub mod Stack

@@ -50,7 +50,7 @@ use Rattle.reading_frames.specs.declared.text.BuildPlace.TheVariants as place
 use Rattle.reading_frames.specs.declared.text.BuildScan.{BuildScan}
 use Rattle.reading_frames.specs.declared.frame.Frame.{Frame}
 use Rattle.reading_frames.specs.declared.frame.Frame.TheVariants.{Command, Integer, Factor, Dimension, Glue, Keyword, Build, Spelling, FileName, Behind, Skips}
-use Rattle.reading_frames.specs.Sees.{Lists, top_list, kept_list_of}
+use Rattle.reading_frames.specs.Views.{Lists, top_list, kept_list_of}
 
 -- A command, and the list with which it is to do something
 

@@ -6,11 +6,11 @@ use Rattle.tex_defs.specs.declared.Token.{Token}
 use Rattle.tex_syntax.specs.declared.words.Want.TheVariants.{Copied}
 use Rattle.plain_tokens.specs.Puts.{grow_first}
 use Rattle.rows.specs.Readings as reading
-use Rattle.rows.specs.Readings.{Fed, More, Entered}
+use Rattle.rows.specs.Readings.{Fed, More, Verbatim}
 use Rattle.plain_readings.specs.Readings.{Reading, ask, fed_with}
 use Rattle.plain_readings.specs.Scanning.{Status, Scans, SkipsText, Unguarded, Scanning}
 use Rattle.plain_readings.specs.Scanning as machine
-use Rattle.reading_frames.specs.Sees.{Lists, top_list, ask_of}
+use Rattle.reading_frames.specs.Views.{Lists, top_list, ask_of}
 use Rattle.reading_frames.specs.Resumes.{resume, building, list_count, frame_status, groups}
 use Rattle.reading_frames.specs.Stands.{FramesStand, AreShallow}
 use Rattle.reading_frames.specs.declared.ask.Ask.{Ask}
@@ -113,7 +113,7 @@ abbrev pub AsksCopied : Option reading.Ask → Type 0
 AsksCopied o = o ≡ Some (More Copied)
 
 pub record Enters (fs : List Frame) (held : Lists) (work : List Reading) (t : Token) : Type 0 where
-  pub stands : FramesStand fs (grow_first t held) (fed_with (Entered t) work)
+  pub stands : FramesStand fs (grow_first t held) (fed_with (Verbatim t) work)
   pub copies : AsksCopied (asks_in fs (grow_first t held))
   pub beneath : lists_beneath fs (grow_first t held) ≡ lists_beneath fs held
   pub shallow : AreShallow fs held → AreShallow fs (grow_first t held)

@@ -4,7 +4,7 @@ use Rattle.rows.specs.declared.words.Kind.TheVariants.{Command, Integer, Factor,
 use Rattle.rows.specs.Readings.{Fed}
 use Rattle.plain_readings.specs.Readings.{Kind, Arguments, Reading, ask, lists, fed_with, opened}
 use Rattle.plain_readings.specs.Scanning.{status}
-use Rattle.reading_frames.specs.Sees.{Lists, top_list}
+use Rattle.reading_frames.specs.Views.{Lists, top_list}
 use Rattle.reading_frames.specs.Resumes.{resume, building, list_count, below, frame_status, groups}
 use Rattle.reading_frames.specs.declared.ask.Opening.{Opening}
 use Rattle.reading_frames.specs.declared.ask.Opening.TheVariants.{Reads, Behind, Skips}

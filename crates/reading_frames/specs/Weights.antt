@@ -9,7 +9,7 @@ use Rattle.rows.specs.declared.command.Effect.TheVariants.{ExpandBehind}
 use Rattle.rows.specs.Readings.{Ask, Inner, Done, Acts, ActsOn, Defines, Ends}
 use Rattle.plain_readings.specs.Weights.{frame_weight, value_frame, act_frame, value_weight, act_weight, behind_weight, end_weight, ask_weight, IsNoted}
 use Rattle.scan_dimens.specs.Resumes.{kept_in}
-use Rattle.reading_frames.specs.Sees.{kind_of}
+use Rattle.reading_frames.specs.Views.{kind_of}
 use Rattle.reading_frames.specs.Resumes.{resume}
 use Rattle.reading_frames.specs.Stack.{Stack, asks_in}
 use Rattle.reading_frames.specs.declared.ask.Opening.{Opening}

@@ -4,10 +4,10 @@ ghost use Rattle.tex_defs.specs.declared.Token.{Token};
 ghost use Rattle.rows.specs.declared.words.Value.TheVariants as value_of;
 ghost use Rattle.rows.specs.Readings.{Fed, Tok, Told, Fetched, Val};
 ghost use Rattle.rows.specs.Run.{row, due};
-ghost use Rattle.row_frames.specs.Sees as rows_see;
+ghost use Rattle.row_frames.specs.Views as rows_view;
 ghost use Rattle.row_frames.specs.Resumes as rows_resume;
 ghost use Rattle.plain_readings.specs.Readings.{kept_list};
-ghost use Rattle.reading_frames.specs.Sees.{ask_of, IsFetchedAt, has_no_token, kept_list_of, Lists};
+ghost use Rattle.reading_frames.specs.Views.{ask_of, IsFetchedAt, has_no_token, kept_list_of, Lists};
 ghost use Rattle.reading_frames.specs.Resumes.{resume_command, command_lists, command_count, has_list, listed_count, with_list, IsOver, Owns};
 ghost use Rattle.reading_frames.specs.Resumes as resumes;
 
@@ -30,7 +30,7 @@ pub enum CommandScan {
 
 /// What a command asks for by its row, over a list of no token.
 fn of_row(asked: row_frames::Ask) -> Ask
-    ensures is { (held : Lists) → ask_of held result ≡ rows_see.ask_of [] asked }
+    ensures is { (held : Lists) → ask_of held result ≡ rows_view.ask_of [] asked }
     ensures owns { Owns result 0 }
     ensures found { IsFetchedAt result }
 {
@@ -85,8 +85,8 @@ fn asked_in(row: &RowFrame) -> Ask
 
 /// A row is fed, and comes to this if it is over; the list that came last is listed or has no token.
 fn over_behind(row: &mut RowFrame, y: row_frames::Fed, listed: bool) -> Option<CommandScan>
-    ensures over { IfSome result (λ s. (ts : List Token) (held : Lists) (fed : List Fed) → ts ≡ kept_list_of listed held → rows_resume.resume row.old (rows_see.fed_of ts y ∷ fed) ≡ resume_command s held fed) }
-    ensures goes_on { result ≡ None → (ts : List Token) (fed : List Fed) → rows_resume.resume row.old (rows_see.fed_of ts y ∷ fed) ≡ rows_resume.resume row.new fed }
+    ensures over { IfSome result (λ s. (ts : List Token) (held : Lists) (fed : List Fed) → ts ≡ kept_list_of listed held → rows_resume.resume row.old (rows_view.fed_of ts y ∷ fed) ≡ resume_command s held fed) }
+    ensures goes_on { result ≡ None → (ts : List Token) (fed : List Fed) → rows_resume.resume row.old (rows_view.fed_of ts y ∷ fed) ≡ rows_resume.resume row.new fed }
     ensures ended { IfSome result (λ s. IsOver s listed) }
 {
     match row.feed(y) {

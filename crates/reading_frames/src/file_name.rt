@@ -7,7 +7,7 @@ ghost use Rattle.equivalents.specs.Locations.{SeenValue};
 ghost use Rattle.rows.specs.Readings.{Fed, Tok, Told, Val, Fetched};
 ghost use Rattle.plain_readings.specs.FileNames as names;
 ghost use Rattle.plain_readings.specs.FileNames.{file_naming, file_characters};
-ghost use Rattle.reading_frames.specs.Sees.{ask_of, IsFetchedAt, grown, Lists, top_list};
+ghost use Rattle.reading_frames.specs.Views.{ask_of, IsFetchedAt, grown, Lists, top_list};
 ghost use Rattle.reading_frames.specs.Resumes.{resume_file, file_list, Owns};
 
 use crate::ask::{Ask, Grown};

@@ -7,7 +7,7 @@ ghost use Rattle.rows.specs.Readings.{Fed, Tok, Told, Val, Fetched, Fetches};
 ghost use Rattle.plain_readings.specs.Readings.{Reading, lists, opened, opened_with, fed_with};
 ghost use Rattle.plain_readings.specs.Scanning.{scanning};
 ghost use Rattle.plain_readings.specs.Weights.{value_frame, act_frame, value_weight, act_weight};
-ghost use Rattle.reading_frames.specs.Sees.{has_no_token, kind_of, IsFetchedAt, Lists, on_top};
+ghost use Rattle.reading_frames.specs.Views.{has_no_token, kind_of, IsFetchedAt, Lists, on_top};
 ghost use Rattle.reading_frames.specs.Resumes.{with_list, listed_count, token_count, Owns};
 ghost use Rattle.reading_frames.specs.Stands.{FramesStand, AreShallow, opened_lists};
 ghost use Rattle.reading_frames.specs.Stack.{Stack, AsksCopied, depth_full, asks_in, asked_in, asked_of, innermost_groups, innermost_count, innermost_lists, innermost_of, with_innermost, lists_beneath, found_in, innermost_found, scanning_of};

@@ -5,7 +5,7 @@ ghost use Rattle.rows.specs.declared.words.Value.{Value};
 ghost use Rattle.equivalents.specs.Locations.{SeenValue};
 ghost use Rattle.rows.specs.Readings.{Fed, Tok, Told, Val, Fetched};
 ghost use Rattle.plain_readings.specs.Skips.{skipping};
-ghost use Rattle.reading_frames.specs.Sees.{ask_of, IsFetchedAt, Lists};
+ghost use Rattle.reading_frames.specs.Views.{ask_of, IsFetchedAt, Lists};
 ghost use Rattle.reading_frames.specs.Resumes.{resume_skip, Owns};
 
 use crate::ask::Ask;

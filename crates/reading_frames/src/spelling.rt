@@ -7,7 +7,7 @@ ghost use Rattle.rows.specs.Readings.{Fed, Tok, Told, Val, Fetched};
 ghost use Rattle.rows.specs.Tokens as tokens;
 ghost use Rattle.plain_readings.specs.Spelling as names;
 ghost use Rattle.plain_readings.specs.Spelling.{spelling, characters};
-ghost use Rattle.reading_frames.specs.Sees.{ask_of, IsFetchedAt, grown, Lists, top_list};
+ghost use Rattle.reading_frames.specs.Views.{ask_of, IsFetchedAt, grown, Lists, top_list};
 ghost use Rattle.reading_frames.specs.Resumes.{resume_name, name_list, Owns};
 
 use crate::ask::{Ask, Grown};

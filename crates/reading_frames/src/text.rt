@@ -7,7 +7,7 @@ ghost use Rattle.rows.specs.Readings.{Fed, Tok, Told, Val};
 ghost use Rattle.plain_readings.specs.Lists as lists;
 ghost use Rattle.plain_readings.specs.Lists.{build_ask, build_fed};
 ghost use Rattle.list_builder.specs.Stages as stages;
-ghost use Rattle.reading_frames.specs.Sees.{ask_of, IsFetchedAt, grown, Lists, top_list};
+ghost use Rattle.reading_frames.specs.Views.{ask_of, IsFetchedAt, grown, Lists, top_list};
 ghost use Rattle.reading_frames.specs.Resumes.{resume_build, groups_in, built_as, token_count, Owns};
 
 use crate::ask::{Ask, Grown};

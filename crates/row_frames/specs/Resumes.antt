@@ -16,10 +16,10 @@ use Rattle.row_frames.specs.declared.turn.Ask.{Ask}
 use Rattle.row_frames.specs.declared.turn.Kept.{Kept}
 use Rattle.row_frames.specs.declared.turn.Kept.TheVariants.{Start, Looking, Within, Numbered, Noting, Retrying}
 use Rattle.row_frames.specs.declared.turn.Turn.{Turn}
-use Rattle.row_frames.specs.declared.turn.Turn.TheVariants.{Stays, Takes, Passes, Leaves, Gathers, Defines, Turns, Unassigned, Ends}
+use Rattle.row_frames.specs.declared.turn.Turn.TheVariants.{Stays, Takes, Passes, Leaves, Gathers, Defines, Becomes, Unassigned, Ends}
 use Rattle.row_frames.specs.declared.frame.RowFrame.{RowFrame}
 use Rattle.row_frames.specs.Data.{values}
-use Rattle.row_frames.specs.Sees.{ask_of, GivesBack}
+use Rattle.row_frames.specs.Views.{ask_of, GivesBack}
 
 -- what comes of a stage in which a command stands here
 abbrev pub within : Stage → Call → List Datum → Kept → List Fed → Outcome
@@ -44,7 +44,7 @@ IsTurn s c ds ts y onward Passes = (fed : List Fed) → onward fed ≡ outcome.P
 IsTurn s c ds ts y onward Leaves = (fed : List Fed) → onward fed ≡ outcome.Passes (y ∷ fed)
 IsTurn s c ds ts y onward Gathers = (fed : List Fed) → onward fed ≡ outcome.Gathers ts
 IsTurn s c ds ts y onward Defines = (fed : List Fed) → onward fed ≡ outcome.Makes ts
-IsTurn s c ds ts y onward (Turns d) = (fed : List Fed) → onward fed ≡ outcome.Turns d fed
+IsTurn s c ds ts y onward (Becomes d) = (fed : List Fed) → onward fed ≡ outcome.Becomes d fed
 IsTurn s c ds ts y onward (Unassigned d) = (fed : List Fed) → onward fed ≡ Asks (reading.Acts d effect.Unassigned)
 IsTurn s c ds ts y onward Ends = (fed : List Fed) → onward fed ≡ Asks reading.Ends
 

@@ -36,8 +36,8 @@ fn value_made(datum: Datum) -> Effect
 }
 
 /// The same, which is shown.
-fn value_shown(datum: Datum) -> Effect
-    ensures { result ≡ effects.value_shown datum }
+fn shows_datum(datum: Datum) -> Effect
+    ensures { result ≡ effects.shows_datum datum }
 {
     match datum {
         Datum::At(loc) => Effect::ShowValue(loc),
@@ -80,7 +80,7 @@ fn comes_to(action: Action, read: &Data) -> Effect
         Action::Message => Effect::Message,
         Action::ErrorMessage => Effect::ErrorMessage,
         Action::Show => Effect::Show(token(first)),
-        Action::ShowValue => value_shown(first),
+        Action::ShowValue => shows_datum(first),
         Action::ChangeCase(upper) => Effect::ChangeCase(upper),
         Action::Define => Effect::Nothing,
         Action::DefineGlobally => Effect::Nothing,

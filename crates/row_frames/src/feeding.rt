@@ -2,7 +2,7 @@
 ghost use Rattle.std.specs.Prelude.{◌≡◌, List, map, IfSome};
 ghost use Rattle.tex_defs.specs.declared.Token.{Token};
 ghost use Rattle.rows.specs.Run.{row};
-ghost use Rattle.row_frames.specs.Sees.{ask_of, fed_of};
+ghost use Rattle.row_frames.specs.Views.{ask_of, fed_of};
 
 use crate::frame::RowFrame;
 use crate::turn::{Ask, Fed};

@@ -27,7 +27,7 @@ impl RowFrame {
     ghost use Rattle.rows.specs.Readings as reading;
     ghost use Rattle.rows.specs.Table.{stages_of};
     ghost use Rattle.rows.specs.Run.{row, run};
-    ghost use Rattle.row_frames.specs.Sees.{ask_of, fed_of, GivesBack, IsOpen};
+    ghost use Rattle.row_frames.specs.Views.{ask_of, fed_of, GivesBack, IsOpen};
     ghost use Rattle.row_frames.specs.Resumes.{resume, turn_of};
     ghost use Rattle.row_frames.specs.declared.turn.Kept.TheVariants as kept_at;
 
@@ -113,7 +113,7 @@ impl RowFrame {
             }
             Turn::Gathers => Ask::ActsOn(self.call, effect_of(self.call, &self.read)),
             Turn::Defines => Ask::Defines(as_definition(self.call), name(self.read.first())),
-            Turn::Turns(call) => self.go_on_as(call),
+            Turn::Becomes(call) => self.go_on_as(call),
             Turn::Unassigned(call) => Ask::Acts(call, Effect::Unassigned),
             Turn::Ends => Ask::Ends,
         }

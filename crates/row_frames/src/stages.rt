@@ -169,8 +169,8 @@ fn standing(otherwise: Met, stands: Option<Internal>) -> Met
 }
 
 /// The number of a primitive.
-fn number_of(head: Head) -> u16
-    ensures { result ≡ stages.number_of head }
+fn primitive_number(head: Head) -> u16
+    ensures { result ≡ stages.primitive_number head }
 {
     match head {
         Head::Primitive(number) => number,
@@ -189,7 +189,7 @@ fn unusable_behind(number: u16, x: Seen) -> Note
 fn variable(call: Call, x: Seen) -> Met
     ensures { result ≡ stages.on_token stage.Variable call x }
 {
-    let note = unusable_behind(number_of(call.head), x);
+    let note = unusable_behind(primitive_number(call.head), x);
     let refused = Met::Notes(note, Next::Unassigned(call));
     standing(refused, variable_of(x.meaning))
 }
@@ -267,7 +267,7 @@ fn related(call: Call, token: Token) -> Met
     match relation_of(token) {
         Some(relation) => Met::Takes(Datum::Relation(relation)),
         None => {
-            let note = Note::Tells(Report::MissingRelation(number_of(call.head)), true);
+            let note = Note::Tells(Report::MissingRelation(primitive_number(call.head)), true);
             Met::Notes(note, Next::Takes(Datum::Relation(Relation::Equal)))
         }
     }
@@ -371,7 +371,7 @@ fn behind_prefixes(call: Call, x: Seen) -> Met
 {
     let on = as_command(call, x);
     if is_definition(x.meaning) {
-        return Met::Turns(on);
+        return Met::Becomes(on);
     }
     if !is_assignment(x.meaning) {
         let note = Note::Tells(Report::PrefixWith(x.meaning), true);
@@ -384,9 +384,9 @@ fn behind_prefixes(call: Call, x: Seen) -> Met
             outer: false,
             ..on
         };
-        return Met::Notes(note, Next::Turns(unlimited));
+        return Met::Notes(note, Next::Becomes(unlimited));
     }
-    Met::Turns(on)
+    Met::Becomes(on)
 }
 
 /// A further prefix, or the command behind prefixes.

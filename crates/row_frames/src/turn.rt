@@ -8,7 +8,7 @@ ghost use Rattle.rows.specs.Readings.{Tok, Val};
 ghost use Rattle.rows.specs.Readings as reading;
 ghost use Rattle.rows.specs.Run.{Asks, looks, again, begins, inner, numbers, noted, valued, comes, due};
 ghost use Rattle.row_frames.specs.Data.{values};
-ghost use Rattle.row_frames.specs.Sees.{ask_of, fed_of, GivesBack, IsOpen};
+ghost use Rattle.row_frames.specs.Views.{ask_of, fed_of, GivesBack, IsOpen};
 ghost use Rattle.row_frames.specs.declared.turn.Kept.TheVariants as kept_at;
 ghost use Rattle.row_frames.specs.Resumes.{within, IsTurn};
 
@@ -95,7 +95,7 @@ pub enum Turn {
     Gathers,
     Defines,
     /// The command goes on as this one, from the beginning.
-    Turns(Call),
+    Becomes(Call),
     /// The command, an assignment, is over, and has assigned nothing.
     Unassigned(Call),
     /// The command is over.
@@ -124,7 +124,7 @@ fn behind_note(next: Next) -> Turn
         Next::Takes(datum) => Turn::Takes(datum),
         Next::Stops => Turn::Ends,
         Next::Unassigned(call) => Turn::Unassigned(call),
-        Next::Turns(call) => Turn::Turns(call),
+        Next::Becomes(call) => Turn::Becomes(call),
     }
 }
 
@@ -141,7 +141,7 @@ fn look(stage: Stage, call: Call, want: Want, x: Seen) -> Turn
         Met::Retries(note) => Turn::Stays(Kept::Retrying(call, want, note), note_due(note, x)),
         Met::Numbers(bank) => { Turn::Stays(Kept::Numbered(bank), Ask::Inner(Kind::Integer, None)) }
         Met::Begins(kind) => Turn::Stays(Kept::Within(kind), Ask::Inner(kind, Some(x))),
-        Met::Turns(call) => Turn::Turns(call),
+        Met::Becomes(call) => Turn::Becomes(call),
     }
 }
 

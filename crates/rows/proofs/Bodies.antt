@@ -29,16 +29,16 @@ use Rattle.rows.specs.Arithmetic.{number_in}
 use Rattle.rows.specs.Tokens.{is_at_most, is_up_to}
 use Rattle.std.specs.Prelude.{if◌then◌else◌}
 use Rattle.rows.specs.Table.{stages_of}
-use Rattle.rows.specs.Run.{Outcome, Asks, Takes, Passes, Gathers, Makes, Turns, comes, due, noted, valued, inner, begins, numbers, met_with, looks, again, started, behind, run, no_turn, turned, row}
+use Rattle.rows.specs.Run.{Outcome, Asks, Takes, Passes, Gathers, Makes, Becomes, comes, due, noted, valued, inner, begins, numbers, met_with, looks, again, started, behind, run, no_turn, turned, row}
 use Rattle.rows.specs.Laws.{HasBody, Brings}
 
 -- A STAGE THAT IS FED WITH ONE MORE
 
 -- what is left is nothing, or the token that came
-abbrev IsSmall : List Fed → Type 0
-IsSmall [] = Unit {0}
-IsSmall (Tok x ∷ []) = Unit {0}
-IsSmall fed = ⊥
+abbrev IsSuited : List Fed → Type 0
+IsSuited [] = Unit {0}
+IsSuited (Tok x ∷ []) = Unit {0}
+IsSuited fed = ⊥
 
 -- no stage asks for a macro by itself
 abbrev IsPlain : Ask → Type 0
@@ -48,11 +48,11 @@ IsPlain a = Unit {0}
 -- what comes where a stage asked for this
 abbrev Follows : Fed → Ask → Outcome → Type 0
 Follows y a (Asks b) = IsPlain b
-Follows y a (Takes d fed) = IsSmall fed
-Follows y a (Passes fed) = IsSmall fed
+Follows y a (Takes d fed) = IsSuited fed
+Follows y a (Passes fed) = IsSuited fed
 Follows y a (Gathers ts) = Unit {0}
 Follows y a (Makes ts) = Brings y a → ts ≢ []
-Follows y a (Turns c fed) = IsSmall fed
+Follows y a (Becomes c fed) = IsSuited fed
 
 -- what came of a stage, and what comes of it with one more
 abbrev Extends : Fed → Outcome → Outcome → Type 0
@@ -61,7 +61,7 @@ Extends y (Takes d fed) o = o ≡ Takes d (fed ++ y ∷ [])
 Extends y (Passes fed) o = o ≡ Passes (fed ++ y ∷ [])
 Extends y (Gathers ts) o = o ≡ Gathers ts
 Extends y (Makes ts) o = o ≡ Makes ts
-Extends y (Turns c fed) o = o ≡ Turns c (fed ++ y ∷ [])
+Extends y (Becomes c fed) o = o ≡ Becomes c (fed ++ y ∷ [])
 
 due_plain : (n : Note) → IsPlain (due n)
 due_plain (note.Tells report back) = tt
@@ -72,13 +72,13 @@ comes_first : (y : Fed) (a : Ask) (m : Next) → Follows y a (comes m [])
 comes_first y a (next.Takes d) = tt
 comes_first y a next.Stops = tt
 comes_first y a (next.Unassigned c) = tt
-comes_first y a (next.Turns c) = tt
+comes_first y a (next.Becomes c) = tt
 
 comes_more : (y : Fed) (m : Next) (fed : List Fed) → Extends y (comes m fed) (comes m (fed ++ y ∷ []))
 comes_more y (next.Takes d) fed = refl
 comes_more y next.Stops fed = tt
 comes_more y (next.Unassigned c) fed = tt
-comes_more y (next.Turns c) fed = refl
+comes_more y (next.Becomes c) fed = refl
 
 noted_more : (y : Fed) (n : Note) (m : Next) (fed : List Fed) → Extends y (noted n m fed) (noted n m (fed ++ y ∷ []))
 noted_more Told n m [] = comes_first Told (due n) m
@@ -178,7 +178,7 @@ module _ (s : Stage) (c : Call) (want : Want) (x : Seen) where
   met_first (met.Retries n) = due_plain n
   met_first (met.Numbers bank) = tt
   met_first (met.Begins k) = tt
-  met_first (met.Turns d) = tt
+  met_first (met.Becomes d) = tt
 
   met_more : (y : Fed) (m : Met) → FitsMet s m → (fed : List Fed) → ((d : Call) → Extends y (looks s d want fed) (looks s d want (fed ++ y ∷ []))) →
       ((n : Note) → Extends y (again s c want n fed) (again s c want n (fed ++ y ∷ []))) → Extends y (Met_of m fed) (Met_of m (fed ++ y ∷ []))
@@ -190,7 +190,7 @@ module _ (s : Stage) (c : Call) (want : Want) (x : Seen) where
   met_more y (met.Retries n) fits fed h i = i n
   met_more y (met.Numbers bank) fits fed h i = numbers_more y bank fed
   met_more y (met.Begins k) fits fed h i = inner_more y s k (met_fits s k fits) fed
-  met_more y (met.Turns d) fits fed h i = refl
+  met_more y (met.Becomes d) fits fed h i = refl
 
 mutual
   looks_more : (y : Fed) (s : Stage) (c : Call) (want : Want) (fed : List Fed) → Extends y (looks s c want fed) (looks s c want (fed ++ y ∷ []))
@@ -222,19 +222,19 @@ started_more y s c (Begins k) fits fed = begins_more y s k fits fed
 abbrev pub Keeps : Fed → Ask → Ask → Type 0
 Keeps y a b = Brings y a → HasBody a → HasBody b
 
-small_body : (onward : List Fed → Ask) → HasBody (onward []) → ((x : Seen) → Keeps (Tok x) (onward []) (onward (Tok x ∷ []))) → (fed : List Fed) → IsSmall fed → HasBody (onward fed)
+small_body : (onward : List Fed → Ask) → HasBody (onward []) → ((x : Seen) → Keeps (Tok x) (onward []) (onward (Tok x ∷ []))) → (fed : List Fed) → IsSuited fed → HasBody (onward fed)
 small_body onward h more [] small = h
 small_body onward h more (Tok x ∷ []) small = more x tt h
 small_body onward h more fed small = absurd small
 
 module _ (turn : Call → List Fed → Ask) (turn_more : (c : Call) (fed : List Fed) (y : Fed) → Keeps y (turn c fed) (turn c (fed ++ y ∷ [])))
-    (turn_small : (c : Call) (fed : List Fed) → IsSmall fed → HasBody (turn c fed)) where
+    (turn_small : (c : Call) (fed : List Fed) → IsSuited fed → HasBody (turn c fed)) where
   abbrev After : Call → List Datum → (onward : List Datum → List Fed → Ask) → Outcome → Ask
   After c ds onward o = behind turn c ds onward o
 
   module _ (c : Call) (ds : List Datum) (onward : List Datum → List Fed → Ask)
       (more : (es : List Datum) (fed : List Fed) (y : Fed) → Keeps y (onward es fed) (onward es (fed ++ y ∷ [])))
-      (small : (es : List Datum) (fed : List Fed) → IsSmall fed → HasBody (onward es fed)) where
+      (small : (es : List Datum) (fed : List Fed) → IsSuited fed → HasBody (onward es fed)) where
     follows_body : (y : Fed) (a : Ask) (o : Outcome) → Follows y a o → Brings y a → HasBody (After c ds onward o)
     follows_body y a (Asks (Defines d n ts)) f h = absurd f
     follows_body y a (Asks b) f h = tt
@@ -242,7 +242,7 @@ module _ (turn : Call → List Fed → Ask) (turn_more : (c : Call) (fed : List 
     follows_body y a (Passes fed) f h = small ds fed f
     follows_body y a (Gathers ts) f h = tt
     follows_body y a (Makes ts) f h = f h
-    follows_body y a (Turns d fed) f h = turn_small d fed f
+    follows_body y a (Becomes d fed) f h = turn_small d fed f
 
     behind_more : (y : Fed) (o p : Outcome) → Extends y o p → Keeps y (After c ds onward o) (After c ds onward p)
     behind_more y (Asks a) p e h i = follows_body y a p e h
@@ -250,7 +250,7 @@ module _ (turn : Call → List Fed → Ask) (turn_more : (c : Call) (fed : List 
     behind_more y (Passes fed) p e h i = subst (λ (o : Outcome). HasBody (After c ds onward o)) (sym e) (more ds fed y h i)
     behind_more y (Gathers ts) p e h i = subst (λ (o : Outcome). HasBody (After c ds onward o)) (sym e) tt
     behind_more y (Makes ts) p e h i = subst (λ (o : Outcome). HasBody (After c ds onward o)) (sym e) i
-    behind_more y (Turns d fed) p e h i = subst (λ (o : Outcome). HasBody (After c ds onward o)) (sym e) (turn_more d fed y h i)
+    behind_more y (Becomes d fed) p e h i = subst (λ (o : Outcome). HasBody (After c ds onward o)) (sym e) (turn_more d fed y h i)
 
   -- a row that was fed with nothing makes no macro
   first_body : (c : Call) (ss : List Stage) (ds : List Datum) → HasBody (run turn c ss ds [])
@@ -267,14 +267,14 @@ module _ (turn : Call → List Fed → Ask) (turn_more : (c : Call) (fed : List 
       (λ es fed small. small_body (λ more. run turn c ss es more) (first_body c ss es) (λ x. run_more c ss es [] (Tok x)) fed small) y
       (started s c (start s c ds) fed) (started s c (start s c ds) (fed ++ y ∷ [])) (started_more y s c (start s c ds) (start_fits s c ds) fed)
 
-  run_small : (c : Call) (ss : List Stage) (ds : List Datum) (fed : List Fed) → IsSmall fed → HasBody (run turn c ss ds fed)
+  run_small : (c : Call) (ss : List Stage) (ds : List Datum) (fed : List Fed) → IsSuited fed → HasBody (run turn c ss ds fed)
   run_small c ss ds fed small = small_body (λ more. run turn c ss ds more) (first_body c ss ds) (λ x. run_more c ss ds [] (Tok x)) fed small
 
 -- a command that goes on as another does so once
 turned_more : (c : Call) (fed : List Fed) (y : Fed) → Keeps y (turned c fed) (turned c (fed ++ y ∷ []))
 turned_more c fed y = run_more no_turn (λ c fed y h i. tt) (λ c fed small. tt) c (stages_of c.head) [] fed y
 
-turned_small : (c : Call) (fed : List Fed) → IsSmall fed → HasBody (turned c fed)
+turned_small : (c : Call) (fed : List Fed) → IsSuited fed → HasBody (turned c fed)
 turned_small c fed small = run_small no_turn (λ c fed y h i. tt) (λ c fed small. tt) c (stages_of c.head) [] fed small
 
 pub row_more : (c : Call) (fed : List Fed) (y : Fed) → Keeps y (row c fed) (row c (fed ++ y ∷ []))

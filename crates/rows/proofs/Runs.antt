@@ -28,7 +28,7 @@ use Rattle.rows.specs.Table.{stages_of, value_stage}
 use Rattle.rows.specs.Stages.{start, value_kind, on_token, on_value, numbered_by, name, location}
 use Rattle.rows.proofs.Tokens.{IsLow, MetLow, token_low}
 use Rattle.rows.specs.Effects.{effect_of, as_definition}
-use Rattle.rows.specs.Run.{Outcome, Asks, Takes, Passes, Gathers, Makes, Turns, comes, due, noted, valued, inner, begins, numbers, met_with, looks, again, started, behind, run, no_turn, turned, row}
+use Rattle.rows.specs.Run.{Outcome, Asks, Takes, Passes, Gathers, Makes, Becomes, comes, due, noted, valued, inner, begins, numbers, met_with, looks, again, started, behind, run, no_turn, turned, row}
 use Rattle.rows.specs.Laws.{is_told}
 
 -- the inner readings that stages begin are of a low rank
@@ -71,13 +71,13 @@ module _
     Fits t (Passes fed) = (b : Bool) × (t ≡ is_told b fed)
     Fits t (Gathers ts) = Unit {0}
     Fits t (Makes ts) = Unit {0}
-    Fits t (Turns c fed) = (b : Bool) × (t ≡ is_told b fed)
+    Fits t (Becomes c fed) = (b : Bool) × (t ≡ is_told b fed)
 
     comes_fits : (m : Next) (b : Bool) (fed : List Fed) → Fits (is_told b fed) (comes m fed)
     comes_fits (next.Takes d) b fed = (b, refl)
     comes_fits next.Stops b fed = end (is_told b fed)
     comes_fits (next.Unassigned c) b fed = act (is_told b fed) c effect.Unassigned
-    comes_fits (next.Turns c) b fed = (b, refl)
+    comes_fits (next.Becomes c) b fed = (b, refl)
 
     noted_fits : (n : Note) (m : Next) (fed : List Fed) → Fits (is_told false fed) (noted n m fed)
     noted_fits n m [] = note_due n
@@ -116,7 +116,7 @@ module _
     met_fits s x (met.Retries n) low skipped retried fed h i = i n
     met_fits s x (met.Numbers bank) low skipped retried fed h i = numbers_fits bank fed
     met_fits s x (met.Begins k) low skipped retried fed h i = inner_fits s k low fed
-    met_fits s x (met.Turns c) low skipped retried fed h i = (false, refl)
+    met_fits s x (met.Becomes c) low skipped retried fed h i = (false, refl)
 
     mutual
       looks_fits : (s : Stage) (c : Call) (want : Want) (b : Bool) (fed : List Fed) → Fits (is_told b fed) (looks s c want fed)
@@ -142,7 +142,7 @@ module _
       behind_holds c ds onward h t (Passes fed) (b, e) = subst (λ (t : Bool). P t (onward ds fed)) (sym e) (h ds b fed)
       behind_holds c ds onward h t (Gathers ts) fits = act_on t c (effect_of c ds) ts
       behind_holds c ds onward h t (Makes ts) fits = define t (as_definition c) (name 0 ds) ts
-      behind_holds c ds onward h t (Turns d fed) (b, e) = subst (λ (t : Bool). P t (turn d fed)) (sym e) (turns d b fed)
+      behind_holds c ds onward h t (Becomes d fed) (b, e) = subst (λ (t : Bool). P t (turn d fed)) (sym e) (turns d b fed)
 
       run_holds : (c : Call) (ss : List Stage) (ds : List Datum) (b : Bool) (fed : List Fed) → P (is_told b fed) (run turn c ss ds fed)
       run_holds c [] ds b fed = act (is_told b fed) c (effect_of c ds)

@@ -49,15 +49,15 @@ use Rattle.rows.specs.declared.internal.Internal.{Internal as Stands}
 use Rattle.rows.specs.declared.internal.Internal.TheVariants as internal
 use Rattle.rows.specs.declared.command.Effect.TheVariants as effect
 use Rattle.rows.specs.Arithmetic.{number_in, glue_in}
-use Rattle.rows.specs.Effects.{comes_to, set_to, list_to, value_made, value_shown}
+use Rattle.rows.specs.Effects.{comes_to, set_to, list_to, value_made, shows_datum}
 use Rattle.rows.specs.Internal.{byte_of, first_integer, last_integer, first_dimension, last_dimension, first_glue, last_glue, first_list, last_list, location_in, internal_of, internal_parameter, internal_primitive, is_glue, is_list, list_of, list_parameter, or_else, value_of, variable_of, variable_primitive}
 use Rattle.rows.specs.Readings.{Fed, Tok, Val, Told, Ask}
-use Rattle.rows.specs.Run.{Outcome, Asks, Takes, Passes, Gathers, Makes, Turns, comes, due, noted, valued, inner, begins, numbers, met_with, looks, again, started, behind, run, no_turn, turned, row}
+use Rattle.rows.specs.Run.{Outcome, Asks, Takes, Passes, Gathers, Makes, Becomes, comes, due, noted, valued, inner, begins, numbers, met_with, looks, again, started, behind, run, no_turn, turned, row}
 use Rattle.rows.specs.Stages.{datum_at, location_read, start, standing, numbered_by, on_token, on_value, on_datum, on_list}
 use Rattle.rows.specs.Table.{stages_in, stages_of, find_row, parameter_row, row_among, row_or_token, action_of, assignment_to}
 use Rattle.rows.specs.Tests.{tested}
 use Rattle.rows.specs.Tokens.{is_at_most, is_up_to, is_equals}
-use Rattle.rows.specs.Suiting.{IsThere, IsVariable, IsSmall, SetsSmall, TakesAll, TakesList}
+use Rattle.rows.specs.Suiting.{IsThere, IsVariable, IsSuited, AsksSuited, TakesAll, TakesList}
 
 -- STAGES
 
@@ -120,7 +120,7 @@ GotFits s (got.Tells report m) = NextFits s m
 GotFits s g = Unit {0}
 
 abbrev Fits : Stage → Outcome → Type 0
-Fits s (Asks a) = SetsSmall a
+Fits s (Asks a) = AsksSuited a
 Fits s (Takes d fed) = IsRead s d
 Fits s (Passes fed) = MayPass s
 Fits s o = Unit {0}
@@ -286,7 +286,7 @@ numbered_fits : (s : Stage) (b : Bank) → ((n : ℕ) → IsRead s (datum.At (lo
 numbered_fits s b h (value.Plain (datum.Number n)) = range_fits (is_at_most 255 n) s n _ _ (λ is. h (byte_of n)) (h 0)
 numbered_fits s b h v = h 0
 
-due_sets : (n : Note) → SetsSmall (due n)
+due_sets : (n : Note) → AsksSuited (due n)
 due_sets (note.Tells report back) = tt
 due_sets (note.Inserts t report back) = tt
 due_sets (note.Relaxes c n) = tt
@@ -295,7 +295,7 @@ comes_fits : (s : Stage) (m : Next) → NextFits s m → (fed : List Fed) → Fi
 comes_fits s (next.Takes d) h fed = h
 comes_fits s next.Stops h fed = tt
 comes_fits s (next.Unassigned c) h fed = tt
-comes_fits s (next.Turns c) h fed = tt
+comes_fits s (next.Becomes c) h fed = tt
 
 noted_fits : (s : Stage) (n : Note) (m : Next) → NextFits s m → (fed : List Fed) → Fits s (noted n m fed)
 noted_fits s n m h [] = due_sets n
@@ -334,7 +334,7 @@ met_with_fits s x (met.Notes n m) h skipped retried fed i j = noted_fits s n m h
 met_with_fits s x (met.Retries n) h skipped retried fed i j = j n
 met_with_fits s x (met.Numbers b) h skipped retried fed i j = numbers_fits s b h fed
 met_with_fits s x (met.Begins k) h skipped retried fed i j = inner_fits s h k fed
-met_with_fits s x (met.Turns c) h skipped retried fed i j = tt
+met_with_fits s x (met.Becomes c) h skipped retried fed i j = tt
 
 mutual
   looks_fits : (s : Stage) → MayLook s → (c : Call) (want : Want) (fed : List Fed) → Fits s (looks s c want fed)
@@ -356,20 +356,20 @@ started_fits s c (Begins k) h fed = begins_fits s h k fed
 
 -- Behind these stages, and before each of them, the action has read what it may come to, where these things were.
 abbrev ReadsSmall : Action → List Stage → List Datum → Type 0
-ReadsSmall a [] ds = IsSmall (comes_to a ds)
-ReadsSmall a (s ∷ ss) ds = IsSmall (comes_to a ds) × (((d : Datum) → IsRead s d → ReadsSmall a ss (ds ++ d ∷ [])) × (MayPass s → ReadsSmall a ss ds))
+ReadsSmall a [] ds = IsSuited (comes_to a ds)
+ReadsSmall a (s ∷ ss) ds = IsSuited (comes_to a ds) × (((d : Datum) → IsRead s d → ReadsSmall a ss (ds ++ d ∷ [])) × (MayPass s → ReadsSmall a ss ds))
 
-module _ (turn : Call → List Fed → Ask) (turns : (c : Call) (fed : List Fed) → SetsSmall (turn c fed)) where
-  behind_sets : (c : Call) (s : Stage) (ds : List Datum) (onward : List Datum → List Fed → Ask) → IsSmall (comes_to (action_of c.head) ds) → ((d : Datum) → IsRead s d → (fed : List Fed) → SetsSmall (onward (ds ++ d ∷ []) fed)) → (MayPass s → (fed : List Fed) → SetsSmall (onward ds fed)) →
-      (o : Outcome) → Fits s o → SetsSmall (behind turn c ds onward o)
+module _ (turn : Call → List Fed → Ask) (turns : (c : Call) (fed : List Fed) → AsksSuited (turn c fed)) where
+  behind_sets : (c : Call) (s : Stage) (ds : List Datum) (onward : List Datum → List Fed → Ask) → IsSuited (comes_to (action_of c.head) ds) → ((d : Datum) → IsRead s d → (fed : List Fed) → AsksSuited (onward (ds ++ d ∷ []) fed)) → (MayPass s → (fed : List Fed) → AsksSuited (onward ds fed)) →
+      (o : Outcome) → Fits s o → AsksSuited (behind turn c ds onward o)
   behind_sets c s ds onward now h i (Asks a) fits = fits
   behind_sets c s ds onward now h i (Takes d fed) fits = h d fits fed
   behind_sets c s ds onward now h i (Passes fed) fits = i fits fed
   behind_sets c s ds onward now h i (Gathers ts) fits = now
   behind_sets c s ds onward now h i (Makes ts) fits = tt
-  behind_sets c s ds onward now h i (Turns d fed) fits = turns d fed
+  behind_sets c s ds onward now h i (Becomes d fed) fits = turns d fed
 
-  run_sets : (c : Call) (ss : List Stage) (ds : List Datum) → ReadsSmall (action_of c.head) ss ds → (fed : List Fed) → SetsSmall (run turn c ss ds fed)
+  run_sets : (c : Call) (ss : List Stage) (ds : List Datum) → ReadsSmall (action_of c.head) ss ds → (fed : List Fed) → AsksSuited (run turn c ss ds fed)
   run_sets c [] ds h fed = h
   run_sets c (s ∷ ss) ds h fed =
       behind_sets c s ds (λ es more. run turn c ss es more) h.0 (λ d read more. run_sets c ss (ds ++ d ∷ []) (h.1.0 d read) more) (λ pass more. run_sets c ss ds (h.1.1 pass) more)
@@ -435,7 +435,7 @@ category greatest (pos n) h i = grind (arith, nat_tests, h, i)
 category greatest (negsuc n) h i = absurd cc
 
 -- whatever is read
-any_reads : (a : Action) → ((ds : List Datum) → IsSmall (comes_to a ds)) → (ss : List Stage) (ds : List Datum) → ReadsSmall a ss ds
+any_reads : (a : Action) → ((ds : List Datum) → IsSuited (comes_to a ds)) → (ss : List Stage) (ds : List Datum) → ReadsSmall a ss ds
 any_reads a h [] ds = h ds
 any_reads a h (s ∷ ss) ds = (h ds, (λ d read. any_reads a h ss (ds ++ d ∷ []), λ pass. any_reads a h ss ds))
 
@@ -445,7 +445,7 @@ category_reads (NumberTo m first ∷ Equals ∷ NumberTo n second ∷ []) h =
 category_reads ss h = absurd cc
 
 -- whatever is read behind what the first stage has read
-first_reads : (a : Action) (d : Datum) → ((es : List Datum) → IsSmall (comes_to a (d ∷ es))) → (ss : List Stage) (es : List Datum) → ReadsSmall a ss (d ∷ es)
+first_reads : (a : Action) (d : Datum) → ((es : List Datum) → IsSuited (comes_to a (d ∷ es))) → (ss : List Stage) (es : List Datum) → ReadsSmall a ss (d ∷ es)
 first_reads a d h [] es = h es
 first_reads a d h (s ∷ ss) es = (h es, (λ e read. first_reads a d h ss (es ++ e ∷ []), λ pass. first_reads a d h ss es))
 
@@ -454,14 +454,14 @@ variable_reads operation (Variable ∷ ss) h = ((omega arith, λ n. tt), (λ d r
 variable_reads operation ss h = absurd cc
 
 -- what is there is put or shown
-made_small : (d : Datum) → UsesThere d → IsSmall (value_made d)
+made_small : (d : Datum) → UsesThere d → IsSuited (value_made d)
 made_small (datum.At l) there = by (is_list l) refl where
-  by : (b : Bool) → is_list l ≡ b → IsSmall (if b then effect.PutList l else effect.MakeValue l)
+  by : (b : Bool) → is_list l ≡ b → IsSuited (if b then effect.PutList l else effect.MakeValue l)
   by true is = (there, is)
   by false is = there
 made_small d there = tt
 
-shown_small : (d : Datum) → UsesThere d → IsSmall (value_shown d)
+shown_small : (d : Datum) → UsesThere d → IsSuited (shows_datum d)
 shown_small (datum.At l) there = there
 shown_small d there = tt
 
@@ -474,7 +474,7 @@ shown_reads (InternalValue ∷ ss) h = (tt, (λ d read. first_reads action.ShowV
 shown_reads ss h = absurd cc
 
 -- A location gets a list, another one's or the one that was read last.
-list_small : (l : Loc) (d : Datum) → TakesList l → UsesList d → IsSmall (list_to l d)
+list_small : (l : Loc) (d : Datum) → TakesList l → UsesList d → IsSuited (list_to l d)
 list_small l (datum.At m) h i = (h, i)
 list_small l d h i = h
 
@@ -508,9 +508,9 @@ register_reads (NumberTo n complaint ∷ Equals ∷ TokenList ∷ []) h = (
 register_reads ss h = absurd cc
 
 -- What a variable gets suits it, where it is no list.
-set_small : (l : Loc) → is_list l ≡ false → IsVariable l → (d : Datum) → IsSmall (set_to l d)
-set_small l plain h d = subst (λ (b : Bool). IsSmall (if b then list_to l d else if is_glue l then effect.SetGlue l (glue_in d) else effect.SetNumber l (number_in d))) (sym plain) (by (is_glue l) h.1) where
-  by : (b : Bool) → TakesAll b l → IsSmall (if b then effect.SetGlue l (glue_in d) else effect.SetNumber l (number_in d))
+set_small : (l : Loc) → is_list l ≡ false → IsVariable l → (d : Datum) → IsSuited (set_to l d)
+set_small l plain h d = subst (λ (b : Bool). IsSuited (if b then list_to l d else if is_glue l then effect.SetGlue l (glue_in d) else effect.SetNumber l (number_in d))) (sym plain) (by (is_glue l) h.1) where
+  by : (b : Bool) → TakesAll b l → IsSuited (if b then effect.SetGlue l (glue_in d) else effect.SetNumber l (number_in d))
   by true takes = (h.0, takes (glue_in d))
   by false takes = (h.0, takes (number_in d))
 
@@ -524,7 +524,7 @@ at_reads (loc.Register kind n) ss h = any_reads (action.SetAt (loc.Register kind
 at_reads l ss h = absurd cc
 
 -- A test uses no location.
-tested_small : (t : Test) (ds : List Datum) → IsSmall (tested t ds)
+tested_small : (t : Test) (ds : List Datum) → IsSuited (tested t ds)
 tested_small test.Meanings ds = tt
 tested_small t ds = tt
 
@@ -593,6 +593,6 @@ head_reads (Register register.Toks n) = refl
 reads_small : (h : Head) → ReadsSmall (action_of h) (stages_of h) []
 reads_small h = row_reads (action_of h) (stages_of h) (head_reads h)
 
-pub row_sets : (c : Call) (fed : List Fed) → SetsSmall (row c fed)
+pub row_sets : (c : Call) (fed : List Fed) → AsksSuited (row c fed)
 row_sets c fed =
     run_sets turned (λ d more. run_sets no_turn (λ e rest. tt) d (stages_of d.head) [] (reads_small d.head) more) c (stages_of c.head) [] (reads_small c.head) fed

@@ -55,7 +55,7 @@ related_low c None = tt
 behind_prefixes_low : (c : Call) (x : Seen) → MetLow (behind_prefixes c x)
 behind_prefixes_low c x =
     met_if (is_definition x.meaning) _ _ tt
-    (met_if (is_assignment x.meaning) _ _ (met_if (c.long || c.outer) (limit_refused c x) (met.Turns (as_command c x)) tt tt) tt)
+    (met_if (is_assignment x.meaning) _ _ (met_if (c.long || c.outer) (limit_refused c x) (met.Becomes (as_command c x)) tt tt) tt)
 
 prefixed_low : (c : Call) (o : Option Prefix) (x : Seen) → MetLow (prefixed c o x)
 prefixed_low c (Some p) x = tt

@@ -26,9 +26,9 @@ abbrev pub value_made : Datum → Effect
 value_made (datum.At l) = if is_list l then effect.PutList l else effect.MakeValue l
 value_made d = effect.MakeNumber (number_in d)
 
-abbrev pub value_shown : Datum → Effect
-value_shown (datum.At l) = effect.ShowValue l
-value_shown d = effect.ShowNumber (number_in d)
+abbrev pub shows_datum : Datum → Effect
+shows_datum (datum.At l) = effect.ShowValue l
+shows_datum d = effect.ShowNumber (number_in d)
 
 -- the list of another location, or else the one that was read last
 abbrev pub list_to : Loc → Datum → Effect
@@ -45,7 +45,7 @@ comes_to action.Obey ds = effect.Obey (token_read 0 ds)
 comes_to action.Message ds = effect.Message
 comes_to action.ErrorMessage ds = effect.ErrorMessage
 comes_to action.Show ds = effect.Show (token_read 0 ds)
-comes_to action.ShowValue ds = value_shown (datum_at 0 ds)
+comes_to action.ShowValue ds = shows_datum (datum_at 0 ds)
 comes_to (action.ChangeCase upper) ds = effect.ChangeCase upper
 comes_to action.Define ds = effect.Nothing
 comes_to action.DefineGlobally ds = effect.Nothing

@@ -4,7 +4,7 @@ use Rattle.rows.specs.declared.words.Kind.{Kind}
 use Rattle.rows.specs.declared.words.Kind.TheVariants.{Command, Definition}
 use Rattle.rows.specs.declared.command.Call.{Call}
 use Rattle.rows.specs.Readings.{Fed, Val, Told, Ask, More, Inner, Done, Defines, Tells, Inserts, Puts, Fetches, Magnifies}
-use Rattle.rows.specs.Suiting.{SetsSmall}
+use Rattle.rows.specs.Suiting.{AsksSuited}
 use Rattle.rows.specs.Run.{row}
 
 -- A COMMAND THAT WAS FED WITH NOTHING asks for a token or begins another reading: it doesn't end, and reports nothing.
@@ -68,4 +68,4 @@ MacrosHaveBodies = (c : Call) (fed : List Fed) (y : Fed) → Brings y (row c fed
 
 -- LOCATIONS: what a command sets suits its location, and what it uses is there.
 abbrev pub EffectsSuit : Type 0
-EffectsSuit = (c : Call) (fed : List Fed) → SetsSmall (row c fed)
+EffectsSuit = (c : Call) (fed : List Fed) → AsksSuited (row c fed)

@@ -20,7 +20,7 @@ pub data Fed : Type 0 where
   Val : Value → List Token → Fed
   Told : Fed
   Fetched : SeenValue → Fed
-  Entered : Token → Fed
+  Verbatim : Token → Fed
   Cut : Fed
 
 -- What a reading asks for: a token; an inner reading, which may begin with the last token; to end with a value, where the last token

@@ -34,17 +34,17 @@ pub data Outcome : Type 0 where
   Passes : List Fed → Outcome
   Gathers : List Token → Outcome
   Makes : List Token → Outcome
-  Turns : Call → List Fed → Outcome
+  Becomes : Call → List Fed → Outcome
 
 -- the end of a command that was fed with what it didn't ask for, to which no run comes
-abbrev pub senseless : Outcome
-senseless = Asks Ends
+abbrev pub impossible : Outcome
+impossible = Asks Ends
 
 abbrev pub comes : Next → List Fed → Outcome
 comes (next.Takes d) fed = Takes d fed
 comes next.Stops fed = Asks Ends
 comes (next.Unassigned c) fed = Asks (Acts c effect.Unassigned)
-comes (next.Turns c) fed = Turns c fed
+comes (next.Becomes c) fed = Becomes c fed
 
 abbrev pub due : Note → Ask
 due (note.Tells report back) = Tells report back
@@ -55,7 +55,7 @@ due (note.Relaxes c n) = Relaxes c n
 abbrev pub noted : Note → Next → List Fed → Outcome
 noted n m [] = Asks (due n)
 noted n m (Told ∷ fed) = comes m fed
-noted n m (y ∷ fed) = senseless
+noted n m (y ∷ fed) = impossible
 
 -- the value of an inner reading, with its list
 abbrev pub valued : Got → List Token → List Fed → Outcome
@@ -68,20 +68,20 @@ valued got.Defines ts fed = Makes ts
 abbrev pub inner : Stage → Kind → List Fed → Outcome
 inner s k [] = Asks (Inner k true)
 inner s k (Val v ts ∷ fed) = valued (on_value s v) ts fed
-inner s k (y ∷ fed) = senseless
+inner s k (y ∷ fed) = impossible
 
 -- a stage that is an inner reading, which begins with the token that the stage before it left, if there is one
 abbrev pub begins : Stage → Kind → List Fed → Outcome
 begins s k [] = Asks (Inner k false)
 begins s k (Tok x ∷ fed) = inner s k fed
 begins s k (Val v ts ∷ fed) = valued (on_value s v) ts fed
-begins s k (y ∷ fed) = senseless
+begins s k (y ∷ fed) = impossible
 
 -- the number of a register or of a character, whose location is read
 abbrev pub numbers : Bank → List Fed → Outcome
 numbers b [] = Asks (Inner kind.Integer false)
 numbers b (Val v ts ∷ fed) = valued (numbered_by b v) ts fed
-numbers b (y ∷ fed) = senseless
+numbers b (y ∷ fed) = impossible
 
 -- a stage that looks at a token, `y`; `skipped` is what comes of those behind it, and `retried` what comes of them behind a note
 abbrev pub met_with : Stage → (y : Fed) → Met → (skipped : Call → Outcome) → (retried : Note → Outcome) → List Fed → Outcome
@@ -93,19 +93,19 @@ met_with s y (met.Notes n m) skipped retried fed = noted n m fed
 met_with s y (met.Retries n) skipped retried fed = retried n
 met_with s y (met.Numbers b) skipped retried fed = numbers b fed
 met_with s y (met.Begins k) skipped retried fed = inner s k fed
-met_with s y (met.Turns c) skipped retried fed = Turns c fed
+met_with s y (met.Becomes c) skipped retried fed = Becomes c fed
 
 abbrev mutual
   pub looks : Stage → Call → Want → List Fed → Outcome
   looks s c want [] = Asks (More want)
   looks s c want (Tok x ∷ fed) = met_with s (Tok x) (on_token s c x) (λ d. looks s d want fed) (λ n. again s c want n fed) fed
-  looks s c want (y ∷ fed) = senseless
+  looks s c want (y ∷ fed) = impossible
 
   -- the stage is read again behind its note
   pub again : Stage → Call → Want → Note → List Fed → Outcome
   again s c want n [] = Asks (due n)
   again s c want n (Told ∷ fed) = looks s c want fed
-  again s c want n (y ∷ fed) = senseless
+  again s c want n (y ∷ fed) = impossible
 
 abbrev pub started : Stage → Call → Start → List Fed → Outcome
 started s c (Looks want) fed = looks s c want fed
@@ -120,7 +120,7 @@ behind turn c ds onward (Takes d fed) = onward (ds ++ d ∷ []) fed
 behind turn c ds onward (Passes fed) = onward ds fed
 behind turn c ds onward (Gathers ts) = ActsOn c (effect_of c ds) ts
 behind turn c ds onward (Makes ts) = Defines (as_definition c) (name 0 ds) ts
-behind turn c ds onward (Turns d fed) = turn d fed
+behind turn c ds onward (Becomes d fed) = turn d fed
 
 -- The stages are read one behind the other, each from what the one before it left; behind the last the command does what it does.
 abbrev pub run : (turn : Call → List Fed → Ask) → Call → List Stage → List Datum → List Fed → Ask

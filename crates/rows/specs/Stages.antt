@@ -137,16 +137,16 @@ standing otherwise (Some (internal.Numbered b)) = met.Numbers b
 standing otherwise None = otherwise
 
 -- the number of a primitive
-abbrev pub number_of : Head → ℕ
-number_of (head.Primitive n) = n
-number_of (head.Register kind n) = 0
+abbrev pub primitive_number : Head → ℕ
+primitive_number (head.Primitive n) = n
+primitive_number (head.Register kind n) = 0
 
 -- it can't be used behind the command of this number
 abbrev pub unusable_behind : ℕ → Seen → Note
 unusable_behind n x = note.Tells (report.CantUseAfter x.meaning n) false
 
 abbrev pub unusable : Call → Seen → Note
-unusable c x = unusable_behind (number_of c.head) x
+unusable c x = unusable_behind (primitive_number c.head) x
 
 -- behind `\showthe` the report names `\the` too
 abbrev pub the_primitive : ℕ
@@ -172,7 +172,7 @@ relation_of t =
 -- another token is given back and reported, and `=` taken
 abbrev pub related : Call → Option Relative → Met
 related c (Some r) = met.Takes (datum.Relation r)
-related c None = met.Notes (note.Tells (report.MissingRelation (number_of c.head)) true) (next.Takes (datum.Relation relative.Equal))
+related c None = met.Notes (note.Tells (report.MissingRelation (primitive_number c.head)) true) (next.Takes (datum.Relation relative.Equal))
 
 -- PREFIXES
 
@@ -222,13 +222,13 @@ prefix_refused x = met.Notes (note.Tells (report.PrefixWith x.meaning) true) nex
 -- `\long` or `\outer` before an assignment that is no definition is reported, and it goes on as without them
 abbrev pub limit_refused : Call → Seen → Met
 limit_refused c x =
-    met.Notes (note.Tells (report.LongOrOuterWith x.meaning) false) (next.Turns (record (as_command c x) { long = false; outer = false }))
+    met.Notes (note.Tells (report.LongOrOuterWith x.meaning) false) (next.Becomes (record (as_command c x) { long = false; outer = false }))
 
 abbrev pub behind_prefixes : Call → Seen → Met
 behind_prefixes c x =
-    if is_definition x.meaning then met.Turns (as_command c x)
+    if is_definition x.meaning then met.Becomes (as_command c x)
     else if is_assignment x.meaning then (
-    if c.long || c.outer then limit_refused c x else met.Turns (as_command c x)
+    if c.long || c.outer then limit_refused c x else met.Becomes (as_command c x)
     ) else prefix_refused x
 
 abbrev pub prefixed : Call → Option Prefix → Seen → Met

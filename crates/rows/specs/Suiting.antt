@@ -34,19 +34,19 @@ IsVariable l = IsThere l × TakesAll (is_glue l) l
 
 -- A number, glue or a list is set at a location that is there and that such a value suits; what is computed is at one that takes all numbers, or all
 -- glue; what is put or shown of a value is that of one that is there, and a list that of one that is a list.
-abbrev pub IsSmall : Effect → Type 0
-IsSmall (effect.SetNumber l value) = IsThere l × Suits l (val.Number value)
-IsSmall (effect.SetGlue l g) = IsThere l × Suits l (val.Skip g)
-IsSmall (effect.SetList l) = TakesList l
-IsSmall (effect.ShareList l m) = TakesList l × TakesList m
-IsSmall (effect.Compute operation l d) = IsVariable l
-IsSmall (effect.MakeValue l) = IsThere l
-IsSmall (effect.PutList l) = TakesList l
-IsSmall (effect.ShowValue l) = IsThere l
-IsSmall e = Unit {0}
+abbrev pub IsSuited : Effect → Type 0
+IsSuited (effect.SetNumber l value) = IsThere l × Suits l (val.Number value)
+IsSuited (effect.SetGlue l g) = IsThere l × Suits l (val.Skip g)
+IsSuited (effect.SetList l) = TakesList l
+IsSuited (effect.ShareList l m) = TakesList l × TakesList m
+IsSuited (effect.Compute operation l d) = IsVariable l
+IsSuited (effect.MakeValue l) = IsThere l
+IsSuited (effect.PutList l) = TakesList l
+IsSuited (effect.ShowValue l) = IsThere l
+IsSuited e = Unit {0}
 
 -- what a command is to do
-abbrev pub SetsSmall : Ask → Type 0
-SetsSmall (Acts c e) = IsSmall e
-SetsSmall (ActsOn c e ts) = IsSmall e
-SetsSmall a = Unit {0}
+abbrev pub AsksSuited : Ask → Type 0
+AsksSuited (Acts c e) = IsSuited e
+AsksSuited (ActsOn c e ts) = IsSuited e
+AsksSuited a = Unit {0}

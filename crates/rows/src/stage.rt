@@ -84,7 +84,7 @@ pub enum Next {
     /// The command, an assignment, is over, and has assigned nothing.
     Unassigned(Call),
     /// It goes on as this command, from the beginning.
-    Turns(Call),
+    Becomes(Call),
 }
 
 /// What is reported or done in the middle of a row; the token that was met may be given back before a report.
@@ -117,7 +117,7 @@ pub enum Met {
     /// An inner reading begins with the token.
     Begins(Kind),
     /// The command goes on as this one, from the beginning.
-    Turns(Call),
+    Becomes(Call),
 }
 
 /// What a stage makes of the value of an inner reading.

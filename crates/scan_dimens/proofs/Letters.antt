@@ -10,7 +10,7 @@ use Rattle.tex_syntax.specs.declared.words.Want.TheVariants.{Expanded}
 use Rattle.rows.specs.Readings.{Fed, Tok, Told, More}
 use Rattle.plain_tokens.specs.Tokens.{is_space}
 use Rattle.plain_readings.specs.Keywords.{letters, is_letter, is_skipped, ends_found, giving_back, keyword_from}
-use Rattle.scan_dimens.specs.Sees.{letters_at, back_at, kept}
+use Rattle.scan_dimens.specs.Views.{letters_at, back_at, kept}
 use Rattle.scan_dimens.specs.Resumes.{resume, resume_at}
 use Rattle.scan_dimens.specs.declared.keyword.KeywordPlace.{KeywordPlace}
 use Rattle.scan_dimens.specs.declared.keyword.KeywordPlace.TheVariants.{Letters, PutsBack}

@@ -19,7 +19,7 @@ use Rattle.scan_numbers.specs.Laws.{digit}
 use Rattle.scan_numbers.proofs.Spelt.{digit_holds}
 use Rattle.char_text.proofs.Fractions.{AllNine, printed_reads}
 use Rattle.plain_readings.specs.Dimens.{Fed, Tok, Factored, Answer, Done, dimension, factored, fraction, behind_digits, with_digit, amount, finished}
-use Rattle.scan_dimens.specs.DimenSees.{IsDimension}
+use Rattle.scan_dimens.specs.DimenViews.{IsDimension}
 use Rattle.scan_dimens.specs.DimenWorked.{others, a_character, behind, plain}
 use Rattle.scan_dimens.specs.DimenLaws.{characters, first, IsReadBack}
 

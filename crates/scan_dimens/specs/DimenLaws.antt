@@ -5,7 +5,7 @@ use Rattle.tex_defs.specs.declared.Seen.{Seen}
 use Rattle.plain_tokens.specs.Numerals.{scaled}
 use Rattle.plain_tokens.specs.Tokens.{is_space}
 use Rattle.plain_readings.specs.Dimens.{Fed, Tok, Factored, Done, dimension}
-use Rattle.scan_dimens.specs.DimenSees.{IsDimension}
+use Rattle.scan_dimens.specs.DimenViews.{IsDimension}
 use Rattle.scan_dimens.specs.DimenWorked.{others, a_character, behind, plain}
 
 -- the characters of digits

@@ -2,7 +2,7 @@
 use Rattle.std.specs.Prelude.{Bool, true, false, ℤ, List, drop}
 use Rattle.equivalents.specs.declared.values.Loc.{Loc}
 use Rattle.plain_readings.specs.Dimens.{Fed, Answer, Done, dimension, factored, pointed, fraction, numbered, bad_numbered, fetched, value_fetched, unit_fetched, incompatible, no_number, fil_or_not, longer, unit_sought, mu_or_not, em_or_not, ex_or_not, true_or_not, magnified, magnification_fetched, by_unit, physical, scaled_points, illegal, spaced, too_large_told}
-use Rattle.scan_dimens.specs.DimenSees.{digits_of}
+use Rattle.scan_dimens.specs.DimenViews.{digits_of}
 use Rattle.rows.specs.declared.words.DimenKind.{DimenKind}
 use Rattle.scan_dimens.specs.declared.dimen.Sought.{Sought}
 use Rattle.scan_dimens.specs.declared.dimen.Sought.TheVariants.{Dimension, Unit}

@@ -1,6 +1,6 @@
-pub mod Sees
+pub mod Views
 pub mod Resumes
-pub mod DimenSees
+pub mod DimenViews
 pub mod DimenResumes
 pub mod DimenWorked
 pub mod DimenLaws

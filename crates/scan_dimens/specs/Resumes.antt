@@ -4,7 +4,7 @@ use Rattle.tex_defs.specs.declared.Token.{Token}
 use Rattle.rows.specs.declared.words.Keyword.{Keyword}
 use Rattle.rows.specs.Readings.{Fed, Ask}
 use Rattle.plain_readings.specs.Keywords.{letters, ends_found, giving_back, keyword_from}
-use Rattle.scan_dimens.specs.Sees.{kept, kept_at}
+use Rattle.scan_dimens.specs.Views.{kept, kept_at}
 use Rattle.scan_dimens.specs.declared.keyword.KeywordPlace.{KeywordPlace}
 use Rattle.scan_dimens.specs.declared.keyword.KeywordPlace.TheVariants.{Letters, PutsBack, Ended}
 use Rattle.scan_dimens.specs.declared.keyword.KeywordScan.{KeywordScan}

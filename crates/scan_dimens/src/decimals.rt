@@ -23,7 +23,7 @@ pub struct Digits {
 
 impl Digits {
     ghost use Rattle.std.specs.Prelude.{◌≡◌, ◌≤◌, []};
-    ghost use Rattle.scan_dimens.specs.DimenSees as sees;
+    ghost use Rattle.scan_dimens.specs.DimenViews as sees;
 
     /// None.
     pub fn new() -> Digits

@@ -2,14 +2,14 @@
 ghost use Rattle.std.specs.Prelude.{◌≡◌, ◌≤◌, ◌∷◌, true, Bool, List, drop};
 ghost use Rattle.rows.specs.Internal as internals;
 ghost use Rattle.rows.specs.Internal.{is_fetchable};
-ghost use Rattle.scan_numbers.specs.Sees.{IsInRange};
+ghost use Rattle.scan_numbers.specs.Views.{IsInRange};
 ghost use Rattle.plain_readings.specs.Dimens.{Fed, Found, physical, by_unit, spaced};
-ghost use Rattle.scan_dimens.specs.DimenSees as sees;
+ghost use Rattle.scan_dimens.specs.DimenViews as sees;
 
 use crate::decimals::{Digits, is_integer_at, is_other, is_space};
 use crate::units::{in_units, magnified, physical_unit, points, scaled_points, times};
 use equivalents::{Loc, Val as StoredValue};
-use plain_readings::Amount;
+use plain_readings::Quantity;
 use rows::{
     Bank, Datum, DimenKind, GREATEST_DIMENSION, Internal, Keyword, Value, byte_of, integer_of,
     internal_of, is_mu, list_of, measured,
@@ -54,7 +54,7 @@ pub enum Sought {
     /// The dimension, or the factor where it is an integer.
     Dimension,
     /// The unit behind this factor.
-    Unit(Amount),
+    Unit(Quantity),
 }
 
 /// Where a scanner of a dimension stands.
@@ -79,29 +79,29 @@ pub enum DimenPlace {
     /// Before the report that a list of tokens is no number.
     NoNumber,
     /// Before `fil`, and whether it begins with the last token.
-    Fil(Amount, bool),
+    Fil(Quantity, bool),
     /// Before an `l`, at this order of infinity.
-    Longer(Amount, u8),
+    Longer(Quantity, u8),
     /// Before the report of an `l` too many.
-    TooLong(Amount, u8),
+    TooLong(Quantity, u8),
     /// Before the token that is looked at for a unit.
-    UnitSought(Amount),
+    UnitSought(Quantity),
     /// Before the word `mu`.
-    Mu(Amount),
+    Mu(Quantity),
     /// Before the word `em`.
-    Em(Amount),
+    Em(Quantity),
     /// Before the word `ex`.
-    Ex(Amount),
+    Ex(Quantity),
     /// Before the word `true`.
-    True(Amount),
+    True(Quantity),
     /// Before the magnification is checked.
-    Magnification(Amount),
+    Magnification(Quantity),
     /// Before the magnification.
-    MagnificationFetched(Amount),
+    MagnificationFetched(Quantity),
     /// Before the word for this physical unit.
-    Physical(u8, Amount),
+    Physical(u8, Quantity),
     /// Before the word `sp`.
-    ScaledPoints(Amount),
+    ScaledPoints(Quantity),
     /// Before the report that there is no unit: the unit taken, and the value.
     Illegal(UnitTaken, Option<i32>),
     /// Before a space behind a unit: the value, unless it is too large, and its order of infinity.
@@ -144,7 +144,7 @@ fn with_sign(negative: bool, n: i32) -> i32
 }
 
 /// The value in the physical unit at this place, and behind all of them in scaled points.
-fn physical_value(place: u8, factor: Amount) -> Option<i32>
+fn physical_value(place: u8, factor: Quantity) -> Option<i32>
     requires { sees.IsMagnified factor }
     ensures is { (negative : Bool) (fed : List Fed) → by_unit negative factor (drop place physical) (Found true ∷ fed) ≡ spaced negative result 0 fed }
     ensures range { sees.IsDimension (sees.value_in result) }
@@ -162,9 +162,9 @@ impl DimenScan {
     ghost use Rattle.rows.specs.Readings.{Cut};
     ghost use Rattle.plain_readings.specs.Measures.{dimen_value, dimen_item};
     ghost use Rattle.plain_readings.specs.Dimens.{Fed, Tok, Told, Fetched, Factored, Numbered, Found, by_magnification, positive_part, dimension, finished, spaced, valued, unit_behind, unit_with, unit_at, word_unit, internal_or_word, internal_or_factor, unsigned, factor_read, behind_digits, with_factor, with_number, fetched, fraction, points, amount};
-    ghost use Rattle.scan_dimens.specs.DimenSees as sees;
-    ghost use Rattle.scan_dimens.specs.DimenSees.{ask_of, digits_of, EndsInRange, IsFetchedAt, IsRead, IsMagnified, IsDimension};
-    ghost use Rattle.scan_numbers.specs.Sees.{IsInRange};
+    ghost use Rattle.scan_dimens.specs.DimenViews as sees;
+    ghost use Rattle.scan_dimens.specs.DimenViews.{ask_of, digits_of, EndsInRange, IsFetchedAt, IsRead, IsMagnified, IsDimension};
+    ghost use Rattle.scan_numbers.specs.Views.{IsInRange};
     ghost use Rattle.scan_dimens.specs.DimenResumes.{resume, onward};
 
     /// A dimension of this kind begins.
@@ -334,7 +334,7 @@ impl DimenScan {
     }
 
     /// Behind `true`, at this magnification.
-    fn magnify(&mut self, factor: Amount, mag: i32)
+    fn magnify(&mut self, factor: Quantity, mag: i32)
         requires { IsRead factor }
         ensures { (fed : List Fed) → by_magnification self.old.negative factor (positive_part mag) fed ≡ resume self.new fed }
     {
@@ -459,14 +459,14 @@ impl DimenScan {
         if n < 0 {
             self.negative = !self.negative;
         }
-        self.unit_behind(Amount {
+        self.unit_behind(Quantity {
             whole: u64::from(n.unsigned_abs()),
             fraction: 0,
         });
     }
 
     /// Before a unit behind this factor.
-    fn unit_behind(&mut self, factor: Amount)
+    fn unit_behind(&mut self, factor: Quantity)
         requires { IsRead factor }
         ensures { (fed : List Fed) → unit_behind self.old.kind self.old.negative factor fed ≡ resume self.new fed }
     {
@@ -478,7 +478,7 @@ impl DimenScan {
     }
 
     /// At the first token of a unit behind this factor.
-    fn unit_with(&mut self, factor: Amount, x: Seen)
+    fn unit_with(&mut self, factor: Quantity, x: Seen)
         requires { IsRead factor }
         ensures { (fed : List Fed) → unit_with self.old.kind self.old.negative factor x fed ≡ resume self.new fed }
     {
@@ -490,7 +490,7 @@ impl DimenScan {
     }
 
     /// At the token that is looked at for a unit.
-    fn feed_unit(&mut self, factor: Amount, x: Seen)
+    fn feed_unit(&mut self, factor: Quantity, x: Seen)
         requires { IsRead factor }
         ensures { (fed : List Fed) → unit_at self.old.kind self.old.negative factor x fed ≡ resume self.new fed }
     {
@@ -502,7 +502,7 @@ impl DimenScan {
     }
 
     /// Where this stands for a unit, or a word may.
-    fn feed_internal_unit(&mut self, factor: Amount, internal: Option<Internal>)
+    fn feed_internal_unit(&mut self, factor: Quantity, internal: Option<Internal>)
         requires factor { IsRead factor }
         requires found { internals.IsFound internal }
         ensures { (fed : List Fed) → internal_or_word self.old.kind self.old.negative factor internal fed ≡ resume self.new fed }
@@ -533,7 +533,7 @@ impl DimenScan {
         match Radix::Decimal.digit(x) {
             Some(digit) => self.place = DimenPlace::Fraction(whole, digits.with(digit)),
             None => self.feed_decimal(
-                Amount {
+                Quantity {
                     whole: u64::from(whole),
                     fraction: digits.fraction(),
                 },
@@ -543,7 +543,7 @@ impl DimenScan {
     }
 
     /// Behind the last digit, where a space goes.
-    fn feed_decimal(&mut self, factor: Amount, x: Seen)
+    fn feed_decimal(&mut self, factor: Quantity, x: Seen)
         requires { IsRead factor }
         ensures { (fed : List Fed) → behind_digits self.old.kind self.old.negative factor x fed ≡ resume self.new fed }
     {

@@ -1,7 +1,7 @@
 // The scanner of an optional keyword. *The TeXbook*, chapter 24; *TeX: The Program*, part 26 (`scan_keyword`).
 ghost use Rattle.std.specs.Prelude.{◌≡◌, ◌<◌, ◌≤◌, List, length};
 ghost use Rattle.plain_readings.specs.Keywords as keywords;
-ghost use Rattle.scan_dimens.specs.Sees.{kept, letters_at, back_at};
+ghost use Rattle.scan_dimens.specs.Views.{kept, letters_at, back_at};
 
 use crate::decimals::is_space;
 use rows::Keyword;
@@ -100,7 +100,7 @@ impl KeywordScan {
     ghost use Rattle.rows.specs.declared.words.Value.{Value};
     ghost use Rattle.rows.specs.Readings.{Fed, Tok, Told, Val, Fetched, Cut};
     ghost use Rattle.plain_readings.specs.Keywords.{keyword_from};
-    ghost use Rattle.scan_dimens.specs.Sees.{ask_of, kept};
+    ghost use Rattle.scan_dimens.specs.Views.{ask_of, kept};
     ghost use Rattle.scan_dimens.specs.Resumes.{resume, kept_in};
 
     /// A keyword begins.

@@ -3,9 +3,9 @@ ghost use Rattle.std.specs.Prelude.{◌≡◌, ◌≤◌, ◌<◌, ◌+◌, pos,
 ghost use Rattle.rows.specs.Arithmetic as arithmetic;
 ghost use Rattle.plain_readings.specs.Dimens as dimens;
 ghost use Rattle.plain_readings.specs.Dimens.{physical};
-ghost use Rattle.scan_dimens.specs.DimenSees.{IsRead, IsMagnified, IsUnit};
+ghost use Rattle.scan_dimens.specs.DimenViews.{IsRead, IsMagnified, IsUnit};
 
-use plain_readings::{Amount, Measure};
+use plain_readings::{Measure, Quantity};
 use rows::{GREATEST_DIMENSION, Keyword};
 use scaled_arith::{times_plus, units};
 
@@ -40,35 +40,35 @@ fn measured_up(n: u64) -> Option<i32>
 }
 
 // A factor in sp, where the unit is a point.
-fn in_points(amount: Amount) -> u64
+fn in_scaled_points(amount: Quantity) -> u64
     requires { IsMagnified amount }
-    ensures { result ≡ dimens.in_points amount }
+    ensures { result ≡ dimens.in_scaled_points amount }
 {
     65536 * amount.whole + u64::from(amount.fraction)
 }
 
 /// A factor in points.
-pub fn points(amount: Amount) -> Option<i32>
+pub fn points(amount: Quantity) -> Option<i32>
     requires { IsMagnified amount }
     ensures { result ≡ dimens.points amount }
 {
-    measured_up(in_points(amount))
+    measured_up(in_scaled_points(amount))
 }
 
 /// A factor in scaled points, of which the fraction is dropped.
-pub fn scaled_points(amount: Amount) -> Option<i32>
+pub fn scaled_points(amount: Quantity) -> Option<i32>
     ensures { result ≡ arithmetic.measured (pos amount.whole) }
 {
     measured_up(amount.whole)
 }
 
 /// A factor in physical units.
-pub fn in_units(amount: Amount, unit: Measure) -> Option<i32>
+pub fn in_units(amount: Quantity, unit: Measure) -> Option<i32>
     requires amount { IsMagnified amount }
     requires unit { IsUnit unit }
     ensures { result ≡ arithmetic.measured (pos (dimens.in_units amount unit)) }
 {
-    let points = in_points(amount);
+    let points = in_scaled_points(amount);
     if points > 1 << 47 {
         return None;
     }
@@ -79,7 +79,7 @@ pub fn in_units(amount: Amount, unit: Measure) -> Option<i32>
 }
 
 /// A factor in internal units of this value, where the fraction's part is cut towards zero.
-pub fn times(amount: Amount, value: i32) -> Option<i32>
+pub fn times(amount: Quantity, value: i32) -> Option<i32>
     requires { IsRead amount }
     ensures { result ≡ arithmetic.measured (dimens.times amount value) }
 {
@@ -97,7 +97,7 @@ pub fn times(amount: Amount, value: i32) -> Option<i32>
 }
 
 /// A factor divided by this magnification, in thousandths.
-pub fn magnified(amount: Amount, mag: u32) -> Amount
+pub fn magnified(amount: Quantity, mag: u32) -> Quantity
     requires amount { IsRead amount }
     requires positive { 1 ≤ mag }
     ensures is { result ≡ dimens.magnified_amount amount mag }
@@ -106,8 +106,8 @@ pub fn magnified(amount: Amount, mag: u32) -> Amount
     if mag == 1000 {
         return amount;
     }
-    let points = in_points(amount) * 1000 / u64::from(mag);
-    Amount {
+    let points = in_scaled_points(amount) * 1000 / u64::from(mag);
+    Quantity {
         whole: points / 65536,
         fraction: (points % 65536) as u32,
     }

@@ -1,3 +1,3 @@
-pub mod GlueSees
+pub mod GlueViews
 pub mod GlueResumes
 pub mod GlueWorked

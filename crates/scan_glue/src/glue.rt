@@ -4,9 +4,9 @@ ghost use Rattle.equivalents.specs.Locations as locations;
 ghost use Rattle.plain_tokens.specs.Tokens as tokens;
 ghost use Rattle.rows.specs.Arithmetic as arithmetic;
 ghost use Rattle.rows.specs.Internal.{is_fetchable};
-ghost use Rattle.scan_dimens.specs.DimenSees.{IsDimension};
+ghost use Rattle.scan_dimens.specs.DimenViews.{IsDimension};
 ghost use Rattle.plain_readings.specs.Glues as glues;
-ghost use Rattle.scan_glue.specs.GlueSees as sees;
+ghost use Rattle.scan_glue.specs.GlueViews as sees;
 
 use equivalents::{Glue, Loc, Val as StoredValue};
 use rows::{
@@ -163,7 +163,7 @@ impl GlueScan {
     ghost use Rattle.plain_readings.specs.Measures.{glue_value, glue_item};
     ghost use Rattle.plain_readings.specs.Glues as glues;
     ghost use Rattle.plain_readings.specs.Glues.{Fed, Tok, Measured, Told, Fetched, Numbered, Found};
-    ghost use Rattle.scan_glue.specs.GlueSees.{ask_of, EndsInRange, IsFetchedAt};
+    ghost use Rattle.scan_glue.specs.GlueViews.{ask_of, EndsInRange, IsFetchedAt};
     ghost use Rattle.scan_glue.specs.GlueResumes.{resume};
 
     /// Glue begins, in mu or not.

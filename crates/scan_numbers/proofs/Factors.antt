@@ -3,11 +3,11 @@ use Rattle.std.proofs.Common.{◌≡◌, ℤ, Bool, false, List, [], ◌∷◌, 
 use Rattle.std.specs.Prelude.{◌&&◌}
 use Rattle.rows.specs.declared.words.Datum.TheVariants as datum
 use Rattle.rows.specs.declared.words.Value.TheVariants as value
-use Rattle.rows.specs.Readings.{Fed, Tok, Val, Told, Fetched, Entered, Cut, Ask, Done}
+use Rattle.rows.specs.Readings.{Fed, Tok, Val, Told, Fetched, Verbatim, Cut, Ask, Done}
 use Rattle.plain_readings.specs.Integers.{integer, is_digit, ends_with}
 use Rattle.plain_readings.specs.Factors.{is_point, ends_in_point, as_factor}
 use Rattle.scan_numbers.specs.Resumes.{resume}
-use Rattle.scan_numbers.specs.FactorSees.{IsFresh, began_with, decimal_behind, is_decimal_item, is_point_item}
+use Rattle.scan_numbers.specs.FactorViews.{IsFresh, began_with, decimal_behind, is_decimal_item, is_point_item}
 use Rattle.scan_numbers.specs.FactorResumes.{resume_at}
 use Rattle.scan_numbers.specs.declared.number.NumberScan.{NumberScan}
 
@@ -19,13 +19,13 @@ stepped None point scan new (Tok x) fresh on fed = ap (λ (a : Ask). as_factor (
 stepped None point scan new (Val v ts) fresh on fed = ap (λ (a : Ask). as_factor false (ends_in_point false fed) a) (fresh refl (Val v ts ∷ fed) ∙ on fed)
 stepped None point scan new Told fresh on fed = ap (λ (a : Ask). as_factor false (ends_in_point false fed) a) (fresh refl (Told ∷ fed) ∙ on fed)
 stepped None point scan new (Fetched v) fresh on fed = ap (λ (a : Ask). as_factor false (ends_in_point false fed) a) (fresh refl (Fetched v ∷ fed) ∙ on fed)
-stepped None point scan new (Entered t) fresh on fed = ap (λ (a : Ask). as_factor false (ends_in_point false fed) a) (fresh refl (Entered t ∷ fed) ∙ on fed)
+stepped None point scan new (Verbatim t) fresh on fed = ap (λ (a : Ask). as_factor false (ends_in_point false fed) a) (fresh refl (Verbatim t ∷ fed) ∙ on fed)
 stepped None point scan new Cut fresh on fed = ap (λ (a : Ask). as_factor false (ends_in_point false fed) a) (fresh refl (Cut ∷ fed) ∙ on fed)
 stepped (Some decimal) point scan new (Tok x) fresh on fed = ap (λ (a : Ask). as_factor decimal (ends_in_point (is_point x) fed) a) (on fed)
 stepped (Some decimal) point scan new (Val v ts) fresh on fed = ap (λ (a : Ask). as_factor decimal (ends_in_point false fed) a) (on fed)
 stepped (Some decimal) point scan new Told fresh on fed = ap (λ (a : Ask). as_factor decimal (ends_in_point false fed) a) (on fed)
 stepped (Some decimal) point scan new (Fetched v) fresh on fed = ap (λ (a : Ask). as_factor decimal (ends_in_point false fed) a) (on fed)
-stepped (Some decimal) point scan new (Entered t) fresh on fed = ap (λ (a : Ask). as_factor decimal (ends_in_point false fed) a) (on fed)
+stepped (Some decimal) point scan new (Verbatim t) fresh on fed = ap (λ (a : Ask). as_factor decimal (ends_in_point false fed) a) (on fed)
 stepped (Some decimal) point scan new Cut fresh on fed = ap (λ (a : Ask). as_factor decimal (ends_in_point false fed) a) (on fed)
 
 -- what is no end is asked for as it is

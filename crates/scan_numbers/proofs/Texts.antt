@@ -10,7 +10,7 @@ use Rattle.rows.specs.Worked.{character}
 use Rattle.rows.specs.Readings.{Fed, Tok}
 use Rattle.plain_readings.specs.Integers.{integer, digits, ends_with, signed, is_digit, greatest_integer}
 use Rattle.plain_readings.specs.Worked.{others}
-use Rattle.scan_numbers.specs.Sees.{IsInRange}
+use Rattle.scan_numbers.specs.Views.{IsInRange}
 use Rattle.scan_numbers.specs.Laws.{digit}
 use Rattle.scan_numbers.proofs.Spelt.{digit_holds, fits, ended}
 

@@ -11,7 +11,7 @@ use Rattle.plain_tokens.specs.Tokens.{is_space}
 use Rattle.rows.specs.Readings.{Fed, Tok, Told, More, Tells}
 use Rattle.plain_readings.specs.Integers.{integer, ends_with, signed, is_digit, greatest_integer}
 use Rattle.plain_readings.specs.Worked.{others}
-use Rattle.scan_numbers.specs.Sees.{IsInRange}
+use Rattle.scan_numbers.specs.Views.{IsInRange}
 
 -- the digit 0 to 9 as a character of category 12
 abbrev pub digit : ℕ → Seen

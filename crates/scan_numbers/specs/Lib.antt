@@ -1,6 +1,6 @@
-pub mod Sees
+pub mod Views
 pub mod Resumes
-pub mod FactorSees
+pub mod FactorViews
 pub mod FactorResumes
 pub mod Laws
 pub mod Worked

@@ -3,7 +3,7 @@ use Rattle.std.specs.Prelude.{Bool, List, pos}
 use Rattle.tex_syntax.specs.declared.words.Report.TheVariants.{ImproperConstant, MissingNumber}
 use Rattle.rows.specs.Readings.{Fed, Ask}
 use Rattle.plain_readings.specs.Integers.{integer, constant, first_digit, digits, too_big, digits_dropped, behind_number, missing, signed, improper_code, ends_with, numbered, bad_numbered, fetched, mu_found}
-use Rattle.scan_numbers.specs.Sees.{radix_number}
+use Rattle.scan_numbers.specs.Views.{radix_number}
 use Rattle.scan_numbers.specs.declared.number.Place.{Place}
 use Rattle.scan_numbers.specs.declared.number.Place.TheVariants.{Signs, Quote, First, Digits, TooBig, Dropped, Behind, NoNumber, NoCode, Numbered, BadNumber, Fetching, MuFound, Ended}
 use Rattle.scan_numbers.specs.declared.number.NumberScan.{NumberScan}

@@ -5,7 +5,7 @@ ghost use Rattle.rows.specs.Internal as internals;
 ghost use Rattle.plain_readings.specs.Integers as integers;
 ghost use Rattle.plain_readings.specs.Factors as factors;
 ghost use Rattle.plain_readings.specs.Integers.{greatest_integer, is_digit, digit_of};
-ghost use Rattle.scan_numbers.specs.Sees.{radix_number, IsInRange};
+ghost use Rattle.scan_numbers.specs.Views.{radix_number, IsInRange};
 
 use tex_defs::{Meaning, Name, Seen, Token};
 

@@ -1,5 +1,5 @@
 // The scanner of the integer before a fraction. *The TeXbook*, chapter 24; *TeX: The Program*, part 26 (`scan_dimen`).
-ghost use Rattle.scan_numbers.specs.FactorSees.{IsFresh};
+ghost use Rattle.scan_numbers.specs.FactorViews.{IsFresh};
 
 use crate::digits::{is_decimal, is_point};
 use crate::number::{Ask, NumberScan};
@@ -40,7 +40,7 @@ impl FactorScan {
     ghost use Rattle.rows.specs.declared.words.Value.{Value};
     ghost use Rattle.rows.specs.Readings.{Fed, Tok, Told, Val, Fetched, Cut};
     ghost use Rattle.plain_readings.specs.Factors.{factor};
-    ghost use Rattle.scan_numbers.specs.FactorSees.{began_with, decimal_behind, ask_of, EndsInRange, IsFetchedAt};
+    ghost use Rattle.scan_numbers.specs.FactorViews.{began_with, decimal_behind, ask_of, EndsInRange, IsFetchedAt};
     ghost use Rattle.scan_numbers.specs.FactorResumes.{resume_factor};
 
     /// The integer before a fraction begins.

@@ -2,7 +2,7 @@
 ghost use Rattle.std.specs.Prelude.{◌≤◌, ◌≡◌, true};
 ghost use Rattle.plain_readings.specs.Integers.{greatest_integer};
 ghost use Rattle.rows.specs.Internal.{is_fetchable};
-ghost use Rattle.scan_numbers.specs.Sees.{IsInRange, digits_value, end_value, location_at};
+ghost use Rattle.scan_numbers.specs.Views.{IsInRange, digits_value, end_value, location_at};
 
 use crate::digits::{GREATEST, Radix, code_of, is_other, is_space, signed, with_sign};
 use equivalents::{Loc, Val as StoredValue};
@@ -79,7 +79,7 @@ impl NumberScan {
     ghost use Rattle.rows.specs.Readings.{Fed, Tok, Told, Val, Fetched, Cut};
     ghost use Rattle.plain_readings.specs.Integers.{integer, constant, first_digit, digits, number_ended, fetched, with_number, by_meaning};
     ghost use Rattle.rows.specs.Internal as internals;
-    ghost use Rattle.scan_numbers.specs.Sees.{radix_number, ask_of, EndsInRange, IsFetchedAt};
+    ghost use Rattle.scan_numbers.specs.Views.{radix_number, ask_of, EndsInRange, IsFetchedAt};
     ghost use Rattle.scan_numbers.specs.Resumes.{resume};
 
     /// An integer begins.

@@ -30,8 +30,8 @@ use Rattle.plain_machine.specs.Numbers.{groups_of, value_of}
 use Rattle.plain_machine.proofs.Doing.{did_join}
 use Rattle.plain_machine.proofs.GroupNumbers.{set_of, set_demands_of}
 use Rattle.plain_machine.proofs.Holders.{set_cases}
-use Rattle.world_io.specs.Told.{FilesTold, SinkTold, world}
-use Rattle.input_state.specs.Stored.{Stored, KeepsMacros}
+use Rattle.world_io.specs.Contents.{FilesTold, SinkTold, world}
+use Rattle.input_state.specs.Stored.{Stored, KeepsShared}
 use Rattle.engine_state.specs.declared.broken.Broken.{Broken}
 use Rattle.engine_state.specs.declared.broken.Broken.TheVariants as broken
 use Rattle.engine_state.specs.declared.engine.Engine.{Engine}
@@ -99,7 +99,7 @@ module _ (e : Engine) (i : Stored) (global : Bool) (l : Loc) (v : V) (plain : Is
       (ap (λ (x : V). record (state_of e book) { groups = set global (groups_of book.number e.input.groups) l x }) (same_value book.number v plain)
       ∙ ap (λ (g : Groups). record (state_of e book) { groups = g }) (set_of book.number global e.input.groups l v))
 
-  pub value_stands : KeepsMacros e.input i → (sizes : Sizes) (book : Book) → Stands sizes e book → Stands sizes (record e { input = i }) book
+  pub value_stands : KeepsShared e.input i → (sizes : Sizes) (book : Book) → Stands sizes e book → Stands sizes (record e { input = i }) book
   value_stands kept sizes book st =
       regrouped_stands e given i is (value_length global e.input.groups l v) (λ n held. value_held n global e.input.groups l v plain held) kept sizes book st
 

@@ -13,7 +13,7 @@ use Rattle.tex_defs.specs.declared.Seen.{Seen}
 use Rattle.tex_defs.specs.declared.Sizes.{Sizes}
 use Rattle.tex_defs.specs.declared.Token.{Token}
 use Rattle.tex_defs.specs.Places.{World, Transcript}
-use Rattle.world_io.specs.Told.{FilesTold, SinkTold, world}
+use Rattle.world_io.specs.Contents.{FilesTold, SinkTold, world}
 use Rattle.equivalents.specs.declared.values.Glue.{Glue}
 use Rattle.equivalents.specs.declared.values.Loc.{Loc}
 use Rattle.equivalents.specs.declared.values.Val.TheVariants as val
@@ -62,7 +62,7 @@ use Rattle.engine_state.proofs.CuttingReadings.{later_in, stands_in, in_by}
 use Rattle.engine_state.proofs.Reporting.{full_out}
 use Rattle.engine_state.proofs.Standing.{same_engine}
 use Rattle.gullet.proofs.Stepping.{free_of}
-use Rattle.rows.specs.Suiting.{IsSmall, IsThere, IsVariable, TakesAll, SetsSmall}
+use Rattle.rows.specs.Suiting.{IsSuited, IsThere, IsVariable, TakesAll, AsksSuited}
 use Rattle.stomach.specs.Effects.{done_alone, assignment_of, IsAlone}
 use Rattle.stomach.specs.Halting.{DoesRuleIn}
 use Rattle.stomach.proofs.Codes.{sets_small}
@@ -103,13 +103,13 @@ asks_as (f ∷ fs) held r rs a st asks =
     ap (ask r.kind) (sym (append-nil r.fed)) ∙ st.0.goes_on [] ∙ is
 
 -- with a list
-pub small_gathered : (sizes : Sizes) (e : Engine) (book : Book) (r : Reading) (rs : List Reading) (c : Call) (does : Effect) (ts : List Token) → Stands sizes e (with_work (r ∷ rs) book) → asked e ≡ Some (ActsOn c does ts) → IsSmall does
+pub small_gathered : (sizes : Sizes) (e : Engine) (book : Book) (r : Reading) (rs : List Reading) (c : Call) (does : Effect) (ts : List Token) → Stands sizes e (with_work (r ∷ rs) book) → asked e ≡ Some (ActsOn c does ts) → IsSuited does
 small_gathered sizes e book r rs c does ts st asks =
-    subst SetsSmall (asks_as e.readings.frames e.input.builds r rs (ActsOn c does ts) st.readings.frames asks) (sets_small r.kind r.fed)
+    subst AsksSuited (asks_as e.readings.frames e.input.builds r rs (ActsOn c does ts) st.readings.frames asks) (sets_small r.kind r.fed)
 
-pub small_effect : (sizes : Sizes) (e : Engine) (book : Book) (r : Reading) (rs : List Reading) (c : Call) (does : Effect) → Stands sizes e (with_work (r ∷ rs) book) → asked e ≡ Some (Acts c does) → IsSmall does
+pub small_effect : (sizes : Sizes) (e : Engine) (book : Book) (r : Reading) (rs : List Reading) (c : Call) (does : Effect) → Stands sizes e (with_work (r ∷ rs) book) → asked e ≡ Some (Acts c does) → IsSuited does
 small_effect sizes e book r rs c does st asks =
-    subst SetsSmall (asks_as e.readings.frames e.input.builds r rs (Acts c does) st.readings.frames asks) (sets_small r.kind r.fed)
+    subst AsksSuited (asks_as e.readings.frames e.input.builds r rs (Acts c does) st.readings.frames asks) (sets_small r.kind r.fed)
 
 -- THE OPEN READINGS
 
@@ -348,19 +348,19 @@ assigned_alone l (val.Skip g) = tt
 assigned_alone l v = tt
 
 -- to a location that such values suit
-number_small : (l : Loc) (v : SeenValue) (o : Option ℤ) → IsThere l → TakesAll false l → as_number o ≡ Some v → IsSmall (assignment_of l v)
+number_small : (l : Loc) (v : SeenValue) (o : Option ℤ) → IsThere l → TakesAll false l → as_number o ≡ Some v → IsSuited (assignment_of l v)
 number_small l v None there takes is = absurd cc
-number_small l v (Some n) there takes is = let same : val.Number n ≡ v = cc in subst (λ (x : SeenValue). IsSmall (assignment_of l x)) same (there, takes n)
+number_small l v (Some n) there takes is = let same : val.Number n ≡ v = cc in subst (λ (x : SeenValue). IsSuited (assignment_of l x)) same (there, takes n)
 
-glue_small : (l : Loc) (v : SeenValue) (o : Option Glue) → IsThere l → TakesAll true l → as_glue o ≡ Some v → IsSmall (assignment_of l v)
+glue_small : (l : Loc) (v : SeenValue) (o : Option Glue) → IsThere l → TakesAll true l → as_glue o ≡ Some v → IsSuited (assignment_of l v)
 glue_small l v None there takes is = absurd cc
-glue_small l v (Some g) there takes is = let same : val.Skip g ≡ v = cc in subst (λ (x : SeenValue). IsSmall (assignment_of l x)) same (there, takes g)
+glue_small l v (Some g) there takes is = let same : val.Skip g ≡ v = cc in subst (λ (x : SeenValue). IsSuited (assignment_of l x)) same (there, takes g)
 
-value_small : (b : Bool) (l : Loc) (v : SeenValue) (o : Option Glue) (p : Option ℤ) → IsThere l → TakesAll b l → (if b then as_glue o else as_number p) ≡ Some v → IsSmall (assignment_of l v)
+value_small : (b : Bool) (l : Loc) (v : SeenValue) (o : Option Glue) (p : Option ℤ) → IsThere l → TakesAll b l → (if b then as_glue o else as_number p) ≡ Some v → IsSuited (assignment_of l v)
 value_small true l v o p there takes is = glue_small l v o there takes is
 value_small false l v o p there takes is = number_small l v p there takes is
 
-pub assigned_small : (operation : Operation) (l : Loc) (value v : SeenValue) (d : Datum) → IsVariable l → value_computed operation l value d ≡ Some v → IsSmall (assignment_of l v)
+pub assigned_small : (operation : Operation) (l : Loc) (value v : SeenValue) (d : Datum) → IsVariable l → value_computed operation l value d ≡ Some v → IsSuited (assignment_of l v)
 assigned_small operation l value v d h is = value_small (is_glue l) l v _ _ h.0 h.1 is
 
 pub set_moves : (e : Engine) (book : Book) (c : Call) (operation : Operation) (l : Loc) (value v : SeenValue) (d : Datum) → value ≡ value_seen (get (page_of e book).now l) → value_computed operation l value d ≡ Some v →

@@ -25,7 +25,7 @@ use Rattle.plain_machine.proofs.GroupNumbers.{set_name_of, name_demands_of}
 use Rattle.plain_machine.proofs.Renumbering.{meaning_to_let_of}
 use Rattle.plain_machine.proofs.Holders.{name_cases}
 use Rattle.plain_machine.proofs.Ties.{given_meant, name_held}
-use Rattle.input_state.specs.Stored.{Stored, KeepsMacros}
+use Rattle.input_state.specs.Stored.{Stored, KeepsShared}
 use Rattle.engine_state.specs.declared.broken.Broken.{Broken}
 use Rattle.engine_state.specs.declared.broken.Broken.TheVariants as broken
 use Rattle.engine_state.specs.declared.engine.Engine.{Engine}
@@ -83,7 +83,7 @@ module _ (e : Engine) (i : Stored) (global : Bool) (name : Name) (m : Cell) (is 
         (asks_same sizes e book None st.sound _ _ (name_demands_of book.number global e.input.groups name) fits)
         (ap (λ (g : Groups). record (state_of e book) { groups = g }) (ap (set_name global (groups_of book.number e.input.groups) name) same ∙ set_name_of book.number global e.input.groups name m))
 
-  pub named_stands : ((n : ℕ) → is_listed (lists_held given) n ≡ true → is_listed (lists_held e.input.groups) n ≡ true) → KeepsMacros e.input i → (sizes : Sizes) (book : Book) → Stands sizes e book → Stands sizes (record e { input = i }) book
+  pub named_stands : ((n : ℕ) → is_listed (lists_held given) n ≡ true → is_listed (lists_held e.input.groups) n ≡ true) → KeepsShared e.input i → (sizes : Sizes) (book : Book) → Stands sizes e book → Stands sizes (record e { input = i }) book
   named_stands fewer kept sizes book st = regrouped_stands e given i is (named_length global e.input.groups name m) fewer kept sizes book st
 
 -- there is no room for what it meant
@@ -122,7 +122,7 @@ module _ (e : Engine) (i : Stored) (global : Bool) (name : Name) (m : Meaning Un
       Did sizes (state_of e book) (state_of (record e { input = i }) book) w w (Assigned global name (without_list m) ∷ [])
   bare_did sizes w book st fits = named_did e i global name (without_list m) is sizes book w (without_list m) (bare_of book.number m) st fits
 
-  pub bare_stands : KeepsMacros e.input i → (sizes : Sizes) (book : Book) → Stands sizes e book → Stands sizes (record e { input = i }) book
+  pub bare_stands : KeepsShared e.input i → (sizes : Sizes) (book : Book) → Stands sizes e book → Stands sizes (record e { input = i }) book
   bare_stands kept sizes book st = named_stands e i global name (without_list m) is (λ n held. bare_held n global e.input.groups name m held) kept sizes book st
 
 -- WHAT A TOKEN MEANS
@@ -140,7 +140,7 @@ module _ (e : Engine) (i : Stored) (global : Bool) (name : Name) (x : Seen) (is 
   meant_held : (n : ℕ) → is_listed (lists_held (set_name global e.input.groups name meant)) n ≡ true → is_listed (lists_held e.input.groups) n ≡ true
   meant_held n held = ⊎_elim (λ a. name_held n e.input.groups (given_meant n e.input.groups.now.meanings x a)) (λ was. was) (name_cases n global e.input.groups name meant held)
 
-  pub assigned_stands : KeepsMacros e.input i → (sizes : Sizes) (book : Book) → Stands sizes e book → Stands sizes (record e { input = i }) book
+  pub assigned_stands : KeepsShared e.input i → (sizes : Sizes) (book : Book) → Stands sizes e book → Stands sizes (record e { input = i }) book
   assigned_stands kept sizes book st = named_stands e i global name meant is meant_held kept sizes book st
 
 -- BEHIND TWO TOKENS THAT ARE PUT BACK

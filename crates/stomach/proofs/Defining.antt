@@ -16,7 +16,7 @@ use Rattle.equivalents.specs.Groups.{Groups, set_name, name_demands}
 use Rattle.equivalents.specs.Holding.{lists_held}
 use Rattle.rows.specs.declared.command.Call.{Call}
 use Rattle.plain_readings.specs.Readings.{Reading}
-use Rattle.reading_frames.specs.Sees.{top_list}
+use Rattle.reading_frames.specs.Views.{top_list}
 use Rattle.reading_frames.specs.Stack.{Stack, innermost_count, lists_beneath}
 use Rattle.reading_frames.specs.Stands as frames
 use Rattle.reading_frames.specs.Stands.{AreShallow}
@@ -29,7 +29,7 @@ use Rattle.plain_machine.proofs.Ties.{tied_defined}
 use Rattle.meanings.specs.Kept.{IsPlaced}
 use Rattle.input_state.specs.Calls.{Defines}
 use Rattle.input_state.specs.HeldLists as held
-use Rattle.input_state.specs.Stored.{Stored, KeepsMacros}
+use Rattle.input_state.specs.Stored.{Stored, KeepsShared}
 use Rattle.engine_state.specs.declared.broken.Broken.TheVariants as broken
 use Rattle.engine_state.specs.declared.engine.Engine.{Engine}
 use Rattle.engine_state.specs.Book.{Book, with_work}
@@ -71,7 +71,7 @@ module _ (sizes : Sizes) (e e' : Engine) (book : Book) (w : World) (r : Reading)
     more = with_macro book.number ts at
 
     abbrev meant : Cell
-    meant = means.Macro c.long c.outer (Some (length book.macros))
+    meant = means.Macro c.long c.outer (Some (length book.all_lists))
 
     lost_there : IsPlaced (location name) (length e'.input.groups.now.meanings) → ⊥
     lost_there placed = lost (subst (λ (g : Groups). IsPlaced (location name) (length g.now.meanings)) same placed)
@@ -80,8 +80,8 @@ module _ (sizes : Sizes) (e e' : Engine) (book : Book) (w : World) (r : Reading)
     lost_stands = record {
       sound = record {
         sized = stands.sound.sized;
-        tied = tied_more book.number book.macros ts (lists_held e'.input.groups) (all_puts e'.input.pending) e'.input.lists stands.sound.tied;
-        bodies = bodies_more book.macros ts stands.sound.bodies some;
+        tied = tied_more book.number book.all_lists ts (lists_held e'.input.groups) (all_puts e'.input.pending) e'.input.lists stands.sound.tied;
+        bodies = bodies_more book.all_lists ts stands.sound.bodies some;
       };
       idle = stands.idle;
       readings = stands.readings;
@@ -90,7 +90,7 @@ module _ (sizes : Sizes) (e e' : Engine) (book : Book) (w : World) (r : Reading)
 
     lost_state : made (Defined globally name c.long c.outer ts) (state_of e at) ≡ state_of e' more
     lost_state =
-        ap (λ (s : State). record s { groups = set_name globally s.groups name (means.Macro c.long c.outer (Some (length s.macros))); macros = s.macros ++ ts ∷ [] }) state
+        ap (λ (s : State). record s { groups = set_name globally s.groups name (means.Macro c.long c.outer (Some (length s.all_lists))); all_lists = s.all_lists ++ ts ∷ [] }) state
         ∙ ap (λ (g : Groups). record (state_of e' more) { groups = g }) (lost_name book.number e'.input.groups name lost_there globally meant)
 
     pub lost_went : Went sizes (state_of e at) e' w w (Defined globally name c.long c.outer ts ∷ []) 0
@@ -117,7 +117,7 @@ pub macro_went : (sizes : Sizes) (e : Engine) (book : Book) (w : World) (r : Rea
     stack ≡ record { frames = drop 1 e.readings.frames; size = e.readings.size } →
     ((lists : List (List Token)) (work : List Reading) → frames.FramesStand e.readings.frames lists work → frames.FramesStand stack.frames (lists_beneath e.readings.frames lists) (drop 1 work)) →
     ((lists : List (List Token)) → AreShallow e.readings.frames lists → AreShallow stack.frames (lists_beneath e.readings.frames lists)) →
-    i ≡ record e.input { builds = drop 1 e.input.builds; groups = i.groups; lists = i.lists } → Defines global e.input.groups i.groups (all_puts e.input.pending) e.input.lists i.lists (held.first_list e.input.builds) name c.long c.outer → KeepsMacros e.input i →
+    i ≡ record e.input { builds = drop 1 e.input.builds; groups = i.groups; lists = i.lists } → Defines global e.input.groups i.groups (all_puts e.input.pending) e.input.lists i.lists (held.first_list e.input.builds) name c.long c.outer → KeepsShared e.input i →
     refused e.input.sizes (name_demands global e.input.groups name) ≡ None →
     Stands sizes e (with_work (r ∷ rs) book) → innermost_count e.readings.frames ≡ 1 →
     Went sizes (state_of e (with_work (r ∷ rs) book)) (record e { readings = stack; input = i }) w w (Defined (is_global (page_of e book) c) name c.long c.outer (top_list e.input.builds) ∷ []) 0
@@ -128,7 +128,7 @@ macro_went sizes e book w r rs c name global stack i is_so some rest stand shall
     (passed_went sizes e book w r rs ts some stack (ap (λ (s : Stack). s.size) rest) own stand shallow st (Defined global name c.long c.outer ts) (meant_by name c.long c.outer global) (λ s. refl) tt refl
     (asks_same sizes e here None st.sound _ _ (name_demands_of book.number global e.input.groups name) fits)
     (λ number id new g free outside. defined_free number id new global g free outside name c.long c.outer)
-    (λ number macros g puts lists lists' id us tied there longer is kept. tied_defined number macros global g puts lists lists' name c.long c.outer id us tied there longer is kept)
+    (λ number all_lists g puts lists lists' id us tied there longer is kept. tied_defined number all_lists global g puts lists lists' name c.long c.outer id us tied there longer is kept)
     (λ g id. named_length global g name (means.Macro c.long c.outer (Some id)))
     i after (defined_given name c.long c.outer global e.input.groups i.groups (all_puts e.input.pending) e.input.lists i.lists ts (held.first_list e.input.builds) (first_is e.input.builds) defines) kept)
 

@@ -8,7 +8,7 @@ use Rattle.rows.specs.Readings.{Fetched}
 use Rattle.plain_readings.specs.Readings.{Reading, fed_with}
 use Rattle.plain_machine.specs.States.{Feeds, made}
 use Rattle.plain_machine.proofs.Doing.{did_one}
-use Rattle.world_io.specs.Told.{FilesTold, SinkTold}
+use Rattle.world_io.specs.Contents.{FilesTold, SinkTold}
 use Rattle.engine_state.specs.declared.engine.Engine.{Engine}
 use Rattle.engine_state.specs.Book.{Book, with_work}
 use Rattle.engine_state.specs.Rules.{world_of, Went}

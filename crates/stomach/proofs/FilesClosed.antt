@@ -2,7 +2,7 @@
 use Rattle.std.proofs.Common.{◌≡◌, ◌∙◌, ℕ, suc, ◌+◌, ◌<◌, Bool, true, false, List, [], ◌∷◌, ◌++◌, length, refl, sym, ap, subst, append_assoc, arith}
 use Rattle.std.proofs.lemmas.List.{length-append}
 use Rattle.std.specs.Prelude.{◌≢◌, Option, None, Some}
-use Rattle.world_io.specs.Told.{FilesTold, ClosesReader, SameCounts, IsAtEnd, IsAll}
+use Rattle.world_io.specs.Contents.{FilesTold, ClosesReader, SameCounts, IsAtEnd, IsAll}
 use Rattle.line_reader.specs.Readers.{OpenReader, AreOpen, KnowEnds, LeftBefore, innermost_of, outer_of, told_left}
 use Rattle.plain_machine.specs.Extended.{Rests}
 use Rattle.stomach.specs.Files.{AreGone, told_by}

@@ -3,7 +3,7 @@ use Rattle.std.proofs.Common.{◌≡◌, ℕ, zero, suc, ◌≤◌, Bool, true, 
 use Rattle.std.proofs.lemmas.Slice.Eq.{bytes_eq-Decides}
 use Rattle.std.specs.Prelude.{Decides, Option, None, Some, bytes_eq, if◌then◌else◌}
 use Rattle.tex_defs.specs.Places.{File, Untold, NotHeld, Holds}
-use Rattle.world_io.specs.Told.{FilesTold, NotFound, IsContent}
+use Rattle.world_io.specs.Contents.{FilesTold, NotFound, IsContent}
 use Rattle.line_reader.specs.Readers.{OpenReaders, AreOpen, KnowEnds, OpensInnermost, KeepsReaders}
 use Rattle.plain_machine.specs.States.{Files}
 use Rattle.plain_machine.specs.Extended as plain

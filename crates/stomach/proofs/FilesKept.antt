@@ -9,10 +9,10 @@ use Rattle.plain_tokens.specs.Lookup.{new_name, token_of}
 use Rattle.plain_tokens.specs.Meanings.{met as met_token}
 use Rattle.tex_syntax.specs.declared.words.Report.TheVariants as reports
 use Rattle.plain_tokens.specs.Puts.{Item, Put, passed}
-use Rattle.plain_tokens.specs.Pending.{Pending, Source, Progress, Begun, Closed, Pulled, TokenFrom, LexemeFrom, LineTaken, InvalidMet, FileOver, NothingLeft, pulled, after_pull, settle, from_front, from_list, from_line, from_file, from_begun, beneath}
+use Rattle.plain_tokens.specs.Pending.{Pending, Source, Progress, Begun, Closed, Pulled, TokenFrom, LexemeFrom, LineTaken, InvalidMet, FileOver, NothingLeft, pulled, after_pull, end_token_lists, from_front, from_list, from_line, from_file, from_begun, beneath}
 use Rattle.plain_tokens.specs.Tables.{file_levels, open_files}
 use Rattle.plain_readings.specs.Scanning.{Scanning}
-use Rattle.plain_machine.specs.States.{State, Move, Handed, Taken, FirstTaken, Skipped, FileClosed, FileOpened, Settled, made}
+use Rattle.plain_machine.specs.States.{State, Move, Handed, Taken, FirstTaken, Skipped, FileClosed, FileOpened, ListsEnded, made}
 use Rattle.plain_machine.specs.Plan.{Page, handed, met, entered, checked, at_line, reported, planned}
 use Rattle.plain_machine.specs.Runs.{made_all, steps}
 use Rattle.plain_machine.specs.Extended.{Rests, closes, rests_before, starts_input}
@@ -92,16 +92,16 @@ module _ (p : Pending) (none : p.next ≡ None) where
 -- They pull nothing, or begin with a reading that leaves all files open, or with the end of the innermost one.
 pub data Counts (s : State) (ms : List Move) : Type 0 where
   Still : pulls ms ≡ 0 → Counts s ms
-  Keeps : (m : Move) → (rest : List Move) → ms ≡ Settled ∷ m ∷ rest → pulls rest ≡ 0 → count (made m (made Settled s)) ≡ count s → closes ms ≡ false → Counts s ms
-  Loses : (rest : List Move) → ms ≡ Settled ∷ FileClosed ∷ rest → pulls rest ≡ 0 → count s ≡ suc (count (made FileClosed (made Settled s))) → Counts s ms
+  Keeps : (m : Move) → (rest : List Move) → ms ≡ ListsEnded ∷ m ∷ rest → pulls rest ≡ 0 → count (made m (made ListsEnded s)) ≡ count s → closes ms ≡ false → Counts s ms
+  Loses : (rest : List Move) → ms ≡ ListsEnded ∷ FileClosed ∷ rest → pulls rest ≡ 0 → count s ≡ suc (count (made FileClosed (made ListsEnded s))) → Counts s ms
 
 module _ (s : State) (none : s.pending.next ≡ None) where
   abbrev here : Pulled
   here = pulled s.groups.now.categories s.pending
 
   -- what is pending behind a reading, once the finished lists in front have gone
-  behind_reading : (x : Pulled) → here ≡ x → open_files (after_pull (settle s.pending) (pulled s.groups.now.categories (settle s.pending))) ≡ open_files (after_pull (settle s.pending) x)
-  behind_reading x is = ap (λ (r : Pulled). open_files (after_pull (settle s.pending) r)) (pulled_settled s.groups.now.categories s.pending ∙ is)
+  behind_reading : (x : Pulled) → here ≡ x → open_files (after_pull (end_token_lists s.pending) (pulled s.groups.now.categories (end_token_lists s.pending))) ≡ open_files (after_pull (end_token_lists s.pending) x)
+  behind_reading x is = ap (λ (r : Pulled). open_files (after_pull (end_token_lists s.pending) r)) (pulled_settled s.groups.now.categories s.pending ∙ is)
 
   after : (x : Pulled) → here ≡ x → FilesAfter s.pending x
   after x is = subst (FilesAfter s.pending) is (files_after s.pending none s.groups.now.categories)
@@ -137,7 +137,7 @@ one_if false = 0
 
 still_closes : (ms : List Move) → pulls ms ≡ 0 → closes ms ≡ false
 still_closes [] h = refl
-still_closes (Settled ∷ FileClosed ∷ ms) h = absurd (omega (arith, h))
+still_closes (ListsEnded ∷ FileClosed ∷ ms) h = absurd (omega (arith, h))
 still_closes ms h = refl
 
 -- a file that goes is no step
@@ -159,7 +159,7 @@ open_before gone ms r h = ap (λ (b : Bool). with_gone b gone r) h
 
 -- a move at which a rule may be cut off: the first moves of a file's end aren't
 abbrev pub MayRefuse : List Move → Type 0
-MayRefuse rest = (m : Move) → (tail : List Move) → rest ≡ m ∷ tail → (m ≡ Settled → ⊥) × (m ≡ FileClosed → ⊥)
+MayRefuse rest = (m : Move) → (tail : List Move) → rest ≡ m ∷ tail → (m ≡ ListsEnded → ⊥) × (m ≡ FileClosed → ⊥)
 
 first_of : (m n : Move) (ms ns : List Move) → m ∷ ms ≡ n ∷ ns → m ≡ n
 first_of m n ms ns is = cc
@@ -167,26 +167,26 @@ first_of m n ms ns is = cc
 rest_of : (m n : Move) (ms ns : List Move) → m ∷ ms ≡ n ∷ ns → ms ≡ ns
 rest_of m n ms ns is = cc
 
-lost : (s : State) (more done rest : List Move) → MayRefuse rest → Settled ∷ FileClosed ∷ more ≡ done ++ rest → pulls more ≡ 0 → count s ≡ suc (count (made FileClosed (made Settled s))) → count s ≡ suc (count (made_all done s))
+lost : (s : State) (more done rest : List Move) → MayRefuse rest → ListsEnded ∷ FileClosed ∷ more ≡ done ++ rest → pulls more ≡ 0 → count s ≡ suc (count (made FileClosed (made ListsEnded s))) → count s ≡ suc (count (made_all done s))
 lost s more [] [] may is h k = absurd cc
-lost s more [] (m ∷ tail) may is h k = absurd ((may m tail refl).0 (sym (first_of Settled m (FileClosed ∷ more) tail is)))
+lost s more [] (m ∷ tail) may is h k = absurd ((may m tail refl).0 (sym (first_of ListsEnded m (FileClosed ∷ more) tail is)))
 lost s more (d ∷ []) [] may is h k = absurd cc
-lost s more (d ∷ []) (m ∷ tail) may is h k = absurd ((may m tail refl).1 (sym (first_of FileClosed m more tail (rest_of Settled d (FileClosed ∷ more) (m ∷ tail) is))))
+lost s more (d ∷ []) (m ∷ tail) may is h k = absurd ((may m tail refl).1 (sym (first_of FileClosed m more tail (rest_of ListsEnded d (FileClosed ∷ more) (m ∷ tail) is))))
 lost s more (d ∷ d' ∷ done) rest may is h k =
-    let is' = rest_of Settled d (FileClosed ∷ more) (d' ∷ (done ++ rest)) is in
-    let first : d ≡ Settled = sym (first_of Settled d (FileClosed ∷ more) (d' ∷ (done ++ rest)) is) in
+    let is' = rest_of ListsEnded d (FileClosed ∷ more) (d' ∷ (done ++ rest)) is in
+    let first : d ≡ ListsEnded = sym (first_of ListsEnded d (FileClosed ∷ more) (d' ∷ (done ++ rest)) is) in
     let second : d' ≡ FileClosed = sym (first_of FileClosed d' more (done ++ rest) is') in
-    let same : count (made_all done (made FileClosed (made Settled s))) ≡ count (made FileClosed (made Settled s)) = keeps_front done rest (made FileClosed (made Settled s)) (ap pulls (sym (rest_of FileClosed d' more (done ++ rest) is')) ∙ h) in
+    let same : count (made_all done (made FileClosed (made ListsEnded s))) ≡ count (made FileClosed (made ListsEnded s)) = keeps_front done rest (made FileClosed (made ListsEnded s)) (ap pulls (sym (rest_of FileClosed d' more (done ++ rest) is')) ∙ h) in
     k ∙ ap suc (sym same ∙ ap₂ (λ (x y : Move). count (made_all done (made y (made x s)))) (sym first) (sym second))
 
-kept : (s : State) (m : Move) (more done rest : List Move) → Settled ∷ m ∷ more ≡ done ++ rest → pulls more ≡ 0 → count (made m (made Settled s)) ≡ count s → count (made_all done s) ≡ count s
+kept : (s : State) (m : Move) (more done rest : List Move) → ListsEnded ∷ m ∷ more ≡ done ++ rest → pulls more ≡ 0 → count (made m (made ListsEnded s)) ≡ count s → count (made_all done s) ≡ count s
 kept s m more [] rest is h k = refl
-kept s m more (d ∷ []) rest is h k = ap (λ (x : Move). count (made x s)) (sym (first_of Settled d (m ∷ more) rest is))
+kept s m more (d ∷ []) rest is h k = ap (λ (x : Move). count (made x s)) (sym (first_of ListsEnded d (m ∷ more) rest is))
 kept s m more (d ∷ d' ∷ done) rest is h k =
-    let is' = rest_of Settled d (m ∷ more) (d' ∷ (done ++ rest)) is in
-    let first : d ≡ Settled = sym (first_of Settled d (m ∷ more) (d' ∷ (done ++ rest)) is) in
+    let is' = rest_of ListsEnded d (m ∷ more) (d' ∷ (done ++ rest)) is in
+    let first : d ≡ ListsEnded = sym (first_of ListsEnded d (m ∷ more) (d' ∷ (done ++ rest)) is) in
     let second : d' ≡ m = sym (first_of m d' more (done ++ rest) is') in
-    let same : count (made_all done (made m (made Settled s))) ≡ count (made m (made Settled s)) = keeps_front done rest (made m (made Settled s)) (ap pulls (sym (rest_of m d' more (done ++ rest) is')) ∙ h) in
+    let same : count (made_all done (made m (made ListsEnded s))) ≡ count (made m (made ListsEnded s)) = keeps_front done rest (made m (made ListsEnded s)) (ap pulls (sym (rest_of m d' more (done ++ rest) is')) ∙ h) in
     ap₂ (λ (x y : Move). count (made_all done (made y (made x s)))) first second ∙ same ∙ k
 
 -- behind the moves of a rule, or the first of them, one file fewer is open, or as many

@@ -7,7 +7,7 @@ use Rattle.tex_defs.specs.Places.{World}
 use Rattle.tex_defs.specs.declared.Full.{Full}
 use Rattle.tex_defs.specs.declared.Sizes.{Sizes}
 use Rattle.tex_defs.specs.declared.Table.TheVariants.{BufferSize}
-use Rattle.plain_tokens.specs.Pending.{Pending, settle}
+use Rattle.plain_tokens.specs.Pending.{Pending, end_token_lists}
 use Rattle.plain_tokens.specs.Tables.{buffer, open_lines, spelt_name, refused}
 use Rattle.command_words.specs.Words.{has, behind_area, file_name}
 use Rattle.plain_readings.specs.Readings.{Reading}
@@ -19,12 +19,12 @@ use Rattle.reading_frames.specs.Weights.{frames_weight, innermost_weight, stack_
 use Rattle.plain_readings.specs.Weights.{act_frame, act_weight}
 use Rattle.engine_state.specs.declared.call.Call.{Call as OpenCall}
 use Rattle.stomach.proofs.RuleCloses.{closed_lighter_behind}
-use Rattle.plain_machine.specs.States.{Move, Spelt, Closed, NameInProgress, Settled, made}
+use Rattle.plain_machine.specs.States.{Move, Spelt, Closed, NameInProgress, ListsEnded, made}
 use Rattle.plain_machine.specs.Plan.{given_back}
 use Rattle.plain_machine.specs.Does.{Did}
 use Rattle.plain_machine.proofs.Doing.{did_join, did_one}
 use Rattle.plain_machine.proofs.Renumbering.{settle_of}
-use Rattle.input_state.specs.Stored.{Stored, KeepsMacros, spelt}
+use Rattle.input_state.specs.Stored.{Stored, KeepsShared, spelt}
 use Rattle.engine_state.specs.declared.broken.Broken.{Broken}
 use Rattle.engine_state.specs.declared.engine.Engine.{Engine}
 use Rattle.engine_state.specs.Book.{Book, with_work}
@@ -99,22 +99,22 @@ unnamed_stands sizes e book b st = record {
 
 -- THE FINISHED LISTS IN FRONT HAVE GONE
 
-module _ (sizes : Sizes) (e : Engine) (i : Stored) (book : Book) (is : i ≡ record e.input { pending = settle e.input.pending; lists = i.lists }) where
-  pub settled_stands : KeepsMacros e.input i → Stands sizes e book → Stands sizes (record e { input = i }) book
+module _ (sizes : Sizes) (e : Engine) (i : Stored) (book : Book) (is : i ≡ record e.input { pending = end_token_lists e.input.pending; lists = i.lists }) where
+  pub settled_stands : KeepsShared e.input i → Stands sizes e book → Stands sizes (record e { input = i }) book
   settled_stands kept st =
       name_stands sizes e (record e { input = i }) book (record { readings = refl; lists = ap (λ (x : Stored). x.builds) is; call = refl; calling = ap (λ (x : Stored). x.call) is })
       (record { depth = refl; call = refl; names = refl; after = refl; mag_set = refl; conditionals = refl; last = refl; naming = refl; in_line = refl; reports = refl; flawed = refl; quiet = refl; sizes = refl })
       (store_settled e.input i is kept) (ap (λ (x : Stored). x.making) is ∙ st.idle) st
 
-  pub settled_did : (w : World) → Did sizes (state_of e book) (state_of (record e { input = i }) book) w w (Settled ∷ [])
+  pub settled_did : (w : World) → Did sizes (state_of e book) (state_of (record e { input = i }) book) w w (ListsEnded ∷ [])
   settled_did w =
-      did_one sizes Settled (state_of e book) (state_of (record e { input = i }) book) w w refl
-      (ap (λ (p : Pending). record (state_of e book) { pending = p }) (settle_of book.number e.input.pending) ∙ ap (λ (x : Stored). state_of (record e { input = x }) book) (sym is)) (quiet_here Settled w tt)
+      did_one sizes ListsEnded (state_of e book) (state_of (record e { input = i }) book) w w refl
+      (ap (λ (p : Pending). record (state_of e book) { pending = p }) (settle_of book.number e.input.pending) ∙ ap (λ (x : Stored). state_of (record e { input = x }) book) (sym is)) (quiet_here ListsEnded w tt)
 
 -- ITS READING ENDS
 
 abbrev pub behind_name : List Move
-behind_name = Closed ∷ NameInProgress false ∷ Settled ∷ []
+behind_name = Closed ∷ NameInProgress false ∷ ListsEnded ∷ []
 
 module _ (sizes : Sizes) (e e1 e2 : Engine) (book : Book) (w : World) (r : Reading) (rs : List Reading) (back : Bool) (name : List ℕ) where
   abbrev at : Book
@@ -135,7 +135,7 @@ module _ (sizes : Sizes) (e e1 e2 : Engine) (book : Book) (w : World) (r : Readi
         (later_in sizes _ _ e2 w w w given (Spelt name ∷ behind_name ++ more) b put h)
 
     module _ (e3 : Engine) (i : Stored) (n : ℕ) (spells : Did sizes (state_of e1 at) (state_of e2 at) w w (Spelt name ∷ [])) (closes : made Closed (state_of e2 at) ≡ state_of e3 (with_work rs book)) (st : Stands sizes e3 (with_work rs book))
-        (is : i ≡ record e3.input { pending = settle e3.input.pending; lists = i.lists }) (kept : KeepsMacros e3.input i) where
+        (is : i ≡ record e3.input { pending = end_token_lists e3.input.pending; lists = i.lists }) (kept : KeepsShared e3.input i) where
       abbrev named : Engine
       named = record e3 { naming = false }
 
@@ -154,15 +154,15 @@ module _ (sizes : Sizes) (e e1 e2 : Engine) (book : Book) (w : World) (r : Readi
         did =
             did_join sizes _ _ _ w w w given (Spelt name ∷ behind_name) put
             (did_join sizes _ _ _ w w w (Spelt name ∷ []) behind_name spells
-            (did_join sizes _ _ _ w w w (Closed ∷ []) (NameInProgress false ∷ Settled ∷ []) closed
-            (did_join sizes _ _ _ w w w (NameInProgress false ∷ []) (Settled ∷ []) name_over (settled_did sizes named i outer is w))));
+            (did_join sizes _ _ _ w w w (Closed ∷ []) (NameInProgress false ∷ ListsEnded ∷ []) closed
+            (did_join sizes _ _ _ w w w (NameInProgress false ∷ []) (ListsEnded ∷ []) name_over (settled_did sizes named i outer is w))));
         spells = spelt_name;
         room = room;
       }
 
 -- WHAT STAYS
 
-module _ (e2 e3 : Engine) (i : Stored) (same : SameBut e2 e3) (is : i ≡ record e3.input { pending = settle e3.input.pending; lists = i.lists }) where
+module _ (e2 e3 : Engine) (i : Stored) (same : SameBut e2 e3) (is : i ≡ record e3.input { pending = end_token_lists e3.input.pending; lists = i.lists }) where
   pub sought_name : (n : ℕ) → e3.input.buffer ≡ e2.input.buffer → spelt i n ≡ spelt e2.input n
   sought_name n bytes = ap (λ (x : Stored). spelt x n) is ∙ ap₂ (λ (p : Pending) (b : List ℕ). take n (drop (open_lines p) b)) same.pending bytes
 

@@ -39,10 +39,10 @@ use Rattle.plain_readings.specs.Weights.{act_frame}
 use Rattle.scan_dimens.specs.Resumes.{resume_at as keyword_at}
 use Rattle.scan_dimens.specs.DimenResumes as dimen
 use Rattle.scan_glue.specs.GlueResumes as glue
-use Rattle.scan_dimens.specs.Sees.{kept as kept_tokens}
+use Rattle.scan_dimens.specs.Views.{kept as kept_tokens}
 use Rattle.scan_dimens.specs.declared.keyword.KeywordPlace.{KeywordPlace}
 use Rattle.scan_dimens.specs.declared.keyword.KeywordPlace.TheVariants as keyword
-use Rattle.reading_frames.specs.Sees.{Lists, top_list, kept_list_of}
+use Rattle.reading_frames.specs.Views.{Lists, top_list, kept_list_of}
 use Rattle.reading_frames.specs.Resumes.{resume, resume_build, name_at, file_at, skip_at, list_count, listed_count}
 use Rattle.reading_frames.specs.Stack.{asks_in, innermost_count}
 use Rattle.reading_frames.specs.declared.command.CommandScan.TheVariants as command

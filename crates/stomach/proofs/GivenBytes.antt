@@ -124,7 +124,7 @@ module _ (sizes : Sizes) (bytes : List ℕ) where
   given_stands : (e : Engine) (book : Book) → AllStand sizes e book → AllStand sizes (given bytes e) book
   given_stands e book h =
       let store = given_store e e.input.pending.next in
-      all_still sizes e (given bytes e) book (given_frames e) store (sound_still sizes e (given bytes e) book.number book.macros refl refl refl refl refl store h.sound) h.idle h
+      all_still sizes e (given bytes e) book (given_frames e) store (sound_still sizes e (given bytes e) book.number book.all_lists refl refl refl refl refl store h.sound) h.idle h
 
 module _ (sizes : Sizes) (all left : Rests) (e e' : Engine) (is : IsGiven all left e e') where
   pub stands_given : (book : Book) → AllStand sizes e book → AllStand sizes e' book

@@ -12,7 +12,7 @@ use Rattle.plain_machine.specs.Runs.{steps}
 use Rattle.plain_machine.specs.Does.{Did}
 use Rattle.plain_machine.proofs.Doing.{did_join}
 use Rattle.plain_machine.proofs.Joins.{steps_join}
-use Rattle.world_io.specs.Told.{FilesTold, SinkTold, world}
+use Rattle.world_io.specs.Contents.{FilesTold, SinkTold, world}
 use Rattle.engine_state.specs.declared.broken.Broken.{Broken}
 use Rattle.engine_state.specs.declared.engine.Engine.{Engine}
 use Rattle.engine_state.specs.declared.outcome.Ruled.{Ruled}

@@ -11,7 +11,7 @@ use Rattle.tex_defs.specs.declared.Token.{Token}
 use Rattle.tex_defs.specs.Places.{World}
 use Rattle.rows.specs.Readings.{Ask, Tok, More}
 use Rattle.plain_readings.specs.Readings.{Reading, fed_with}
-use Rattle.reading_frames.specs.Sees.{Lists}
+use Rattle.reading_frames.specs.Views.{Lists}
 use Rattle.reading_frames.specs.Stack.{asks_in}
 use Rattle.reading_frames.specs.Stands as frames
 use Rattle.reading_frames.specs.declared.frame.Frame.{Frame}

@@ -21,7 +21,7 @@ use Rattle.rows.specs.Readings.{Ask, More}
 use Rattle.rows.specs.declared.command.Call.{Call}
 use Rattle.rows.specs.declared.command.Effect.TheVariants as effect
 use Rattle.plain_readings.specs.Readings.{Reading, ask}
-use Rattle.reading_frames.specs.Sees.{top_list}
+use Rattle.reading_frames.specs.Views.{top_list}
 use Rattle.reading_frames.specs.Stack.{Stack, innermost_count, lists_beneath, asked_in, AsksCopied}
 use Rattle.reading_frames.specs.Stands as frames
 use Rattle.reading_frames.specs.Stands.{AreShallow}
@@ -37,7 +37,7 @@ use Rattle.plain_machine.proofs.Pulls.{list_given_none}
 use Rattle.plain_machine.proofs.Ties.{tied_listed}
 use Rattle.input_state.specs.HeldLists as held
 use Rattle.input_state.specs.Standing.{SetsList}
-use Rattle.input_state.specs.Stored.{Stored, KeepsMacros}
+use Rattle.input_state.specs.Stored.{Stored, KeepsShared}
 use Rattle.gullet.proofs.Stepping.{free_of}
 use Rattle.engine_state.specs.declared.broken.Broken.{Broken}
 use Rattle.engine_state.specs.declared.broken.Broken.TheVariants as broken
@@ -83,7 +83,7 @@ module _ (e : Engine) (i : Stored) (global : Bool) (l m : Loc) (is : i ≡ recor
       (ap (λ (g : Groups). record (state_of e book) { groups = g }) (sym (groups_shared book.number global e.input.groups l m)))
 
   -- each list that is held then was held
-  pub shared_stands : KeepsMacros e.input i → (sizes : Sizes) (book : Book) → Stands sizes e book → Stands sizes (record e { input = i }) book
+  pub shared_stands : KeepsShared e.input i → (sizes : Sizes) (book : Book) → Stands sizes e book → Stands sizes (record e { input = i }) book
   shared_stands kept sizes book st =
       regrouped_stands e given i is (value_length global e.input.groups l (get e.input.groups.now m))
       (λ n held. ⊎_elim (λ own. value_is_held n e.input.groups m own) (λ was. was) (set_cases n global e.input.groups l (get e.input.groups.now m) held)) kept sizes book st
@@ -102,7 +102,7 @@ pub list_went : (sizes : Sizes) (e : Engine) (book : Book) (w : World) (r : Read
     stack ≡ record { frames = drop 1 e.readings.frames; size = e.readings.size } →
     ((lists : List (List Token)) (work : List Reading) → frames.FramesStand e.readings.frames lists work → frames.FramesStand stack.frames (lists_beneath e.readings.frames lists) (drop 1 work)) →
     ((lists : List (List Token)) → AreShallow e.readings.frames lists → AreShallow stack.frames (lists_beneath e.readings.frames lists)) →
-    i ≡ record e.input { builds = drop 1 e.input.builds; groups = i.groups; lists = i.lists } → SetsList global e.input.groups i.groups (all_puts e.input.pending) e.input.lists i.lists (held.first_list e.input.builds) l → KeepsMacros e.input i →
+    i ≡ record e.input { builds = drop 1 e.input.builds; groups = i.groups; lists = i.lists } → SetsList global e.input.groups i.groups (all_puts e.input.pending) e.input.lists i.lists (held.first_list e.input.builds) l → KeepsShared e.input i →
     refused e.input.sizes (set_demands global e.input.groups l) ≡ None →
     Stands sizes e (with_work (r ∷ rs) book) → innermost_count e.readings.frames ≡ 1 →
     Went sizes (state_of e (with_work (r ∷ rs) book)) (record e { readings = stack; input = i }) w w (ListSet (is_global (page_of e book) c) l (top_list e.input.builds) ∷ []) 0
@@ -113,7 +113,7 @@ list_went sizes e book w r rs c l global stack i is_so some rest stand shallow a
     (passed_went sizes e book w r rs ts some stack (ap (λ (s : Stack). s.size) rest) own stand shallow st (ListSet global l ts) (stands_by l global) (λ s. refl) tt refl
     (asks_same sizes e here None st.sound _ _ (set_demands_of book.number global e.input.groups l) fits)
     (λ number id new g free outside. listed_free number id new global g free outside l)
-    (λ number macros g puts lists lists' id us tied there longer is kept. tied_listed number macros global g puts lists lists' l id us tied there longer is kept)
+    (λ number all_lists g puts lists lists' id us tied there longer is kept. tied_listed number all_lists global g puts lists lists' l id us tied there longer is kept)
     (λ g id. value_length global g l (val.Tokens (Some id)))
     i after (listed_given l global e.input.groups i.groups (all_puts e.input.pending) e.input.lists i.lists ts (held.first_list e.input.builds) (first_is e.input.builds) sets) kept)
 

@@ -7,9 +7,9 @@ use Rattle.std.specs.Prelude.{◌||◌, ℤ, Option, None, Some, IsSome, Ok}
 use Rattle.tex_syntax.specs.declared.words.Outcome.{Outcome}
 use Rattle.tex_defs.specs.Places.{World}
 use Rattle.tex_defs.specs.declared.Sizes.{Sizes}
-use Rattle.plain_tokens.specs.Pending.{Pending, Source, settle, with_begun, with_end, source_of}
+use Rattle.plain_tokens.specs.Pending.{Pending, Source, end_token_lists, with_begun, with_end, source_of}
 use Rattle.plain_tokens.specs.Tables.{Demand, file_levels, open_files}
-use Rattle.plain_machine.specs.States.{State, Move, Settled, FileClosed}
+use Rattle.plain_machine.specs.States.{State, Move, ListsEnded, FileClosed}
 use Rattle.plain_machine.specs.Plan.{plan, ruled}
 use Rattle.plain_machine.specs.Does.{Did, Cut, Why, IsFull, IsFault, IsWant, Refuses}
 use Rattle.plain_machine.specs.Runs.{made_all, steps}
@@ -18,7 +18,7 @@ use Rattle.plain_machine.specs.Extended.{Rests, closes, extended, next_extended,
 use Rattle.plain_machine.proofs.Beginning.{begins_did, begins_cut}
 use Rattle.plain_machine.proofs.Doing.{plan_did, plan_cut, CutOff}
 use Rattle.plain_machine.proofs.Renumbering.{text_level_of}
-use Rattle.world_io.specs.Told.{FilesTold, SinkTold}
+use Rattle.world_io.specs.Contents.{FilesTold, SinkTold}
 use Rattle.line_reader.specs.Readers.{OpenReader, OpenReaders, MayLeave}
 use Rattle.engine_state.specs.declared.broken.Broken.{Broken}
 use Rattle.engine_state.specs.declared.engine.Engine.{Engine}
@@ -50,9 +50,9 @@ pub count_of : (e : Engine) (book : Book) → count (state_of e book) ≡ open_f
 count_of e book = ap (λ (d : Demand). d.used) (text_level_of book.number e.input.pending)
 
 -- neither of the first moves of a file's end is refused
-settled_goes : (sizes : Sizes) (why : Why) (m : Move) (at : State) → m ≡ Settled → Refuses sizes why m at → ⊥
+settled_goes : (sizes : Sizes) (why : Why) (m : Move) (at : State) → m ≡ ListsEnded → Refuses sizes why m at → ⊥
 settled_goes sizes why m at is h = goes why (subst (λ (x : Move). Refuses sizes why x at) is h) where
-  goes : (why : Why) → Refuses sizes why Settled at → ⊥
+  goes : (why : Why) → Refuses sizes why ListsEnded at → ⊥
   goes (IsFull full) k = absurd cc
   goes IsFault k = k
   goes IsWant k = k
@@ -192,13 +192,13 @@ module _ (rs : OpenReaders) (e e' : Engine) (bytes : List ℕ) (is : e.input.pen
       record { t = off.t; cut = off.cut; book' = book; frames = frames; same = same_moment why off.t (extended left h.at) (whole_state left e' book) off.same (whole_moment why left h.at (state_of e' book) h.same) }
 
 -- as many files are open then
-begun_count : (p : Pending) (end : ℤ) (o : Option (List ℕ)) → p.next ≡ o → IsSome o → open_files (with_end end (with_begun (settle p))) ≡ open_files p
+begun_count : (p : Pending) (end : ℤ) (o : Option (List ℕ)) → p.next ≡ o → IsSome o → open_files (with_end end (with_begun (end_token_lists p))) ≡ open_files p
 begun_count p end None is h = absurd (false≢true h)
 begun_count p end (Some bytes) is h =
-    subst (λ (o : Option (List ℕ)). open_files (with_end end (with_begun (settle (record p { next = o })))) ≡ open_files (record p { next = o })) (sym is)
-    (omega (arith, sum_by-cons (λ (x : Source). file_levels x.file) (source_of (settle (record p { next = Some bytes }))) p.outer))
+    subst (λ (o : Option (List ℕ)). open_files (with_end end (with_begun (end_token_lists (record p { next = o })))) ≡ open_files (record p { next = o })) (sym is)
+    (omega (arith, sum_by-cons (λ (x : Source). file_levels x.file) (source_of (end_token_lists (record p { next = Some bytes }))) p.outer))
 
-pub begun_tied : (rs : OpenReaders) (e e' : Engine) (end : ℤ) → IsSome e.input.pending.next → e'.input.pending ≡ with_end end (with_begun (settle e.input.pending)) → e'.input.sizes ≡ e.input.sizes → AreTied rs e → AreTied rs e'
+pub begun_tied : (rs : OpenReaders) (e e' : Engine) (end : ℤ) → IsSome e.input.pending.next → e'.input.pending ≡ with_end end (with_begun (end_token_lists e.input.pending)) → e'.input.sizes ≡ e.input.sizes → AreTied rs e → AreTied rs e'
 begun_tied rs e e' end opened is same tied = record {
   count = tied.count ∙ sym (begun_count e.input.pending end e.input.pending.next refl opened) ∙ ap open_files (sym is);
   room = subst (λ (x : Sizes). x.text_input_levels ≤ rs.most) (sym same) tied.room;

@@ -20,7 +20,7 @@ use Rattle.rows.specs.declared.command.Call.{Call}
 use Rattle.rows.specs.declared.command.Effect.TheVariants as effect
 use Rattle.rows.specs.Readings as reading
 use Rattle.plain_readings.specs.Readings.{Reading, ask}
-use Rattle.reading_frames.specs.Sees.{Lists, ask_of}
+use Rattle.reading_frames.specs.Views.{Lists, ask_of}
 use Rattle.reading_frames.specs.Stack.{asked_in, asked_of}
 use Rattle.reading_frames.specs.Stands as frames
 use Rattle.reading_frames.specs.declared.ask.Ask.{Ask}
@@ -315,7 +315,7 @@ module _ (e' e2 : Engine) (is : e2 ≡ record e' { input = record e'.input { pen
 
   pub next_stands : (sizes : Sizes) (book : Book) → AllStand sizes e' book → AllStand sizes e2 book
   next_stands sizes book h = subst (λ (x : Engine). AllStand sizes x book) (sym is)
-      (all_still sizes e' next_engine book (record { readings = refl; lists = refl; call = refl; calling = refl }) next_store (sound_still sizes e' next_engine book.number book.macros refl refl refl refl refl next_store h.sound) h.idle h)
+      (all_still sizes e' next_engine book (record { readings = refl; lists = refl; call = refl; calling = refl }) next_store (sound_still sizes e' next_engine book.number book.all_lists refl refl refl refl refl next_store h.sound) h.idle h)
 
   next_count : e'.input.pending.next ≡ None → open_files next_engine.input.pending ≡ suc (open_files e'.input.pending)
   next_count none = omega (arith, ap opened_files none)

@@ -14,7 +14,7 @@ use Rattle.plain_tokens.specs.Tables.{is_put, is_whole}
 use Rattle.equivalents.specs.Groups.{Groups}
 use Rattle.equivalents.specs.Holding.{lists_held, lists_outside}
 use Rattle.plain_readings.specs.Readings.{Reading}
-use Rattle.reading_frames.specs.Sees.{top_list, kept_list_of}
+use Rattle.reading_frames.specs.Views.{top_list, kept_list_of}
 use Rattle.reading_frames.specs.Stack.{Stack, innermost_count, lists_beneath}
 use Rattle.reading_frames.specs.Stands as frames
 use Rattle.reading_frames.specs.Stands.{AreShallow}
@@ -28,7 +28,7 @@ use Rattle.plain_machine.proofs.Doing.{did_one}
 use Rattle.plain_machine.proofs.Ties.{puts_renumbered}
 use Rattle.input_state.specs.HeldLists as held
 use Rattle.input_state.specs.Macros.{list_at, is_shared}
-use Rattle.input_state.specs.Stored.{Stored, KeepsMacros, gathered}
+use Rattle.input_state.specs.Stored.{Stored, KeepsShared, gathered}
 use Rattle.engine_state.specs.declared.broken.Broken.{Broken}
 use Rattle.engine_state.specs.declared.broken.Broken.TheVariants as broken
 use Rattle.engine_state.specs.declared.engine.Engine.{Engine}
@@ -65,31 +65,31 @@ nothing_more [] (suc n) (suc k) = nothing_more [] n k
 nothing_more (ts ∷ lists) n zero = refl
 nothing_more (ts ∷ lists) n (suc k) = nothing_more lists n k
 
-pub bodies_more : (macros : List (List Token)) (ts : List Token) → AreBodies macros → ts ≢ [] → AreBodies (macros ++ ts ∷ [])
+pub bodies_more : (all_lists : List (List Token)) (ts : List Token) → AreBodies all_lists → ts ≢ [] → AreBodies (all_lists ++ ts ∷ [])
 bodies_more [] ts h some = (some, tt)
-bodies_more (us ∷ macros) ts h some = (h.0, bodies_more macros ts h.1 some)
+bodies_more (us ∷ all_lists) ts h some = (h.0, bodies_more all_lists ts h.1 some)
 
 -- THE MACROS
 
-module _ (number : ℕ → ℕ) (macros : List (List Token)) (ts : List Token) where
+module _ (number : ℕ → ℕ) (all_lists : List (List Token)) (ts : List Token) where
   -- one that no name means
-  pub tied_more : (holders : List ℕ) (puts : List Put) (lists : List (List Token)) → Tied number macros holders puts lists → Tied number (macros ++ ts ∷ []) holders puts lists
+  pub tied_more : (holders : List ℕ) (puts : List Put) (lists : List (List Token)) → Tied number all_lists holders puts lists → Tied number (all_lists ++ ts ∷ []) holders puts lists
   tied_more holders puts lists t = record {
     inside = t.inside;
-    within = λ n h. omega (arith, t.within n h, length-append macros (ts ∷ []));
-    tokens = λ n h. get_or_append_left macros (ts ∷ []) [] (number n) (t.within n h) ∙ t.tokens n h;
+    within = λ n h. omega (arith, t.within n h, length-append all_lists (ts ∷ []));
+    tokens = λ n h. get_or_append_left all_lists (ts ∷ []) [] (number n) (t.within n h) ∙ t.tokens n h;
     apart = t.apart;
   }
 
   -- lists of which only those without tokens are too few
-  tied_fewer : (holders : List ℕ) (puts : List Put) (lists : List (List Token)) (n : ℕ) → AreBodies macros → Tied number macros holders puts (lists ++ replicate n []) → Tied number macros holders puts lists
+  tied_fewer : (holders : List ℕ) (puts : List Put) (lists : List (List Token)) (n : ℕ) → AreBodies all_lists → Tied number all_lists holders puts (lists ++ replicate n []) → Tied number all_lists holders puts lists
   tied_fewer holders puts lists n bodies t = record {
-    inside = λ k h. inside_by lists k (λ none. body_at macros (number k) bodies (t.within k h) (tokens k h ∙ none));
+    inside = λ k h. inside_by lists k (λ none. body_at all_lists (number k) bodies (t.within k h) (tokens k h ∙ none));
     within = t.within;
     tokens = tokens;
     apart = t.apart;
   } where
-    tokens : (k : ℕ) → IsHeld k holders puts → slice_index_or macros (number k) [] ≡ slice_index_or lists k []
+    tokens : (k : ℕ) → IsHeld k holders puts → slice_index_or all_lists (number k) [] ≡ slice_index_or lists k []
     tokens k h = t.tokens k h ∙ nothing_more lists n k
 
 -- WHAT IS PENDING keeps its numbers where one that it hasn't is another
@@ -117,7 +117,7 @@ module _ (number : ℕ → ℕ) (id new : ℕ) where
 
 -- what such a move makes
 abbrev pub Passes : Move → List Token → (given : Groups → ℕ → Groups) → Type 0
-Passes m ts given = (s : State) → made m s ≡ record s { groups = given s.groups (length s.macros); macros = s.macros ++ ts ∷ []; work = drop 1 s.work; gathered = beneath s.work s.gathered }
+Passes m ts given = (s : State) → made m s ≡ record s { groups = given s.groups (length s.all_lists); all_lists = s.all_lists ++ ts ∷ []; work = drop 1 s.work; gathered = beneath s.work s.gathered }
 
 -- a list of a new number gets the machine's
 abbrev pub Renumbers : (given : Groups → ℕ → Groups) → Type 0
@@ -125,9 +125,9 @@ Renumbers given = (number : ℕ → ℕ) (id new : ℕ) (g : Groups) → is_list
 
 -- and is tied to its tokens
 abbrev pub Ties : (given : Groups → ℕ → Groups) → Type 0
-Ties given = (number : ℕ → ℕ) (macros : List (List Token)) (g : Groups) (puts : List Put) (lists lists' : List (List Token)) (id : ℕ) (ts : List Token) → Tied number macros (lists_held g) puts lists → id < length lists' → length lists ≤ length lists' →
+Ties given = (number : ℕ → ℕ) (all_lists : List (List Token)) (g : Groups) (puts : List Put) (lists lists' : List (List Token)) (id : ℕ) (ts : List Token) → Tied number all_lists (lists_held g) puts lists → id < length lists' → length lists ≤ length lists' →
     slice_index_or lists' id [] ≡ ts → ((n : ℕ) → (n ≡ id → ⊥) → IsHeld n (lists_held (given g id)) puts → slice_index_or lists' n [] ≡ slice_index_or lists n []) →
-    Tied (renumbered number id (length macros)) (macros ++ ts ∷ []) (lists_held (given g id)) puts lists'
+    Tied (renumbered number id (length all_lists)) (all_lists ++ ts ∷ []) (lists_held (given g id)) puts lists'
 
 -- how many meanings there are stays
 abbrev pub KeepsNames : (given : Groups → ℕ → Groups) → Type 0
@@ -159,8 +159,8 @@ module _ (sizes : Sizes) (e : Engine) (book : Book) (w : World) (r : Reading) (r
       ap (λ (l : List (List Token)). beneath (r ∷ rs) l) (stands_gathered sizes e here st) ∙ (held_beneath e.readings.frames e.input.builds (r ∷ rs) st.readings.frames ∙ (own_beneath
       ∙ sym (gathered_is (after g lists).input st.uncalled.input)))
 
-  module _ (number : ℕ → ℕ) (g : Groups) (lists : List (List Token)) (same : length g.now.meanings ≡ length e.input.groups.now.meanings) (tied : Tied number (book.macros ++ ts ∷ []) (lists_held g) (all_puts e.input.pending) lists)
-      (same_pending : pending_of number e.input.pending ≡ pending_of book.number e.input.pending) (gives_it : groups_of number g ≡ given (groups_of book.number e.input.groups) (length book.macros)) where
+  module _ (number : ℕ → ℕ) (g : Groups) (lists : List (List Token)) (same : length g.now.meanings ≡ length e.input.groups.now.meanings) (tied : Tied number (book.all_lists ++ ts ∷ []) (lists_held g) (all_puts e.input.pending) lists)
+      (same_pending : pending_of number e.input.pending ≡ pending_of book.number e.input.pending) (gives_it : groups_of number g ≡ given (groups_of book.number e.input.groups) (length book.all_lists)) where
     abbrev then : Engine
     then = after g lists
 
@@ -181,7 +181,7 @@ module _ (sizes : Sizes) (e : Engine) (book : Book) (w : World) (r : Reading) (r
           located = same ∙ st.sound.sized.located;
         };
         tied = tied;
-        bodies = bodies_more book.macros ts st.sound.bodies some;
+        bodies = bodies_more book.all_lists ts st.sound.bodies some;
       };
       idle = st.idle;
       readings = record {
@@ -192,12 +192,12 @@ module _ (sizes : Sizes) (e : Engine) (book : Book) (w : World) (r : Reading) (r
     }
 
     abbrev given_state : Pending → Groups → List (List Token) → State
-    given_state p x l = record (state_of e here) { macros = book.macros ++ ts ∷ []; work = rs; pending = p; groups = x; gathered = l }
+    given_state p x l = record (state_of e here) { all_lists = book.all_lists ++ ts ∷ []; work = rs; pending = p; groups = x; gathered = l }
 
     list_state : made m (state_of e here) ≡ state_of then next
     list_state =
         passes (state_of e here)
-        ∙ (ap (λ (l : List (List Token)). given_state (pending_of book.number e.input.pending) (given (groups_of book.number e.input.groups) (length book.macros)) l) (under g lists)
+        ∙ (ap (λ (l : List (List Token)). given_state (pending_of book.number e.input.pending) (given (groups_of book.number e.input.groups) (length book.all_lists)) l) (under g lists)
         ∙ (ap (λ (x : Groups). given_state (pending_of book.number e.input.pending) x (gathered then.input)) (sym gives_it)
         ∙ ap (λ (p : Pending). given_state p (groups_of number g) (gathered then.input)) (sym same_pending)))
 
@@ -205,7 +205,7 @@ module _ (sizes : Sizes) (e : Engine) (book : Book) (w : World) (r : Reading) (r
     list_went = record { book' = next; stands = all_of sizes then next list_stands; did = did_one sizes m (state_of e here) (state_of then next) w w fits list_state (quiet_here m w quiet); count = silent }
 
   module _ (renumbers : Renumbers given) (ties : Ties given) (keeps : KeepsNames given) where
-    given_went : (g : Groups) (lists : List (List Token)) → IsGiven given e.input.groups g (all_puts e.input.pending) lists ts → KeepsMacros e.input (after g lists).input → Went sizes (state_of e here) (after g lists) w w (m ∷ []) 0
+    given_went : (g : Groups) (lists : List (List Token)) → IsGiven given e.input.groups g (all_puts e.input.pending) lists ts → KeepsShared e.input (after g lists).input → Went sizes (state_of e here) (after g lists) w w (m ∷ []) 0
     given_went g lists d kept =
         let puts = all_puts e.input.pending in
         let old = e.input.groups in
@@ -213,24 +213,24 @@ module _ (sizes : Sizes) (e : Engine) (book : Book) (w : World) (r : Reading) (r
         let apart : (is_listed (lists_held old) id ≡ false) × (is_put id puts ≡ false) = or_parts (is_listed (lists_held old) id) (is_put id puts) d.free in
         let count = length e.input.lists in
         let more : List (List Token) = lists ++ replicate count [] in
-        let number : ℕ → ℕ = renumbered book.number id (length book.macros) in
+        let number : ℕ → ℕ = renumbered book.number id (length book.all_lists) in
         let there : id < length lists = inside_by lists id (λ none. some (sym d.list ∙ none)) in
-        let tied : Tied number (book.macros ++ ts ∷ []) (lists_held (given old id)) puts more =
-        ties book.number book.macros old puts e.input.lists more id ts st.sound.tied
+        let tied : Tied number (book.all_lists ++ ts ∷ []) (lists_held (given old id)) puts more =
+        ties book.number book.all_lists old puts e.input.lists more id ts st.sound.tied
         (omega (arith, there, length-append lists (replicate count [])))
         (omega (arith, length-append lists (replicate count []), length-replicate {A = List Token} count []))
         (nothing_more lists count id ∙ d.list)
         (λ n other held. nothing_more lists count n ∙ kept.tokens n (subst (λ (x : Groups). IsHeld n (lists_held x) puts) (sym d.gives) held)) in
         list_went number g lists (ap (λ (x : Groups). length x.now.meanings) d.gives ∙ keeps old id)
-        (subst (λ (x : Groups). Tied number (book.macros ++ ts ∷ []) (lists_held x) puts lists) (sym d.gives) (tied_fewer number (book.macros ++ ts ∷ []) ts (lists_held (given old id)) puts lists count (bodies_more book.macros ts st.sound.bodies some) tied))
-        (pending_renumbered book.number id (length book.macros) e.input.pending apart.1)
-        (ap (groups_of number) d.gives ∙ renumbers book.number id (length book.macros) old apart.0 d.outside)
+        (subst (λ (x : Groups). Tied number (book.all_lists ++ ts ∷ []) (lists_held x) puts lists) (sym d.gives) (tied_fewer number (book.all_lists ++ ts ∷ []) ts (lists_held (given old id)) puts lists count (bodies_more book.all_lists ts st.sound.bodies some) tied))
+        (pending_renumbered book.number id (length book.all_lists) e.input.pending apart.1)
+        (ap (groups_of number) d.gives ∙ renumbers book.number id (length book.all_lists) old apart.0 d.outside)
 
     -- by what the input says
-    pub passed_went : (i : Stored) → i ≡ record e.input { builds = drop 1 e.input.builds; groups = i.groups; lists = i.lists } → IsGiven given e.input.groups i.groups (all_puts e.input.pending) i.lists ts → KeepsMacros e.input i →
+    pub passed_went : (i : Stored) → i ≡ record e.input { builds = drop 1 e.input.builds; groups = i.groups; lists = i.lists } → IsGiven given e.input.groups i.groups (all_puts e.input.pending) i.lists ts → KeepsShared e.input i →
         Went sizes (state_of e here) (record e { readings = stack; input = i }) w w (m ∷ []) 0
     passed_went i is d kept =
-        subst (λ (x : Stored). Went sizes (state_of e here) (record e { readings = stack; input = x }) w w (m ∷ []) 0) (sym is) (given_went i.groups i.lists d (subst (KeepsMacros e.input) is kept))
+        subst (λ (x : Stored). Went sizes (state_of e here) (record e { readings = stack; input = x }) w w (m ∷ []) 0) (sym is) (given_went i.groups i.lists d (subst (KeepsShared e.input) is kept))
 
 -- THE SAVE STACK IS FULL: nothing has changed
 pub unpassed_cut : (sizes : Sizes) (e : Engine) (book : Book) (w : World) (i : Stored) (m : Move) (full : Full) → i ≡ e.input → refusal sizes m (state_of e book) ≡ Some full → Stands sizes e book →
@@ -272,7 +272,7 @@ module _ (sizes : Sizes) (s : State) (e e1 e2 : Engine) (w : World) (moves : Lis
     behind_went others store idle did =
         went_on sizes s (state_of e1 went.book') e2 w w w moves (behind_assignment e.after) 0 0 went.did went.count (record {
           book' = went.book';
-          stands = all_still sizes e1 e2 went.book' same store (sound_still sizes e1 e2 went.book'.number went.book'.macros others.sizes others.depth others.conditionals others.names others.reports store standing.sound) idle went.stands;
+          stands = all_still sizes e1 e2 went.book' same store (sound_still sizes e1 e2 went.book'.number went.book'.all_lists others.sizes others.depth others.conditionals others.names others.reports store standing.sound) idle went.stands;
           did = subst (λ (o : Option Token). Did sizes (state_of e1 went.book') (state_of e2 went.book') w w (behind_assignment o)) after (did sizes w went.book' (counts_of sizes e1 went.book' standing));
           count = behind_silent e.after;
         })

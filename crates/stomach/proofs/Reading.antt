@@ -1,7 +1,7 @@
 -- Files that are read on, opened and closed, one piece behind another.
 use Rattle.std.proofs.Common.{◌≡◌, ◌≤◌, ℕ, List, [], ◌∷◌, refl, ◌∙◌, subst, arith}
 use Rattle.tex_defs.specs.Places.{File}
-use Rattle.world_io.specs.Told.{FilesTold}
+use Rattle.world_io.specs.Contents.{FilesTold}
 use Rattle.line_reader.specs.Readers.{OpenReader, AreOpen, MayLeave, KnowEnds, LeftBefore, MightLeave}
 use Rattle.plain_machine.specs.States.{no_files}
 use Rattle.plain_machine.specs.Extended.{Rests}

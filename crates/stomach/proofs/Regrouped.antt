@@ -9,7 +9,7 @@ use Rattle.plain_machine.specs.States.{Move, made}
 use Rattle.plain_machine.specs.Demands.{refusal}
 use Rattle.plain_machine.specs.Does.{Did}
 use Rattle.plain_machine.specs.Numbers.{groups_of}
-use Rattle.input_state.specs.Stored.{Stored, KeepsMacros}
+use Rattle.input_state.specs.Stored.{Stored, KeepsShared}
 use Rattle.engine_state.specs.declared.engine.Engine.{Engine}
 use Rattle.engine_state.specs.Book.{Book}
 use Rattle.engine_state.specs.Stands.{Stands, state_of}
@@ -23,6 +23,6 @@ module _ (e : Engine) (g : Groups) (i : Stored) (is : i ≡ record e.input { gro
   regrouped_did = grouped_did e g e.input.closing e.input.ending i.lists i is
 
   -- no list more is held
-  pub regrouped_stands : length g.now.meanings ≡ length e.input.groups.now.meanings → ((n : ℕ) → is_listed (lists_held g) n ≡ true → is_listed (lists_held e.input.groups) n ≡ true) → KeepsMacros e.input i →
+  pub regrouped_stands : length g.now.meanings ≡ length e.input.groups.now.meanings → ((n : ℕ) → is_listed (lists_held g) n ≡ true → is_listed (lists_held e.input.groups) n ≡ true) → KeepsShared e.input i →
       (sizes : Sizes) (book : Book) → Stands sizes e book → Stands sizes (record e { input = i }) book
   regrouped_stands = grouped_stands e g e.input.closing e.input.ending i.lists i is

@@ -6,12 +6,12 @@ use Rattle.tex_syntax.specs.declared.words.Outcome.{Outcome}
 use Rattle.tex_defs.specs.declared.Sizes.{Sizes}
 use Rattle.world_io.specs.declared.traits.Fault.{Fault}
 use Rattle.world_io.specs.declared.traits.Fault.TheVariants.{Failed}
-use Rattle.world_io.specs.Told.{FilesTold, SinkTold, world}
+use Rattle.world_io.specs.Contents.{FilesTold, SinkTold, world}
 use Rattle.plain_machine.specs.Runs.{steps}
 use Rattle.plain_machine.specs.Extended.{Rests, closes, rests_before}
 use Rattle.plain_machine.proofs.Joins.{StepComes}
-use Rattle.input_state.specs.Stored.{Stored, KeepsMacros}
-use Rattle.plain_tokens.specs.Pending.{pulled, settle}
+use Rattle.input_state.specs.Stored.{Stored, KeepsShared}
+use Rattle.plain_tokens.specs.Pending.{pulled, end_token_lists}
 use Rattle.input_state.specs.Reads.{gives_step}
 use Rattle.line_reader.specs.Readers.{OpenReader, OpenReaders, MayLeave}
 use Rattle.engine_state.specs.declared.engine.Engine.{Engine}
@@ -197,7 +197,7 @@ module _ (sizes : Sizes) (e : Engine) (left : Rests) (rs : List OpenReader) (kno
   step_comes waits = step_at e.input.pending.next refl waits
 
 pub came_steps : (rs0 rs : OpenReaders) (e0 e : Engine) (s0 s : SinkTold) (k : ℕ) → (AreTied rs e → Knows e rs.readers) → (all left : Rests) → MayLeave rs.readers left.left → CameTo rs0 e0 s0 rs e s k all left →
-    (i : Stored) → i ≡ record e.input { pending = settle e.input.pending; lists = i.lists } → KeepsMacros e.input i → needs_step e ≡ true → RanTo rs0 e0 s0 (record e { input = i }) s k ended.Steps all left
+    (i : Stored) → i ≡ record e.input { pending = end_token_lists e.input.pending; lists = i.lists } → KeepsShared e.input i → needs_step e ≡ true → RanTo rs0 e0 s0 (record e { input = i }) s k ended.Steps all left
 came_steps rs0 rs e0 e s0 s k knows all left may came i is kept waits sizes f book stands tied =
     let on = came sizes f book stands tied in
     came_whole sizes e left i is kept (whole_state all e0 book) (world_of f s0 e0) (world_of f s e) k on.came (λ w h. step_comes sizes e left rs.readers (knows on.tied) may w h waits)

@@ -10,14 +10,14 @@ use Rattle.rows.specs.declared.command.Effect.TheVariants as effect
 use Rattle.rows.specs.Readings as reading
 use Rattle.tex_defs.specs.declared.Token.{Token}
 use Rattle.plain_readings.specs.Readings.{Reading, ask}
-use Rattle.reading_frames.specs.Sees.{Lists, ask_of, kept_list_of}
+use Rattle.reading_frames.specs.Views.{Lists, ask_of, kept_list_of}
 use Rattle.reading_frames.specs.Stack.{asked_in, asked_of, asks_in}
 use Rattle.reading_frames.specs.Stands as frames
 use Rattle.reading_frames.specs.declared.ask.Ask.{Ask}
 use Rattle.plain_machine.specs.States.{Move, Files}
 use Rattle.plain_machine.specs.Plan.{Page, acts_in, acts_on, answered}
 use Rattle.plain_machine.specs.Extended.{starts}
-use Rattle.world_io.specs.Told.{FilesTold, SinkTold}
+use Rattle.world_io.specs.Contents.{FilesTold, SinkTold}
 use Rattle.input_state.specs.Reads.{gives_step}
 use Rattle.engine_state.specs.declared.call.Call.{Call}
 use Rattle.engine_state.specs.declared.engine.Engine.{Engine}

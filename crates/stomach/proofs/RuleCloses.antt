@@ -25,7 +25,7 @@ use Rattle.plain_machine.specs.Runs.{steps}
 use Rattle.plain_machine.specs.Does.{Did}
 use Rattle.plain_machine.proofs.Doing.{did_join, did_none, did_one}
 use Rattle.plain_machine.proofs.Joins.{steps_join}
-use Rattle.world_io.specs.Told.{FilesTold, SinkTold, world}
+use Rattle.world_io.specs.Contents.{FilesTold, SinkTold, world}
 use Rattle.engine_state.specs.declared.engine.Engine.{Engine}
 use Rattle.engine_state.specs.Book.{Book, with_work}
 use Rattle.engine_state.specs.Rules.{world_of, Halts, ReportsAs, Went}
@@ -79,7 +79,7 @@ column_did sizes s t n f told b moves is h = subst (λ (x : Bool). Did sizes s t
 
 pub column_stands : (sizes : Sizes) (e e1 : Engine) (book : Book) → OnlyColumn e e1 → Stands sizes e book → Stands sizes e1 book
 column_stands sizes e e1 book only st =
-    stands_still sizes e e1 book (only_frames e e1 only) (column_sound sizes e e1 book.number book.macros only st.sound) (ap (λ (x : Engine). x.input.making) only.same ∙ st.idle) st
+    stands_still sizes e e1 book (only_frames e e1 only) (column_sound sizes e e1 book.number book.all_lists only st.sound) (ap (λ (x : Engine). x.input.making) only.same ∙ st.idle) st
 
 -- BEHIND A REPORT
 

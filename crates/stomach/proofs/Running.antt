@@ -6,8 +6,8 @@ use Rattle.tex_syntax.specs.declared.words.Outcome.TheVariants.{Finished, AtFata
 use Rattle.tex_defs.specs.Places.{World}
 use Rattle.tex_defs.specs.declared.Sizes.{Sizes}
 use Rattle.plain_tokens.specs.Lines.{first_line}
-use Rattle.plain_tokens.specs.Pending.{Pending, settle}
-use Rattle.plain_machine.specs.States.{State, Move, Settled, FirstTaken}
+use Rattle.plain_tokens.specs.Pending.{Pending, end_token_lists}
+use Rattle.plain_machine.specs.States.{State, Move, ListsEnded, FirstTaken}
 use Rattle.plain_machine.specs.Plan.{plan, planned, ruled}
 use Rattle.plain_machine.specs.Runs.{steps}
 use Rattle.plain_machine.specs.Extended.{Rests, Reads, extended, next_extended, first_left, rests_before, closes}
@@ -18,7 +18,7 @@ use Rattle.plain_machine.proofs.Joins.{fits_join, steps_join, stopped_ends, Step
 use Rattle.plain_machine.proofs.Renumbering.{settle_of}
 use Rattle.plain_machine.proofs.Extending.{extended_did, extended_steps, extended_cut, extended_comes, unread_did, unread_steps, unread_cut}
 use Rattle.plain_machine.proofs.Pulls.{pulls}
-use Rattle.input_state.specs.Stored.{Stored, KeepsMacros}
+use Rattle.input_state.specs.Stored.{Stored, KeepsShared}
 use Rattle.engine_state.specs.declared.engine.Engine.{Engine}
 use Rattle.engine_state.specs.declared.outcome.Ruled.{Ruled}
 use Rattle.engine_state.specs.declared.outcome.Ruled.TheVariants as ruled
@@ -230,7 +230,7 @@ stops_whole sizes s e' left w w' k n o le h = record {
 }
 
 -- where the finished lists in front have gone
-module _ (sizes : Sizes) (e : Engine) (left : Rests) (i : Stored) (is : i ≡ record e.input { pending = settle e.input.pending; lists = i.lists }) (kept : KeepsMacros e.input i) where
+module _ (sizes : Sizes) (e : Engine) (left : Rests) (i : Stored) (is : i ≡ record e.input { pending = end_token_lists e.input.pending; lists = i.lists }) (kept : KeepsShared e.input i) where
   abbrev settled_engine : Engine
   settled_engine = record e { input = i }
 
@@ -239,9 +239,9 @@ module _ (sizes : Sizes) (e : Engine) (left : Rests) (i : Stored) (is : i ≡ re
 
   settled_stands : (book : Book) → AllStand sizes e book → AllStand sizes settled_engine book
   settled_stands book h = all_still sizes e settled_engine book settled_frames (store_settled e.input i is kept)
-      (sound_still sizes e settled_engine book.number book.macros refl refl refl refl refl (store_settled e.input i is kept) h.sound) (ap (λ (x : Stored). x.making) is ∙ h.idle) h
+      (sound_still sizes e settled_engine book.number book.all_lists refl refl refl refl refl (store_settled e.input i is kept) h.sound) (ap (λ (x : Stored). x.making) is ∙ h.idle) h
 
-  settled_same : (book : Book) → record (state_of e book) { pending = settle (state_of e book).pending } ≡ state_of settled_engine book
+  settled_same : (book : Book) → record (state_of e book) { pending = end_token_lists (state_of e book).pending } ≡ state_of settled_engine book
   settled_same book = ap (λ (p : Pending). record (state_of e book) { pending = p }) (settle_of book.number e.input.pending) ∙ ap (λ (x : Stored). state_of (record e { input = x }) book) (sym is)
 
   settled_at : (book : Book) (c : StepComes sizes (whole_state left e book)) → AllStand sizes e book → IsAt sizes settled_engine left c.t
@@ -256,7 +256,7 @@ module _ (sizes : Sizes) (e : Engine) (left : Rests) (i : Stored) (is : i ≡ re
   came_whole s w w' n came needs =
       let c : StepComes sizes (whole_state left e came.book') = needs came.book' came.stands in
       record {
-        ms = came.ms ++ Settled ∷ [];
+        ms = came.ms ++ ListsEnded ∷ [];
         t = c.t;
         run = steps_end sizes s (whole_state left e came.book') n came.ms came.moves came.count c;
         ends = settled_at came.book' c came.stands;

@@ -5,7 +5,7 @@ use Rattle.tex_defs.specs.declared.Sizes.{Sizes}
 use Rattle.tex_defs.specs.Places.{World}
 use Rattle.plain_readings.specs.Readings.{Reading}
 use Rattle.plain_machine.specs.States.{State}
-use Rattle.world_io.specs.Told.{SinkTold}
+use Rattle.world_io.specs.Contents.{SinkTold}
 use Rattle.engine_state.specs.declared.call.Call.{Call}
 use Rattle.engine_state.specs.declared.engine.Engine.{Engine}
 use Rattle.engine_state.specs.Calls.{FramesOf}

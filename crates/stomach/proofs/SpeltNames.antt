@@ -15,7 +15,7 @@ use Rattle.plain_tokens.specs.Names.{relax_primitive}
 use Rattle.plain_tokens.specs.Tables.{Demand, spelt_name, refused}
 use Rattle.plain_tokens.specs.Tokens.{character_codes, is_undefined}
 use Rattle.input_state.specs.HeldLists.{first_list}
-use Rattle.reading_frames.specs.Sees.{kept_list_of}
+use Rattle.reading_frames.specs.Views.{kept_list_of}
 use Rattle.plain_machine.specs.States.{State, Move, Assigned, Spelt}
 use Rattle.plain_machine.specs.Demands.{refusal}
 use Rattle.plain_machine.specs.Numbers.{meanings_of}
@@ -67,7 +67,7 @@ module _ (sizes : Sizes) (e e1 : Engine) (book : Book) (only : OnlySpelt e e1) w
   pub spelt_page : page_of e1 book ≡ page_of e book
   spelt_page = ap (λ (x : Engine). page_of x book) only
 
-  still_sound : (b : List ℕ) → IsSound sizes e book.number book.macros → IsSound sizes (record e { input = record e.input { buffer = b } }) book.number book.macros
+  still_sound : (b : List ℕ) → IsSound sizes e book.number book.all_lists → IsSound sizes (record e { input = record e.input { buffer = b } }) book.number book.all_lists
   still_sound b h = record {
     sized = record {
       few_reports = h.sized.few_reports;
@@ -86,9 +86,9 @@ module _ (sizes : Sizes) (e e1 : Engine) (book : Book) (only : OnlySpelt e e1) w
   pub spelt_stands : Stands sizes e book → Stands sizes e1 book
   spelt_stands st =
       stands_still sizes e e1 book (spelt_frames e e1 only)
-      (subst (λ (x : Engine). IsSound sizes x book.number book.macros) (sym only) (still_sound e1.input.buffer st.sound)) (ap (λ (x : Engine). x.input.making) only ∙ st.idle) st
+      (subst (λ (x : Engine). IsSound sizes x book.number book.all_lists) (sym only) (still_sound e1.input.buffer st.sound)) (ap (λ (x : Engine). x.input.making) only ∙ st.idle) st
 
-  module _ (name : List ℕ) (w : World) (sound : IsSound sizes e book.number book.macros) where
+  module _ (name : List ℕ) (w : World) (sound : IsSound sizes e book.number book.all_lists) where
     as_refused : (o : Option Full) → refused e.input.sizes (spelt_name name e.input.pending ∷ []) ≡ o → refusal sizes (Spelt name) (state_of e book) ≡ o
     as_refused o h =
         ap (λ (d : Demand). refused sizes (d ∷ [])) (spelt_name_of book.number name e.input.pending)

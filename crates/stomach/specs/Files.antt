@@ -4,7 +4,7 @@ use Rattle.tex_defs.specs.Places.{World}
 use Rattle.tex_defs.specs.declared.Sizes.{Sizes}
 use Rattle.plain_tokens.specs.Tables.{open_lines}
 use Rattle.line_reader.specs.Readers.{told_left}
-use Rattle.plain_machine.specs.States.{State, Move, Closed, Settled, Spelt, NameInProgress}
+use Rattle.plain_machine.specs.States.{State, Move, Closed, ListsEnded, Spelt, NameInProgress}
 use Rattle.plain_machine.specs.Plan.{Page, given_back}
 use Rattle.plain_machine.specs.Does.{Did}
 use Rattle.plain_machine.specs.Extended.{Rests}
@@ -15,7 +15,7 @@ use Rattle.engine_state.specs.Stands.{Stands, state_of}
 
 -- the moves before a file of this name is looked for
 abbrev pub input_front : Page → (give_back : Bool) → (name : List ℕ) → List Move
-input_front page back name = given_back back page.last ++ (Spelt name ∷ Closed ∷ NameInProgress false ∷ Settled ∷ [])
+input_front page back name = given_back back page.last ++ (Spelt name ∷ Closed ∷ NameInProgress false ∷ ListsEnded ∷ [])
 
 -- These moves are made, and this name is spelt in the buffer, with so many bytes.
 pub record Sought (sizes : Sizes) (s : State) (e' : Engine) (book : Book) (w : World) (front : List Move) (name : List ℕ) (n : ℕ) : Type 0 where

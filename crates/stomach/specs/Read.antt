@@ -1,6 +1,6 @@
 -- What comes in of the files while they are run.
 use Rattle.std.specs.Prelude.{◌≡◌, ℕ, ◌≤◌, List, length}
-use Rattle.world_io.specs.Told.{FilesTold}
+use Rattle.world_io.specs.Contents.{FilesTold}
 use Rattle.line_reader.specs.Readers.{OpenReader, OpenReaders, AreOpen, KnowEnds, AreLeft, MayLeave}
 use Rattle.plain_tokens.specs.Tables.{open_files}
 use Rattle.plain_machine.specs.Extended.{Rests}

@@ -11,7 +11,7 @@ ghost use Rattle.reading_frames.specs.Weights.{frames_weight, innermost_weight, 
 ghost use Rattle.plain_machine.specs.States.{Move};
 ghost use Rattle.plain_machine.specs.Plan.{acts, ended_by, passed, reached};
 ghost use Rattle.plain_machine.specs.Does.{Did};
-ghost use Rattle.world_io.specs.Told.{FilesTold};
+ghost use Rattle.world_io.specs.Contents.{FilesTold};
 ghost use Rattle.engine_state.specs.Book.{Book};
 ghost use Rattle.engine_state.specs.Clauses.{Still, EndsAtHundredth, CutsReport, GoesAtReading, CutsAtReading, GoesOnward, CutsOnward};
 ghost use Rattle.engine_state.specs.Stands.{Stands, SameFrames, state_of, page_of};

@@ -4,7 +4,7 @@ ghost use Rattle.tex_defs.specs.Places.{World};
 ghost use Rattle.tex_defs.specs.declared.Sizes.{Sizes};
 ghost use Rattle.plain_readings.specs.Readings.{Reading};
 ghost use Rattle.rows.specs.Readings.{Defines};
-ghost use Rattle.reading_frames.specs.Sees.{top_list, kept_list_of};
+ghost use Rattle.reading_frames.specs.Views.{top_list, kept_list_of};
 ghost use Rattle.reading_frames.specs.Stack.{asks_in, innermost_count};
 ghost use Rattle.plain_machine.specs.States.{Defined};
 ghost use Rattle.plain_machine.specs.Plan.{is_global as plain_global, macro_defined};
@@ -32,7 +32,7 @@ pub(crate) fn has_token(engine: &Engine, listed: bool) -> bool
 ///
 /// # Errors
 /// The save stack is full; nothing has changed.
-fn pass_list(engine: &mut Engine, call: Call, name: Name) -> Result<(), Full>
+fn assign_macro(engine: &mut Engine, call: Call, name: Name) -> Result<(), Full>
     requires some { engine.old.input.builds ≢ [] }
     requires token { top_list engine.old.input.builds ≢ [] }
     ensures rule { OnOk result ((sizes : Sizes) (w : World) (book : Book) (r : Reading) (rs : List Reading) → Stands sizes engine.old (with_work (r ∷ rs) book) → innermost_count engine.old.readings.frames ≡ 1 →
@@ -75,7 +75,7 @@ pub(crate) fn define(
     ensures idle { OnOk result (engine.new.input.making ≡ None) }
 {
     if has_token(engine, listed) {
-        pass_list(engine, call, name)?;
+        assign_macro(engine, call, name)?;
         engine.put_after()
     } else {
         engine.close_reading();

@@ -16,7 +16,7 @@ ghost use Rattle.reading_frames.specs.Weights.{IsEnd};
 ghost use Rattle.plain_machine.specs.States.{Move, Set, Assigned};
 ghost use Rattle.plain_machine.specs.Plan.{acts, acts_above, computed_to, is_global as plain_global, marked as plain_marked, put_one, short_meaning as plain_short, standing_shown};
 ghost use Rattle.plain_machine.specs.Does.{Did};
-ghost use Rattle.world_io.specs.Told.{FilesTold};
+ghost use Rattle.world_io.specs.Contents.{FilesTold};
 ghost use Rattle.engine_state.specs.Book.{Book, with_work};
 ghost use Rattle.engine_state.specs.Clauses.{Still, MakesMoves, CutsMoves};
 ghost use Rattle.engine_state.specs.Making.{IsInFront};
@@ -24,7 +24,7 @@ ghost use Rattle.engine_state.specs.CutReadings.{CutsIn};
 ghost use Rattle.engine_state.specs.Stands.{Stands, Counts, IsSound, SameFrames, state_of, page_of};
 ghost use Rattle.engine_state.specs.Rules.{world_of, Cuts, Went};
 ghost use Rattle.engine_state.specs.Steps.{asked, pending_weight, freed, weight, IsFree, IsStep};
-ghost use Rattle.rows.specs.Suiting.{IsVariable, IsSmall, IsThere};
+ghost use Rattle.rows.specs.Suiting.{IsVariable, IsSuited, IsThere};
 ghost use Rattle.stomach.specs.Effects.{put_by, done_alone, assignment_of, IsAlone};
 ghost use Rattle.stomach.specs.Halting.{DoesRuleIn, DoesRuleAtReading, CutsRuleAtReading};
 
@@ -67,7 +67,7 @@ fn put_value(engine: &mut Engine, loc: Loc) -> Result<(), Broken>
 /// Puts in front what a command gives back or makes.
 fn put_effect(engine: &mut Engine, effect: Effect) -> Result<(), Broken>
     requires idle { engine.old.input.making ≡ None }
-    ensures did { OnOk result (IsSmall effect → MakesMoves Counts engine.old engine.new (λ page. put_by page effect)) }
+    ensures did { OnOk result (IsSuited effect → MakesMoves Counts engine.old engine.new (λ page. put_by page effect)) }
     ensures err { IfErr result (λ b. CutsMoves Counts engine.old engine.new (λ page. put_by page effect) b) }
     ensures front { IsInFront engine.old engine.new }
     ensures idle { OnOk result (engine.new.input.making ≡ None) }
@@ -253,9 +253,9 @@ fn set_glue(engine: &mut Engine, loc: Loc, glue: Glue, global: bool) -> Result<(
 /// # Errors
 /// A write failed or wanted memory: a front of the text was written.
 fn show_value<S: Sink>(engine: &mut Engine, out: &mut S, loc: Loc) -> Result<(), Broken>
-    ensures did { OnOk result (IsThere loc → (sizes : Sizes) (f : FilesTold) (book : Book) → IsSound sizes engine.old book.number book.macros →
+    ensures did { OnOk result (IsThere loc → (sizes : Sizes) (f : FilesTold) (book : Book) → IsSound sizes engine.old book.number book.all_lists →
         Did sizes (state_of engine.old book) (state_of engine.new book) (world_of f (S.told out.old) engine.old) (world_of f (S.told out.new) engine.new) (standing_shown (page_of engine.old book) loc)) }
-    ensures err { IfErr result (λ b. (sizes : Sizes) (f : FilesTold) (book : Book) (more : List Move) → IsSound sizes engine.old book.number book.macros →
+    ensures err { IfErr result (λ b. (sizes : Sizes) (f : FilesTold) (book : Book) (more : List Move) → IsSound sizes engine.old book.number book.all_lists →
         Cuts sizes (state_of engine.old book) engine.new book (world_of f (S.told out.old) engine.old) (world_of f (S.told out.new) engine.new) (standing_shown (page_of engine.old book) loc ++ more) b) }
     ensures only { engine.new ≡ record engine.old { in_line = engine.new.in_line; flawed = engine.new.flawed } }
     ensures frames { SameFrames engine.old engine.new }
@@ -299,9 +299,9 @@ fn act_alone<S: Sink>(
     effect: Effect,
 ) -> Result<(), Broken>
     requires idle { engine.old.input.making ≡ None }
-    ensures did { OnOk result (IsSmall effect → (sizes : Sizes) (f : FilesTold) (book : Book) → Stands sizes engine.old book →
+    ensures did { OnOk result (IsSuited effect → (sizes : Sizes) (f : FilesTold) (book : Book) → Stands sizes engine.old book →
         Did sizes (state_of engine.old book) (state_of engine.new book) (world_of f (S.told out.old) engine.old) (world_of f (S.told out.new) engine.new) (done_alone (page_of engine.old book) call effect)) }
-    ensures err { IfErr result (λ b. IsSmall effect → (sizes : Sizes) (f : FilesTold) (book : Book) (more : List Move) → Stands sizes engine.old book →
+    ensures err { IfErr result (λ b. IsSuited effect → (sizes : Sizes) (f : FilesTold) (book : Book) (more : List Move) → Stands sizes engine.old book →
         Cuts sizes (state_of engine.old book) engine.new book (world_of f (S.told out.old) engine.old) (world_of f (S.told out.new) engine.new) (done_alone (page_of engine.old book) call effect ++ more) b) }
     ensures stands { OnOk result (Still Stands engine.old engine.new) }
     ensures frames { SameFrames engine.old engine.new }
@@ -431,9 +431,9 @@ fn end_alone<S: Sink>(
 ) -> Result<(), Broken>
     requires idle { engine.old.input.making ≡ None }
     requires uncalled { engine.old.call ≡ None }
-    ensures rule { OnOk result (IsAlone effect → IsSmall effect → (sizes : Sizes) (f : FilesTold) (book : Book) (r : Reading) (rs : List Reading) → Stands sizes engine.old (with_work (r ∷ rs) book) →
+    ensures rule { OnOk result (IsAlone effect → IsSuited effect → (sizes : Sizes) (f : FilesTold) (book : Book) (r : Reading) (rs : List Reading) → Stands sizes engine.old (with_work (r ∷ rs) book) →
         Went sizes (state_of engine.old (with_work (r ∷ rs) book)) engine.new (world_of f (S.told out.old) engine.old) (world_of f (S.told out.new) engine.new) (acts (page_of engine.old book) call effect) 0) }
-    ensures err { IfErr result (λ b. IsAlone effect → IsSmall effect → CutsRuleAtReading engine.old engine.new (S.told out.old) (S.told out.new) (λ page _. acts page call effect) b) }
+    ensures err { IfErr result (λ b. IsAlone effect → IsSuited effect → CutsRuleAtReading engine.old engine.new (S.told out.old) (S.told out.new) (λ page _. acts page call effect) b) }
     ensures light { OnOk result ((a : Ask) → asks_in engine.old.readings.frames [] ≡ Some a → IsEnd a → weight engine.new < weight engine.old) }
     ensures idle { OnOk result (engine.new.input.making ≡ None) }
 {

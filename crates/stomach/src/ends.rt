@@ -202,7 +202,7 @@ fn set_magnification(engine: &mut Engine, mag: u16) -> Result<(), Broken>
 ///
 /// # Errors
 /// There is no room for what the note brings: the engine stands for the moment before.
-fn go_on(engine: &mut Engine) -> Result<(), Broken>
+fn proceed(engine: &mut Engine) -> Result<(), Broken>
     requires uncalled { engine.old.call ≡ None }
     ensures rule { OnOk result (GoesAtReading engine.old engine.new (λ _ r. noting r)) }
     ensures err { IfErr result (λ b. CutsAtReading engine.old engine.new (λ _ r. noting r) b) }
@@ -238,7 +238,7 @@ pub(crate) fn magnify<S: Sink>(engine: &mut Engine, out: &mut S) -> Result<Ruled
         return correct_magnification(engine, out, Report::IllegalMagnification(n), TRUE_SIZE);
     }
     if n == i32::from(mag_set) {
-        go_on(engine)?;
+        proceed(engine)?;
         return Ok(Ruled::Free);
     }
     correct_magnification(

@@ -10,13 +10,13 @@ ghost use Rattle.plain_tokens.specs.Tables.{open_lines, open_files};
 ghost use Rattle.plain_tokens.specs.Tokens.{character_codes};
 ghost use Rattle.command_words.specs.Words.{file_name};
 ghost use Rattle.plain_readings.specs.Readings.{Reading};
-ghost use Rattle.reading_frames.specs.Sees.{kept_list_of};
+ghost use Rattle.reading_frames.specs.Views.{kept_list_of};
 ghost use Rattle.plain_machine.specs.States.{Move, Spelt};
-ghost use Rattle.world_io.specs.Told.{FilesTold};
+ghost use Rattle.world_io.specs.Contents.{FilesTold};
 ghost use Rattle.world_io.specs.declared.traits.Fault.TheVariants.{Failed, NoMemory};
 ghost use Rattle.input_state.specs.Stored.{spelt as spelt_in};
 ghost use Rattle.engine_state.specs.Book.{Book, with_work};
-ghost use Rattle.engine_state.specs.Clauses.{HoldsMacros, MakesMoves, CutsMoves};
+ghost use Rattle.engine_state.specs.Clauses.{HoldsLists, MakesMoves, CutsMoves};
 ghost use Rattle.engine_state.specs.CutReadings.{CutsIn};
 ghost use Rattle.engine_state.specs.Stands.{Stands, state_of, page_of};
 ghost use Rattle.engine_state.specs.Steps.{all_start, asked, weight, IsStep, IsFree};
@@ -43,8 +43,8 @@ use world_io::{Files, Sink};
 /// # Errors
 /// There is no room for it; nothing but the bytes behind the open lines has changed.
 fn spell_file(engine: &mut Engine, listed: bool) -> Result<usize, Broken>
-    ensures did { OnOk result (MakesMoves HoldsMacros engine.old engine.new (λ _. Spelt (file_name (character_codes (kept_list_of listed engine.old.input.builds))) ∷ [])) }
-    ensures err { IfErr result (λ b. CutsMoves HoldsMacros engine.old engine.new (λ _. Spelt (file_name (character_codes (kept_list_of listed engine.old.input.builds))) ∷ []) b) }
+    ensures did { OnOk result (MakesMoves HoldsLists engine.old engine.new (λ _. Spelt (file_name (character_codes (kept_list_of listed engine.old.input.builds))) ∷ [])) }
+    ensures err { IfErr result (λ b. CutsMoves HoldsLists engine.old engine.new (λ _. Spelt (file_name (character_codes (kept_list_of listed engine.old.input.builds))) ∷ []) b) }
     ensures name { IfOk result (λ n. spelt_in engine.new.input n ≡ file_name (character_codes (kept_list_of listed engine.old.input.builds))) }
     ensures room { IfOk result (λ n. open_lines engine.old.input.pending + n ≤ engine.old.input.sizes.buffer_size) }
     ensures only { OnlySpelt engine.old engine.new }
@@ -78,7 +78,7 @@ fn seek(engine: &mut Engine, back: bool, listed: bool) -> Result<usize, Broken>
     let count = spell_file(engine, listed)?;
     engine.close_reading();
     engine.naming = false;
-    engine.input.settle();
+    engine.input.end_token_lists();
     Ok(count)
 }
 

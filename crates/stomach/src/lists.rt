@@ -8,7 +8,7 @@ ghost use Rattle.plain_readings.specs.Readings.{Reading};
 ghost use Rattle.rows.specs.Internal.{IsFetchable, is_list};
 ghost use Rattle.rows.specs.Readings.{Ask, ActsOn};
 ghost use Rattle.rows.specs.declared.command.Effect.TheVariants as effects;
-ghost use Rattle.reading_frames.specs.Sees.{top_list, kept_list_of};
+ghost use Rattle.reading_frames.specs.Views.{top_list, kept_list_of};
 ghost use Rattle.reading_frames.specs.Stack.{asks_in, innermost_count};
 ghost use Rattle.reading_frames.specs.Weights.{IsEnd};
 ghost use Rattle.plain_machine.specs.States.{Closed, ListSet, Set};
@@ -93,7 +93,7 @@ pub(crate) fn give_list(engine: &mut Engine, loc: Loc) -> Result<(), Broken>
 ///
 /// # Errors
 /// The save stack is full; nothing has changed.
-fn pass_list(engine: &mut Engine, call: Call, loc: Loc) -> Result<(), Full>
+fn assign_list(engine: &mut Engine, call: Call, loc: Loc) -> Result<(), Full>
     requires some { engine.old.input.builds ≢ [] }
     requires token { top_list engine.old.input.builds ≢ [] }
     ensures rule { OnOk result (TakesList loc → (sizes : Sizes) (w : World) (book : Book) (r : Reading) (rs : List Reading) → Stands sizes engine.old (with_work (r ∷ rs) book) → innermost_count engine.old.readings.frames ≡ 1 →
@@ -157,7 +157,7 @@ pub(crate) fn set_list(
     ensures idle { OnOk result (engine.new.input.making ≡ None) }
 {
     if has_token(engine, listed) {
-        pass_list(engine, call, loc)?;
+        assign_list(engine, call, loc)?;
         engine.put_after()
     } else {
         pass_nothing(engine, call, loc)?;

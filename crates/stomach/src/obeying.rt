@@ -4,7 +4,7 @@ ghost use Rattle.tex_defs.specs.declared.Sizes.{Sizes};
 ghost use Rattle.tex_defs.specs.Places.{World};
 ghost use Rattle.plain_machine.specs.States.{GroupOpened};
 ghost use Rattle.plain_machine.specs.Plan.{begun, brace_met, endgroup_met, character, command, primitive, register};
-ghost use Rattle.world_io.specs.Told.{FilesTold};
+ghost use Rattle.world_io.specs.Contents.{FilesTold};
 ghost use Rattle.engine_state.specs.Book.{Book};
 ghost use Rattle.engine_state.specs.Clauses.{CutsFree, GoesOnward, CutsOnward};
 ghost use Rattle.engine_state.specs.CutReadings.{CutsIn};

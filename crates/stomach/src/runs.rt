@@ -156,7 +156,7 @@ fn make_run<F: Files, S: Sink>(
             return Ok(Ended::Halted(outcome));
         }
         if taken == n {
-            engine.input.settle();
+            engine.input.end_token_lists();
             return Ok(Ended::Steps);
         }
         match one_rule(engine, readers, files, out)? {

@@ -28,7 +28,7 @@ use Rattle.plain_machine.proofs.Joins.{next_due, made_all_due, all_fit_due, refu
 use Rattle.command_words.specs.Words.{Command, Init, NoCommand, job_name}
 use Rattle.world_io.specs.declared.traits.Fault.{Fault}
 use Rattle.world_io.specs.declared.traits.Fault.TheVariants.{Failed, NoMemory}
-use Rattle.world_io.specs.Told.{FilesTold, SinkTold, NotFound, IsAtEnd, IsAll, IsContent, content, world, SameCounts}
+use Rattle.world_io.specs.Contents.{FilesTold, SinkTold, NotFound, IsAtEnd, IsAll, IsContent, content, world, SameCounts}
 use Rattle.line_reader.specs.Readers.{OpenReader, OpenReaders, KnowEnds, AreLeft, MayLeave, told_left, OpensInnermost, ClosesReaders}
 use Rattle.line_reader.specs.Readers as readers
 use Rattle.engine_state.specs.declared.engine.Engine.{Engine}

@@ -4,7 +4,7 @@ use Rattle.std.specs.Prelude.{Bool, Result, Ok, Err, OnOk, IfErr}
 use Rattle.std.proofs.lemmas.List.{take_all}
 use Rattle.plain_state.specs.Reports.{fresh_line}
 use Rattle.plain_machine.specs.Meaning.{Line}
-use Rattle.world_io.specs.Told.{FilesTold, SinkTold, world}
+use Rattle.world_io.specs.Contents.{FilesTold, SinkTold, world}
 use Rattle.world_io.specs.declared.traits.Fault.{Fault}
 use Rattle.world_io.specs.declared.traits.Fault.TheVariants.{Failed, NoMemory}
 use Rattle.transcript.specs.Taken.{Took, TookFront}

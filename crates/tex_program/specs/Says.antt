@@ -6,7 +6,7 @@ use Rattle.tex_defs.specs.Places.{World, Rose}
 use Rattle.tex_defs.specs.declared.Sizes.{Sizes}
 use Rattle.plain_machine.specs.States.{State}
 use Rattle.plain_machine.specs.Meaning.{Status, Says}
-use Rattle.world_io.specs.Told.{FilesTold}
+use Rattle.world_io.specs.Contents.{FilesTold}
 use Rattle.world_io.specs.declared.traits.Fault.TheVariants.{Failed, NoMemory}
 use Rattle.stomach.specs.declared.early.Early.{Early}
 use Rattle.stomach.specs.declared.early.Early.TheVariants.{Unread}

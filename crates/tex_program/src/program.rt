@@ -6,7 +6,7 @@ ghost use Rattle.tex_defs.specs.declared.Table.TheVariants.{MainMemorySize};
 ghost use Rattle.tex_defs.specs.Sizes.{is_in_range, first_out_of_range, default_sizes};
 ghost use Rattle.command_words.specs.Words.{command_of, NoCommand, spelt};
 ghost use Rattle.plain_machine.specs.Meaning.{Means};
-ghost use Rattle.world_io.specs.Told.{world};
+ghost use Rattle.world_io.specs.Contents.{world};
 
 use crate::run::run_file;
 use crate::tell::{Telling, tell};

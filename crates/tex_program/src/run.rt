@@ -5,7 +5,7 @@ ghost use Rattle.tex_defs.specs.declared.Sizes.{Sizes};
 ghost use Rattle.plain_machine.specs.States.{State};
 ghost use Rattle.plain_machine.specs.Does.{CutAt};
 ghost use Rattle.plain_machine.specs.Meaning.{First, MeansRun};
-ghost use Rattle.world_io.specs.Told.{FilesTold, world};
+ghost use Rattle.world_io.specs.Contents.{FilesTold, world};
 ghost use Rattle.world_io.specs.declared.traits.Fault.TheVariants.{Failed};
 ghost use Rattle.stomach.specs.Ran.{UnreadBy, StoppedBy};
 ghost use Rattle.stomach.specs.Read.{ReadsTo, AreTied};

@@ -2,7 +2,7 @@
 ghost use Rattle.std.specs.Prelude.{◌≡◌, ◌≤◌, ◌++◌, length};
 ghost use Rattle.plain_state.specs.Reports.{fresh_line};
 ghost use Rattle.plain_machine.specs.Meaning.{Line};
-ghost use Rattle.world_io.specs.Told.{FilesTold, world};
+ghost use Rattle.world_io.specs.Contents.{FilesTold, world};
 ghost use Rattle.tex_program.specs.Tells.{line_of};
 ghost use Rattle.tex_program.specs.declared.tell.Telling.TheVariants.{Steps, Full as FullTold};
 

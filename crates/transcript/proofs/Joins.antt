@@ -5,7 +5,7 @@ use Rattle.std.proofs.lemmas.List.{append-nil, length-append, take-append-le}
 use Rattle.std.proofs.Math.Seq.{take-append-add}
 use Rattle.tex_defs.specs.Places.{File, Untold, NotHeld, Holds, grown, Rose}
 use Rattle.plain_state.specs.Reports.{in_line_after}
-use Rattle.world_io.specs.Told.{SinkTold}
+use Rattle.world_io.specs.Contents.{SinkTold}
 use Rattle.world_io.specs.declared.traits.Fault.{Fault}
 use Rattle.transcript.specs.Taken.{Took, TookFront}
 use Rattle.transcript.proofs.Columns.{in_line_join}

@@ -2,7 +2,7 @@
 use Rattle.std.specs.Prelude.{◌≡◌, ◌≤◌, ◌<◌, ℕ, Bool, List, take, length}
 use Rattle.tex_defs.specs.Places.{Rose, grown}
 use Rattle.plain_state.specs.Reports.{in_line_after}
-use Rattle.world_io.specs.Told.{SinkTold}
+use Rattle.world_io.specs.Contents.{SinkTold}
 use Rattle.world_io.specs.declared.traits.Fault.{Fault}
 use Rattle.world_io.specs.declared.traits.Fault.TheVariants.{Failed, NoMemory}
 

@@ -4,7 +4,7 @@ use Rattle.std.proofs.lemmas.List.{append-nil}
 use Rattle.std.proofs.Math.Seq.{take-add}
 use Rattle.std.proofs.lemmas.Grind.{common_steps}
 use Rattle.tex_defs.specs.Places.{File, Untold, NotHeld, Holds, grown}
-use Rattle.world_io.specs.Told.{FilesTold, Grew, SameFiles}
+use Rattle.world_io.specs.Contents.{FilesTold, Grew, SameFiles}
 
 pub grown_twice : (o : File) (a b : List ℕ) → grown (grown o a) b ≡ grown o (a ++ b)
 grown_twice Untold a b = refl

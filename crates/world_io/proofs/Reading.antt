@@ -3,7 +3,7 @@ use Rattle.std.specs.Prelude.{Option, Some, None, option_map, nat_eq, if◌then�
 use Rattle.std.proofs.lemmas.List.{append-nil, take-append-drop}
 use Rattle.std.proofs.lemmas.Grind.{common_steps}
 use Rattle.tex_defs.specs.Places.{File, Untold, NotHeld, Holds}
-use Rattle.world_io.specs.Told.{FilesTold, SameFiles, OpensReader, OpensWriter, ClosesReader, ReadFrom, OnlyReads, SoFar, IsAll, IsContent, IsAtEnd, HasFront, MayHold, content}
+use Rattle.world_io.specs.Contents.{FilesTold, SameFiles, OpensReader, OpensWriter, ClosesReader, ReadFrom, OnlyReads, SoFar, IsAll, IsContent, IsAtEnd, HasFront, MayHold, content}
 
 pub so_far_none : (rest : Option (List ℕ)) → SoFar rest [] rest
 so_far_none None = refl

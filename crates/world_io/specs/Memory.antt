@@ -6,7 +6,7 @@ use Rattle.world_io.specs.declared.mem_files.MemFiles.{MemFiles}
 use Rattle.world_io.specs.declared.mem_sink.MemSink.{MemSink}
 use Rattle.world_io.specs.Calls.{Plan}
 use Rattle.world_io.specs.Store.{look_up}
-use Rattle.world_io.specs.Told.{FilesTold, SinkTold}
+use Rattle.world_io.specs.Contents.{FilesTold, SinkTold}
 
 abbrev pub files_told : MemFiles → FilesTold
 files_told m = record {

@@ -27,7 +27,7 @@ pub struct MemFiles {
 impl MemFiles {
     ghost use Rattle.std.specs.Prelude.{◌≡◌, ◌<◌, ◌++◌, ◌∷◌, [], ℕ, List, Some, MatchOption, OnOk, OnErr, IfOk, IfNone, IfSome, IsSome};
     ghost use Rattle.tex_defs.specs.Places.{NotHeld, Holds};
-    ghost use Rattle.world_io.specs.Told.{SameFiles, SameCounts, Puts, IsEmpty, Grew, NotFound, OpensReader, OpensWriter};
+    ghost use Rattle.world_io.specs.Contents.{SameFiles, SameCounts, Puts, IsEmpty, Grew, NotFound, OpensReader, OpensWriter};
     ghost use Rattle.world_io.specs.Memory.{files_told, files_plan, most_read};
 
     /// No files.
@@ -150,7 +150,7 @@ impl MemFiles {
 impl Files for MemFiles {
     ghost use Rattle.std.specs.Prelude.{◌≡◌, ◌<◌, ◌≤◌, ◌↔◌, ℕ, List, length, take, true, Some, IfOk, OnOk, OnErr, IfNone, IfSome, IsSome, IsErrOf, IsTrue};
     ghost use Rattle.world_io.specs.Calls.{counted, fails_next};
-    ghost use Rattle.world_io.specs.Told.{HasCause, SameFiles, SameCounts, Grew, NotFound, OpensReader, ClosesReader, OpensWriter, ClosesWriter, ReadFrom, IsAtEnd};
+    ghost use Rattle.world_io.specs.Contents.{HasCause, SameFiles, SameCounts, Grew, NotFound, OpensReader, ClosesReader, OpensWriter, ClosesWriter, ReadFrom, IsAtEnd};
     ghost use Rattle.world_io.specs.Memory.{files_told, files_plan, most_read};
 
     ghost told = { files_told };

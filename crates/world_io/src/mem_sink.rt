@@ -63,7 +63,7 @@ impl Sink for MemSink {
     ghost use Rattle.std.specs.Prelude.{◌≡◌, ◌<◌, ◌≤◌, ◌↔◌, length, take, IfOk, OnOk, OnErr, IsErrOf, IsTrue};
     ghost use Rattle.tex_defs.specs.Places.{grown};
     ghost use Rattle.world_io.specs.Calls.{counted, fails_next};
-    ghost use Rattle.world_io.specs.Told.{HasCause};
+    ghost use Rattle.world_io.specs.Contents.{HasCause};
     ghost use Rattle.world_io.specs.Memory.{sink_told, sink_plan};
 
     ghost told = { sink_told };

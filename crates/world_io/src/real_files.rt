@@ -30,7 +30,7 @@ pub struct RealFiles<'a, R: rt::Files> {
 }
 
 impl<'a, R: rt::Files + AllocGlobal> RealFiles<'a, R> {
-    ghost use Rattle.world_io.specs.Told.{IsFresh};
+    ghost use Rattle.world_io.specs.Contents.{IsFresh};
 
     /// The files of this runtime, of which none is open.
     pub fn new(rt: &'a R) -> Self

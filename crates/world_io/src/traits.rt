@@ -1,7 +1,7 @@
 // What the outside promises: a sink for text, and files by name.
 ghost use Rattle.std.specs.Prelude.{◌≡◌, ◌≤◌, ◌<◌, ℕ, List, true, take, length, IfOk, IfSome, IfNone, IsSome, OnErr, Some};
 ghost use Rattle.tex_defs.specs.Places.{grown};
-ghost use Rattle.world_io.specs.Told.{SinkTold, FilesTold, HasCause, SameFiles, SameCounts, Grew, NotFound, OpensReader, ClosesReader, OpensWriter, ClosesWriter, ReadFrom, IsAtEnd};
+ghost use Rattle.world_io.specs.Contents.{SinkTold, FilesTold, HasCause, SameFiles, SameCounts, Grew, NotFound, OpensReader, ClosesReader, OpensWriter, ClosesWriter, ReadFrom, IsAtEnd};
 
 /// Why a call on the outside has no answer: it failed, or found no memory.
 #[derive(Clone, Copy, Debug, PartialEq, Eq)]

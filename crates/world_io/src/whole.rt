@@ -1,7 +1,7 @@
 // Texts written whole, and files read whole.
 ghost use Rattle.std.specs.Prelude.{◌≡◌, ◌≤◌, ◌<◌, ℕ, List, true, take, length, IfOk, IfErr, IfNone, IfSome, IsSome, OnOk, OnErr, Some};
 ghost use Rattle.tex_defs.specs.Places.{grown, Rose};
-ghost use Rattle.world_io.specs.Told.{SinkTold, FilesTold, SameFiles, Grew, NotFound, IsContent, IsAll, OnlyReads};
+ghost use Rattle.world_io.specs.Contents.{SinkTold, FilesTold, SameFiles, Grew, NotFound, IsContent, IsAll, OnlyReads};
 
 use crate::{Fault, Files, InId, OutId, Sink};
 use std::alloc::Global;

@@ -5,7 +5,7 @@ use Rattle.save_stack.specs.Accounts.{array_weight, mark_weight}
 use Rattle.meanings.proofs.Counted.{list_is_held}
 use Rattle.equivalents.specs.Holding.{value_list}
 use Rattle.eqtb_save.specs.Table.{Table}
-use Rattle.eqtb_save.specs.Values.{numbered}
+use Rattle.eqtb_save.specs.Values.{numbered_value}
 use Rattle.eqtb_save.specs.Holding.{held, entry_holds}
 use Rattle.eqtb_save.proofs.Held.{K, weight, held_weighs}
 use Rattle.eqtb_save.proofs.Ended.{first_going, part_covered, still_going, last_value, last_saved, none_left}
@@ -18,7 +18,7 @@ loop-value-init c = first_going c.args.lists.now (held c.args.self) _ (λ h. ome
 pub release-requires : goal.release-requires
 release-requires c =
     let saved = c.into_values-values.result.1.items in
-    list_is_held c.loop-value.lists (value_list (numbered c.in-Some.value))
+    list_is_held c.loop-value.lists (value_list (numbered_value c.in-Some.value))
     (part_covered c.args.lists.now c.loop-value.lists (held c.args.self) _ (λ h. sum_by (weight h) c.pop.new.self.items + array_weight (weight h) saved) (λ h. weight h c.in-Some.value) c.requires c.loop-value.invariant
     (last_value c.loop-value.values.items c.pop.new.self.items c.in-Some.value saved c.in-Some.ensures.items))
 
@@ -27,7 +27,7 @@ loop-value-preserved c =
     let saved = c.into_values-values.result.1.items in
     still_going c.args.lists.now c.loop-value.lists (held c.args.self) _ (λ h. sum_by (weight h) c.pop.new.self.items + array_weight (weight h) saved) (λ h. weight h c.in-Some.value) c.requires c.loop-value.invariant
     (last_value c.loop-value.values.items c.pop.new.self.items c.in-Some.value saved c.in-Some.ensures.items) c.release.new.lists c.release.ensures.account c.release.ensures.kept
-    (same_length (value_list (numbered c.in-Some.value)) c.loop-value.lists c.release.new.lists c.release.ensures.after) (marks_last (value_list (numbered c.in-Some.value)) c.loop-value.lists c.release.new.lists c.release.ensures.after)
+    (same_length (value_list (numbered_value c.in-Some.value)) c.loop-value.lists c.release.new.lists c.release.ensures.after) (marks_last (value_list (numbered_value c.in-Some.value)) c.loop-value.lists c.release.new.lists c.release.ensures.after)
 
 pub loop-entry-init : goal.loop-entry-init
 loop-entry-init c = record {

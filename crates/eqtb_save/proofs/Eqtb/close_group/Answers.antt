@@ -5,7 +5,7 @@ use Rattle.save_stack.proofs.Restoring.{ended}
 use Rattle.equivalents.specs.Groups.{depth}
 use Rattle.equivalents.specs.Flat.{groups_of}
 use Rattle.save_stack.specs.Mapped.{mapped}
-use Rattle.eqtb_save.specs.Values.{numbered}
+use Rattle.eqtb_save.specs.Values.{numbered_value}
 use Rattle.tex_defs.specs.declared.Sizes.{Sizes}
 use Rattle.eqtb_save.specs.Table.{Table, IsSound}
 use Rattle.eqtb_save.proofs.Held.{K, weight, held_is, held_weighs}
@@ -65,7 +65,7 @@ invariant_of-self c =
     let s = c.loop-at.self-inside.groups in
     let end = ended s c.take_back.new.self c.in_default.ensures.after c.in_default.ensures.back c.in_default.ensures.none in
     let room : c.self.inside.sizes.save_size ≤ vec_capacity c.drain-kind.new.closing = omega (arith, c.self.invariant.rooms, c.loop-at.invariant.room, c.clear.ensures.capacity, c.drain-kind.ensures.capacity) in
-    subst (λ (n : Sizes). IsSound c.loop-at.self-inside.categories (mapped numbered c.drain-kind.new.groups) c.drain-kind.new.closing.items (vec_capacity c.drain-kind.new.closing) 0 (Some c.drain-kind.result) n) (sym c.loop-at.invariant.sizes)
+    subst (λ (n : Sizes). IsSound c.loop-at.self-inside.categories (mapped numbered_value c.drain-kind.new.groups) c.drain-kind.new.closing.items (vec_capacity c.drain-kind.new.closing) 0 (Some c.drain-kind.result) n) (sym c.loop-at.invariant.sizes)
     (gone_sound c.loop-at.self-inside.categories c.self.inside.categories c.self.inside.groups s c.drain-kind.new.groups c.self.inside.closing.items c.drain-kind.new.closing.items (vec_capacity c.self.inside.closing) (vec_capacity c.drain-kind.new.closing) c.self.inside.given c.self.inside.ending c.drain-kind.result c.self.inside.sizes c.self.invariant
     (omega (arith, c.requires.open, ap (λ (t : Table). depth t.groups) c.self.view_is)) c.loop-at.invariant.going.codes c.loop-at.invariant.going.same end.2 (c.drain-kind.ensures.group ∙ ap (λ (x : Stack K). closed x) end.0) c.in_default.ensures.none room)
 
@@ -73,7 +73,7 @@ pub returns-clause-after : goal.returns-clause-after
 returns-clause-after c =
     let s = c.loop-at.self-inside.groups in
     let end = ended s c.take_back.new.self c.in_default.ensures.after c.in_default.ensures.back c.in_default.ensures.none in
-    ap (λ (n : Sizes). mk (groups_of (mapped numbered c.drain-kind.new.groups)) c.drain-kind.new.closing.items (Some c.drain-kind.result) n) c.loop-at.invariant.sizes
+    ap (λ (n : Sizes). mk (groups_of (mapped numbered_value c.drain-kind.new.groups)) c.drain-kind.new.closing.items (Some c.drain-kind.result) n) c.loop-at.invariant.sizes
     ∙ begun_table c.self.inside.groups c.drain-kind.new.groups c.args.self.now _ _ c.self.inside.sizes c.drain-kind.new.closing.items c.drain-kind.result c.self.view_is c.self.invariant.whole
     (omega (arith, c.requires.open, ap (λ (t : Table). depth t.groups) c.self.view_is))
     (c.drain-kind.ensures.group ∙ ap (λ (x : Stack K). closed x) (end.0 ∙ sym end.2 ∙ c.loop-at.invariant.going.same))

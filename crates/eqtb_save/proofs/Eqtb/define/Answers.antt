@@ -5,7 +5,7 @@ use Rattle.save_stack.specs.Accounts.{optional}
 use Rattle.save_stack.specs.Groups.{Stack, depth}
 use Rattle.equivalents.specs.Groups.{set_local}
 use Rattle.meanings.specs.Holding.{without_holder}
-use Rattle.eqtb_save.specs.Values.{numbered}
+use Rattle.eqtb_save.specs.Values.{numbered_value}
 use Rattle.eqtb_save.specs.Table.{Table}
 use Rattle.eqtb_save.proofs.Held.{K, weight, Balance, back_counted, moves_by, still_moves, keeps_by}
 use Rattle.eqtb_save.proofs.Setting.{defined_sound, defined_groups, let_go, nothing_goes, with_groups, still_sound, still_table, set_fits, set_refused}
@@ -35,7 +35,7 @@ returns-in-Ok-Some-clause-refused c = set_fits c.self.inside.groups c.args.self.
 
 pub returns-in-Ok-Some-clause-ok : goal.returns-in-Ok-Some-clause-ok
 returns-in-Ok-Some-clause-ok c =
-    with_groups _ _ _ _ _ c.args.self.now c.self.view_is (λ g. set_local g c.args.loc (numbered c.args.value))
+    with_groups _ _ _ _ _ c.args.self.now c.self.view_is (λ g. set_local g c.args.loc (numbered_value c.args.value))
     (defined_groups c.self.inside.groups c.define.new.self c.args.self.now.groups (ap (λ (t : Table). t.groups) c.self.view_is) c.self.invariant.whole c.args.loc c.requires.within c.place-at.result c.place-at.ensures.number c.args.value c.in-Ok-Some.ensures.ok)
 
 pub release-requires : goal.release-requires
@@ -80,7 +80,7 @@ returns-in-Ok-None-clause-refused c = set_fits c.self.inside.groups c.args.self.
 
 pub returns-in-Ok-None-clause-ok : goal.returns-in-Ok-None-clause-ok
 returns-in-Ok-None-clause-ok c =
-    with_groups _ _ _ _ _ c.args.self.now c.self.view_is (λ g. set_local g c.args.loc (numbered c.args.value))
+    with_groups _ _ _ _ _ c.args.self.now c.self.view_is (λ g. set_local g c.args.loc (numbered_value c.args.value))
     (defined_groups c.self.inside.groups c.define.new.self c.args.self.now.groups (ap (λ (t : Table). t.groups) c.self.view_is) c.self.invariant.whole c.args.loc c.requires.within c.place-at.result c.place-at.ensures.number c.args.value c.in-Ok-None.ensures.ok)
 
 pub returns-in-Ok-None-clause-let_go : goal.returns-in-Ok-None-clause-let_go

@@ -5,7 +5,7 @@ use Rattle.equivalents.specs.Locations.{V}
 use Rattle.equivalents.specs.Holding.{value_list}
 use Rattle.equivalents.specs.Groups.{set_global}
 use Rattle.meanings.specs.Holding.{without_holder}
-use Rattle.eqtb_save.specs.Values.{numbered}
+use Rattle.eqtb_save.specs.Values.{numbered_value}
 use Rattle.eqtb_save.specs.Table.{Table}
 use Rattle.eqtb_save.proofs.Held.{K, weight, back_counted, moves_by, keeps_by}
 use Rattle.eqtb_save.proofs.Setting.{gdefined_sound, gdefined_groups, old_is, with_groups}
@@ -35,7 +35,7 @@ invariant_of-self c =
 
 pub returns-clause-after : goal.returns-clause-after
 returns-clause-after c =
-    with_groups _ _ _ _ _ c.args.self.now c.self.view_is (λ g. set_global g c.args.loc (numbered c.args.value))
+    with_groups _ _ _ _ _ c.args.self.now c.self.view_is (λ g. set_global g c.args.loc (numbered_value c.args.value))
     (gdefined_groups c.self.inside.groups c.gdefine-old.new.self c.args.self.now.groups (ap (λ (t : Table). t.groups) c.self.view_is) c.self.invariant.whole c.args.loc c.requires.within c.place-at.result c.place-at.ensures.number c.args.value c.gdefine-old.ensures.after)
 
 pub returns-clause-let_go : goal.returns-clause-let_go

@@ -17,7 +17,7 @@ returns-in-None-clause-ok c = let e = c.args.engine.now in
 
 pub returns-in-AtOnce-clause-ok : goal.returns-in-AtOnce-clause-ok
 returns-in-AtOnce-clause-ok c = let e = c.args.engine.now in let n = c.call_macro in let name = c.name_of-name.result in let is = sym c.call_kind.ensures ∙ c.in-AtOnce.is in
-    on_ok _ n.result (λ ok fits sizes w book st. called_went sizes e book c.args.token name c.name_of-name.ensures st (at_once_has e.input.lists (name_meaning e.input.groups.now.meanings name) is) _ w is (ap (λ (i : Stored). record e { input = i }) ok) n.ensures.macros fits) n.ensures.ok n.ensures.refused
+    on_ok _ n.result (λ ok fits sizes w book st. called_went sizes e book c.args.token name c.name_of-name.ensures st (at_once_has e.input.lists (name_meaning e.input.groups.now.meanings name) is) _ w is (ap (λ (i : Stored). record e { input = i }) ok) n.ensures.all_lists fits) n.ensures.ok n.ensures.refused
 
 pub returns-in-AtOnce-clause-err : goal.returns-in-AtOnce-clause-err
 returns-in-AtOnce-clause-err c = let e = c.args.engine.now in let n = c.call_macro in let name = c.name_of-name.result in let is = sym c.call_kind.ensures ∙ c.in-AtOnce.is in
@@ -27,7 +27,7 @@ pub returns-in-Gathers-clause-ok : goal.returns-in-Gathers-clause-ok
 returns-in-Gathers-clause-ok c = let e = c.args.engine.now in let n = c.begin_call in let name = c.name_of-name.result in let is = sym c.call_kind.ensures ∙ c.in-Gathers.is in
     let m = gathers_has e.input.lists (name_meaning e.input.groups.now.meanings name) is in
     let long = c.is_long-long.ensures m.long m.outer tt (ap (λ (x : Seen). x.meaning) c.seen.ensures ∙ ap seen_as m.meaning) in
-    on_both n.result (λ ok fits sizes w book st. begun_went sizes e book c.args.token name c.name_of-name.ensures st m c.is_long-long.result n.new.engine long ok n.ensures.macros w is (λ number. fits sizes book number (counts_of sizes e book st))) n.ensures.ok n.ensures.fits
+    on_both n.result (λ ok fits sizes w book st. begun_went sizes e book c.args.token name c.name_of-name.ensures st m c.is_long-long.result n.new.engine long ok n.ensures.all_lists w is (λ number. fits sizes book number (counts_of sizes e book st))) n.ensures.ok n.ensures.fits
 
 pub returns-in-Gathers-clause-err : goal.returns-in-Gathers-clause-err
 returns-in-Gathers-clause-err c = let e = c.args.engine.now in let n = c.begin_call in let name = c.name_of-name.result in let is = sym c.call_kind.ensures ∙ c.in-Gathers.is in

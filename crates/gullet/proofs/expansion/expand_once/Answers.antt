@@ -1,7 +1,7 @@
 use Rattle.std.proofs.Common.{◌≡◌, [], ◌∷◌, refl, sym, ap, subst, ◌∙◌}
 use Rattle.tex_syntax.specs.declared.words.Report.TheVariants.{UndefinedName}
 use Rattle.input_state.specs.Stored.{Stored}
-use Rattle.reading_frames.specs.Sees.{kind_of}
+use Rattle.reading_frames.specs.Views.{kind_of}
 use Rattle.conditionals.specs.Open.{constant_test}
 use Rattle.plain_machine.specs.Plan.{reported, called, input_met, conditional_begun, ender_met, expanded}
 use Rattle.plain_machine.specs.States.{Begun, FileEnds}

@@ -1,5 +1,5 @@
 use Rattle.std.proofs.Common.{[], ◌∷◌, ◌++◌}
-use Rattle.reading_frames.specs.Sees.{kind_of}
+use Rattle.reading_frames.specs.Views.{kind_of}
 use Rattle.plain_readings.specs.Readings.{opened}
 use Rattle.plain_machine.specs.Plan.{job_in, put_characters}
 use Rattle.plain_machine.specs.States.{Begun, Closed}

@@ -1,5 +1,5 @@
 -- A row that is over stays so.
-use Rattle.row_frames.specs.Sees.{fed_of}
+use Rattle.row_frames.specs.Views.{fed_of}
 use Rattle.reading_frames.proofs.Over.{over_behind}
 use Rattle.reading_frames.proofs.Commands.{acts_on, defines}
 use Rattle.reading_frames.proofs.command.over_behind.Goals as goal

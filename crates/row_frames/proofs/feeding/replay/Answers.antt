@@ -6,7 +6,7 @@ use Rattle.tex_defs.specs.declared.Token.TheVariants.{Char}
 use Rattle.tex_defs.specs.declared.Meaning.TheVariants.{Undefined}
 use Rattle.rows.specs.Readings as reading
 use Rattle.rows.specs.Run.{row}
-use Rattle.row_frames.specs.Sees.{fed_of}
+use Rattle.row_frames.specs.Views.{fed_of}
 use Rattle.row_frames.specs.declared.turn.Fed.{Fed}
 use Rattle.row_frames.specs.declared.turn.Fed.TheVariants as fed
 use Rattle.row_frames.proofs.feeding.replay.Goals as goal

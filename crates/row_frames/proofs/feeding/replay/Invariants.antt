@@ -3,7 +3,7 @@ use Rattle.std.proofs.Common.{◌≡◌, List, ◌++◌, map, take}
 use Rattle.tex_defs.specs.declared.Token.{Token}
 use Rattle.rows.specs.Readings.{Fed}
 use Rattle.rows.specs.Run.{row}
-use Rattle.row_frames.specs.Sees.{ask_of, fed_of, IsOpen}
+use Rattle.row_frames.specs.Views.{ask_of, fed_of, IsOpen}
 use Rattle.row_frames.specs.Resumes.{resume}
 use Rattle.row_frames.proofs.feeding.replay.Given as goal
 

@@ -5,7 +5,7 @@ use Rattle.rows.specs.declared.stage.Got.{Got}
 use Rattle.rows.specs.Run.{begins, valued}
 use Rattle.row_frames.specs.declared.turn.Fed.{Fed}
 use Rattle.row_frames.specs.declared.turn.Fed.TheVariants.{Value as value}
-use Rattle.row_frames.specs.Sees.{fed_of}
+use Rattle.row_frames.specs.Views.{fed_of}
 use Rattle.row_frames.specs.Resumes.{IsTurn}
 use Rattle.row_frames.proofs.turn.begun.Goals as goal
 

@@ -13,19 +13,19 @@ use Rattle.row_frames.specs.declared.turn.Kept.{Kept}
 use Rattle.row_frames.specs.declared.turn.Kept.TheVariants as kept
 use Rattle.row_frames.specs.declared.turn.Turn.{Turn}
 use Rattle.row_frames.specs.Data.{values}
-use Rattle.row_frames.specs.Sees.{fed_of}
+use Rattle.row_frames.specs.Views.{fed_of}
 use Rattle.row_frames.specs.Resumes.{IsTurn, within}
 use Rattle.row_frames.proofs.turn.take.Goals as goal
 
 -- what comes leads from here to this turn
-abbrev Turns : Stage → Call → List Datum → List Token → Fed → Turn → Kept → Type 0
-Turns s call ds ts y t here = IsTurn s call ds ts (fed_of ts y) (λ fed. within s call ds here (fed_of ts y ∷ fed)) t
+abbrev Becomes : Stage → Call → List Datum → List Token → Fed → Turn → Kept → Type 0
+Becomes s call ds ts y t here = IsTurn s call ds ts (fed_of ts y) (λ fed. within s call ds here (fed_of ts y ∷ fed)) t
 
-at : (s : Stage) (call : Call) (ds : List Datum) (ts : List Token) (y : Fed) (t : Turn) (here now : Kept) → now ≡ here → Turns s call ds ts y t here → Turns s call ds ts y t now
-at s call ds ts y t here now e h = subst (Turns s call ds ts y t) (sym e) h
+at : (s : Stage) (call : Call) (ds : List Datum) (ts : List Token) (y : Fed) (t : Turn) (here now : Kept) → now ≡ here → Becomes s call ds ts y t here → Becomes s call ds ts y t now
+at s call ds ts y t here now e h = subst (Becomes s call ds ts y t) (sym e) h
 
 at_start : (s : Stage) (call : Call) (ds : List Datum) (ts : List Token) (y : Fed) (t : Turn) (first : Start) → start s call ds ≡ first →
-    IsTurn s call ds ts (fed_of ts y) (λ fed. started s call first (fed_of ts y ∷ fed)) t → Turns s call ds ts y t kept.Start
+    IsTurn s call ds ts (fed_of ts y) (λ fed. started s call first (fed_of ts y ∷ fed)) t → Becomes s call ds ts y t kept.Start
 at_start s call ds ts y t first e h = subst (λ (st : Start). IsTurn s call ds ts (fed_of ts y) (λ fed. started s call st (fed_of ts y ∷ fed)) t) (sym e) h
 
 pub returns-in-Looks : goal.returns-in-Looks

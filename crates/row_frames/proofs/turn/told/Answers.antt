@@ -3,7 +3,7 @@ use Rattle.std.proofs.Common.{◌∷◌, subst, sym}
 use Rattle.rows.specs.Run.{noted}
 use Rattle.row_frames.specs.declared.turn.Fed.{Fed}
 use Rattle.row_frames.specs.declared.turn.Fed.TheVariants.{Told as told}
-use Rattle.row_frames.specs.Sees.{fed_of}
+use Rattle.row_frames.specs.Views.{fed_of}
 use Rattle.row_frames.specs.Resumes.{IsTurn}
 use Rattle.row_frames.proofs.turn.told.Goals as goal
 

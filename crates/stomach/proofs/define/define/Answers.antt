@@ -1,6 +1,6 @@
 use Rattle.std.proofs.Common.{◌≡◌, ◌∙◌, [], ◌∷◌, refl, List}
 use Rattle.rows.specs.Readings.{Defines}
-use Rattle.reading_frames.specs.Sees.{kept_list_of, top_list}
+use Rattle.reading_frames.specs.Views.{kept_list_of, top_list}
 use Rattle.reading_frames.specs.Stack.{innermost_count}
 use Rattle.plain_machine.specs.States.{Move, Defined}
 use Rattle.plain_machine.specs.Plan.{is_global}
@@ -15,8 +15,8 @@ use Rattle.stomach.proofs.Passing.{kept_top, unmade_in, unput_in, behind_went}
 use Rattle.stomach.proofs.RuleCloses.{closed_lighter}
 use Rattle.stomach.proofs.define.define.Goals as goal
 
-pub returns-in_err-pass_list-clause-err : goal.returns-in_err-pass_list-clause-err
-returns-in_err-pass_list-clause-err c = let e = c.args.engine.now in let e1 = c.pass_list.new.engine in let i = c.in_err-pass_list in let ts = kept_list_of c.args.listed e.input.builds in
+pub returns-in_err-assign_macro-clause-err : goal.returns-in_err-assign_macro-clause-err
+returns-in_err-assign_macro-clause-err c = let e = c.args.engine.now in let e1 = c.assign_macro.new.engine in let i = c.in_err-assign_macro in let ts = kept_list_of c.args.listed e.input.builds in
     let some = c.if-has_token.ensures in
     let top = kept_top c.args.listed e.input.builds some in
     same_err c.from_residual.result (broken.Full i.field-0.0) _ c.from_residual.ensures.1
@@ -25,8 +25,8 @@ returns-in_err-pass_list-clause-err c = let e = c.args.engine.now in let e1 = c.
     in_by sizes s e1 w w _ _ (broken.Full i.field-0.0) (defines_are (page_of e book) c.args.call c.args.name (top_list e.input.builds) ts top (λ none. some (top ∙ none)))
     (unmade_in sizes s e e1 e1 w moves (broken.Full i.field-0.0) (i.ensures.err sizes w book r rs st)))
 
-pub returns-in_ok-pass_list-clause-rule : goal.returns-in_ok-pass_list-clause-rule
-returns-in_ok-pass_list-clause-rule c = let e = c.args.engine.now in let e1 = c.pass_list.new.engine in let e2 = c.put_after.new.self in let n = c.put_after.ensures in let p = c.in_ok-pass_list.ensures in
+pub returns-in_ok-assign_macro-clause-rule : goal.returns-in_ok-assign_macro-clause-rule
+returns-in_ok-assign_macro-clause-rule c = let e = c.args.engine.now in let e1 = c.assign_macro.new.engine in let e2 = c.put_after.new.self in let n = c.put_after.ensures in let p = c.in_ok-assign_macro.ensures in
     let ts = kept_list_of c.args.listed e.input.builds in
     let some = c.if-has_token.ensures in
     let top = kept_top c.args.listed e.input.builds some in
@@ -36,8 +36,8 @@ returns-in_ok-pass_list-clause-rule c = let e = c.args.engine.now in let e1 = c.
     went_by sizes s e2 w w _ _ 0 (defines_are (page_of e book) c.args.call c.args.name (top_list e.input.builds) ts top (λ none. some (top ∙ none)))
     (behind_went sizes s e e1 e2 w moves (p.call ∙ st.uncalled.none) p.after n.frames (p.rule sizes w book r rs st own) n.others n.store idle did)) n.did n.idle
 
-pub returns-in_ok-pass_list-clause-err : goal.returns-in_ok-pass_list-clause-err
-returns-in_ok-pass_list-clause-err c = let e = c.args.engine.now in let e1 = c.pass_list.new.engine in let e2 = c.put_after.new.self in let n = c.put_after.ensures in let p = c.in_ok-pass_list.ensures in
+pub returns-in_ok-assign_macro-clause-err : goal.returns-in_ok-assign_macro-clause-err
+returns-in_ok-assign_macro-clause-err c = let e = c.args.engine.now in let e1 = c.assign_macro.new.engine in let e2 = c.put_after.new.self in let n = c.put_after.ensures in let p = c.in_ok-assign_macro.ensures in
     let ts = kept_list_of c.args.listed e.input.builds in
     let some = c.if-has_token.ensures in
     let top = kept_top c.args.listed e.input.builds some in

@@ -11,7 +11,7 @@ use Rattle.engine_state.proofs.CuttingReadings.{column_in, in_by}
 use Rattle.engine_state.proofs.Joining.{column_went, same_err, ok_to, err_to, went_by}
 use Rattle.stomach.specs.Effects.{IsAlone}
 use Rattle.stomach.specs.Halting.{DoesRuleIn}
-use Rattle.rows.specs.Suiting.{IsSmall}
+use Rattle.rows.specs.Suiting.{IsSuited}
 use Rattle.stomach.proofs.ActsEnding.{above_acts, is_alone, small_effect}
 use Rattle.stomach.proofs.effects.act.Goals as goal
 
@@ -48,14 +48,14 @@ returns-in-Compute-clause-rule g c = let e = c.args.engine.now in let e2 = c.com
     ok_to c.compute.result
     (λ ruled h sizes f book r rs st asks.
     subst (λ (does : Effect). DoesRuleIn sizes (state_of e (with_work (r ∷ rs) book)) e2 (world_of f (g.S.Sink.told c.args.out.now) e) (world_of f (g.S.Sink.told c.compute.new.out) e2) (acts_above rs (page_of e book) c.args.call does) ruled) (sym is)
-    (h (subst IsSmall is (small_effect sizes e book r rs c.args.call c.args.effect st asks)) sizes f book r rs st)) c.compute.ensures.rule
+    (h (subst IsSuited is (small_effect sizes e book r rs c.args.call c.args.effect st asks)) sizes f book r rs st)) c.compute.ensures.rule
 
 pub returns-in-Compute-clause-err : goal.returns-in-Compute-clause-err
 returns-in-Compute-clause-err g c = let e = c.args.engine.now in let e2 = c.compute.new.engine in let is = c.in-Compute.is in
     err_to c.compute.result
     (λ b h sizes f book r rs st asks.
     subst (λ (does : Effect). CutsIn sizes (state_of e (with_work (r ∷ rs) book)) e2 (world_of f (g.S.Sink.told c.args.out.now) e) (world_of f (g.S.Sink.told c.compute.new.out) e2) (acts_above rs (page_of e book) c.args.call does) b) (sym is)
-    (h (subst IsSmall is (small_effect sizes e book r rs c.args.call c.args.effect st asks)) sizes f book r rs st)) c.compute.ensures.err
+    (h (subst IsSuited is (small_effect sizes e book r rs c.args.call c.args.effect st asks)) sizes f book r rs st)) c.compute.ensures.err
 
 pub returns-in-Compute-clause-light : goal.returns-in-Compute-clause-light
 returns-in-Compute-clause-light g c = ok_to c.compute.result (λ ruled h free asks. h free (Acts c.args.call c.args.effect) asks tt) c.compute.ensures.light
@@ -64,7 +64,7 @@ pub returns-in_ok-give_list-in-PutList-clause-rule : goal.returns-in_ok-give_lis
 returns-in_ok-give_list-in-PutList-clause-rule g c = let e = c.args.engine.now in let e2 = c.give_list.new.engine in let n = c.in_ok-give_list-in-PutList.ensures in let is = c.in-PutList.is in let s = g.S.Sink.told c.args.out.now in
     λ sizes f book r rs st asks. column_went sizes _ e2 f s e.in_line _ 0 c.give_list.ensures.column
     (subst (λ (does : Effect). Went sizes (state_of e (with_work (r ∷ rs) book)) e2 (world_of f s e) (world_of f s e) (acts_above rs (page_of e book) c.args.call does) 0) (sym is)
-    (n.rule (subst IsSmall is (small_effect sizes e book r rs c.args.call c.args.effect st asks)).0 sizes (world_of f s e) book c.args.call r rs st))
+    (n.rule (subst IsSuited is (small_effect sizes e book r rs c.args.call c.args.effect st asks)).0 sizes (world_of f s e) book c.args.call r rs st))
 
 pub returns-in_err-give_list-in-PutList-clause-err : goal.returns-in_err-give_list-in-PutList-clause-err
 returns-in_err-give_list-in-PutList-clause-err g c = let e = c.args.engine.now in let e2 = c.give_list.new.engine in let n = c.in_err-give_list-in-PutList in let is = c.in-PutList.is in let s = g.S.Sink.told c.args.out.now in

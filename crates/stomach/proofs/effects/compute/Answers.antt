@@ -4,7 +4,7 @@ use Rattle.plain_machine.specs.Plan.{acts}
 use Rattle.engine_state.specs.Stands.{page_of}
 use Rattle.engine_state.proofs.Joining.{same_err, ok_to, err_to, went_by}
 use Rattle.engine_state.proofs.CuttingReadings.{in_by}
-use Rattle.rows.specs.Suiting.{IsSmall}
+use Rattle.rows.specs.Suiting.{IsSuited}
 use Rattle.stomach.specs.Effects.{IsAlone}
 use Rattle.stomach.proofs.ActsEnding.{computed_moves, set_moves, assigned_alone, assigned_small}
 use Rattle.stomach.proofs.RuleHalts.{rules_by}
@@ -16,7 +16,7 @@ pub returns-in_ok-end_alone-in-Some-clause-rule : goal.returns-in_ok-end_alone-i
 returns-in_ok-end_alone-in-Some-clause-rule g c = let e = c.args.engine.now in let a = c.args in let m = c.in-Some in let is = sym c.value_computed.ensures ∙ m.is in let effect = sym c.assignment.ensures in
     λ has sizes f book r rs st.
     went_by sizes _ c.end_alone.new.engine _ _ _ _ 0 (set_moves e book a.call a.operation a.loc c.value_at.result m.value a.datum (c.value_at.ensures has.0 book) is ∙ ap (acts (page_of e book) a.call) effect)
-    (c.in_ok-end_alone-in-Some.ensures.rule (subst IsAlone effect (assigned_alone a.loc m.value)) (subst IsSmall effect (assigned_small a.operation a.loc c.value_at.result m.value a.datum has is)) sizes f book r rs st)
+    (c.in_ok-end_alone-in-Some.ensures.rule (subst IsAlone effect (assigned_alone a.loc m.value)) (subst IsSuited effect (assigned_small a.operation a.loc c.value_at.result m.value a.datum has is)) sizes f book r rs st)
 
 pub returns-in_err-end_alone-in-Some-clause-err : goal.returns-in_err-end_alone-in-Some-clause-err
 returns-in_err-end_alone-in-Some-clause-err g c = let e = c.args.engine.now in let a = c.args in let m = c.in-Some in let is = sym c.value_computed.ensures ∙ m.is in let effect = sym c.assignment.ensures in
@@ -24,7 +24,7 @@ returns-in_err-end_alone-in-Some-clause-err g c = let e = c.args.engine.now in l
     same_err c.from_residual.result i.field-0.0 _ c.from_residual.ensures.1
     (λ has sizes f book r rs st.
     in_by sizes _ c.end_alone.new.engine _ _ _ _ i.field-0.0 (set_moves e book a.call a.operation a.loc c.value_at.result m.value a.datum (c.value_at.ensures has.0 book) is ∙ ap (acts (page_of e book) a.call) effect)
-    (i.ensures.err (subst IsAlone effect (assigned_alone a.loc m.value)) (subst IsSmall effect (assigned_small a.operation a.loc c.value_at.result m.value a.datum has is)) sizes f book r rs st))
+    (i.ensures.err (subst IsAlone effect (assigned_alone a.loc m.value)) (subst IsSuited effect (assigned_small a.operation a.loc c.value_at.result m.value a.datum has is)) sizes f book r rs st))
 
 -- IT IS OUT OF BOUNDS
 

@@ -15,6 +15,13 @@ pub returns-in-PutMarked-clause-err : goal.returns-in-PutMarked-clause-err
 returns-in-PutMarked-clause-err c =
     rw (c.in-PutMarked.is, sym c.marked.ensures) (err_to c.put_one-in-PutMarked.result (λ b h sizes w book more counts. h sizes w book more counts c.requires.idle) c.put_one-in-PutMarked.ensures.err)
 
+pub returns-in-MakeNumber-clause-did : goal.returns-in-MakeNumber-clause-did
+returns-in-MakeNumber-clause-did c = let e = c.args.engine.now in let e1 = c.put_characters.new.self in let n = c.in-MakeNumber.n in
+    let fits : FitsSigned w32 n = search rules in
+    rw c.in-MakeNumber.is
+    (on_ok c.put_characters.result (λ h small sizes w book counts.
+    subst (λ (x : ℤ). Did sizes (state_of e book) (state_of e1 book) w w (put_characters (whole_number x))) (to_z-of_z w32 n fits) (h sizes w book counts c.requires.idle)) c.put_characters.ensures.did)
+
 pub returns-in-MakeNumber-clause-err : goal.returns-in-MakeNumber-clause-err
 returns-in-MakeNumber-clause-err c = let e = c.args.engine.now in let e1 = c.put_characters.new.self in let n = c.in-MakeNumber.n in
     let fits : FitsSigned w32 n = search rules in

@@ -43,22 +43,22 @@ returns-then-mag_set-eq0-clause-err g c = let e = c.args.engine.now in let n = c
     in_by sizes _ k.new.engine _ _ _ _ b (illegal_moves (page_of e book) (noting r) n (sym c.integer-n.ensures) c.if-mag_set-eq0.true illegal) (h sizes f book r rs st)) (rw (to_z-of_z w32 n fits) at k.ensures.err)
 
 pub returns-then-n-from-clause-rule : goal.returns-then-n-from-clause-rule
-returns-then-n-from-clause-rule g c = let e = c.args.engine.now in let e1 = c.go_on.new.engine in let s = g.S.Sink.told c.args.out.now in let n = c.integer-n.result in
+returns-then-n-from-clause-rule g c = let e = c.args.engine.now in let e1 = c.proceed.new.engine in let s = g.S.Sink.told c.args.out.now in let n = c.integer-n.result in
     let fits : FitsSigned w32 n = search rules in let other_fits : FitsSigned w32 c.from.result = search rules in
     let same : n ≡ pos e.mag_set = sym (to_z-of_z w32 n fits) ∙ ap (to_z w32) c.if-n-from.true ∙ to_z-of_z w32 c.from.result other_fits ∙ c.from.ensures in
     λ sizes f book r rs st.
     went_by sizes _ e1 _ _ _ _ 0 (same_moves (page_of e book) (noting r) n (sym c.integer-n.ensures) e.mag_set refl c.if-mag_set-eq0.false same)
-    (column_went sizes _ e1 f s e.in_line _ 0 c.go_on.ensures.column (c.in_ok-go_on.ensures.rule sizes (world_of f s e) book r rs st))
+    (column_went sizes _ e1 f s e.in_line _ 0 c.proceed.ensures.column (c.in_ok-proceed.ensures.rule sizes (world_of f s e) book r rs st))
 
-pub returns-in_err-go_on-clause-err : goal.returns-in_err-go_on-clause-err
-returns-in_err-go_on-clause-err g c = let e = c.args.engine.now in let e1 = c.go_on.new.engine in let s = g.S.Sink.told c.args.out.now in let n = c.integer-n.result in
+pub returns-in_err-proceed-clause-err : goal.returns-in_err-proceed-clause-err
+returns-in_err-proceed-clause-err g c = let e = c.args.engine.now in let e1 = c.proceed.new.engine in let s = g.S.Sink.told c.args.out.now in let n = c.integer-n.result in
     let fits : FitsSigned w32 n = search rules in let other_fits : FitsSigned w32 c.from.result = search rules in
     let same : n ≡ pos e.mag_set = sym (to_z-of_z w32 n fits) ∙ ap (to_z w32) c.if-n-from.true ∙ to_z-of_z w32 c.from.result other_fits ∙ c.from.ensures in
-    let i = c.in_err-go_on in
-    same_err c.from_residual-in_err-go_on.result i.field-0.0 _ c.from_residual-in_err-go_on.ensures.1
+    let i = c.in_err-proceed in
+    same_err c.from_residual-in_err-proceed.result i.field-0.0 _ c.from_residual-in_err-proceed.ensures.1
     (λ sizes f book r rs st.
     in_by sizes _ e1 _ _ _ _ i.field-0.0 (same_moves (page_of e book) (noting r) n (sym c.integer-n.ensures) e.mag_set refl c.if-mag_set-eq0.false same)
-    (column_in sizes _ e1 f s e.in_line _ i.field-0.0 c.go_on.ensures.column (i.ensures.err sizes (world_of f s e) book r rs st)))
+    (column_in sizes _ e1 f s e.in_line _ i.field-0.0 c.proceed.ensures.column (i.ensures.err sizes (world_of f s e) book r rs st)))
 
 pub returns-clause-rule : goal.returns-clause-rule
 returns-clause-rule g c = let e = c.args.engine.now in let n = c.integer-n.result in let k = c.correct_magnification-2 in

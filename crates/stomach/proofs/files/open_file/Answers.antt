@@ -15,10 +15,10 @@ use Rattle.rows.specs.declared.command.Effect.{Effect}
 use Rattle.rows.specs.declared.command.Effect.TheVariants as effect
 use Rattle.reading_frames.specs.declared.ask.Ask.{Ask}
 use Rattle.reading_frames.specs.declared.ask.Ask.TheVariants as ask
-use Rattle.reading_frames.specs.Sees.{Lists, kept_list_of}
+use Rattle.reading_frames.specs.Views.{Lists, kept_list_of}
 use Rattle.reading_frames.specs.Stack.{asked_in, asked_of}
 use Rattle.reading_frames.specs.Stands as frames
-use Rattle.world_io.specs.Told.{world}
+use Rattle.world_io.specs.Contents.{world}
 use Rattle.engine_state.specs.declared.engine.Engine.{Engine}
 use Rattle.engine_state.specs.declared.outcome.Ruled.{Ruled}
 use Rattle.engine_state.specs.declared.broken.Broken.TheVariants as broken

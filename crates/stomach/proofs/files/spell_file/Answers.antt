@@ -3,7 +3,7 @@ use Rattle.std.specs.Prelude.{codes, None, Some}
 use Rattle.plain_tokens.specs.Tokens.{character_codes}
 use Rattle.plain_tokens.specs.Tables.{spelt_name, refused}
 use Rattle.command_words.specs.Words.{has, behind_area, file_name}
-use Rattle.reading_frames.specs.Sees.{kept_list_of}
+use Rattle.reading_frames.specs.Views.{kept_list_of}
 use Rattle.plain_machine.specs.States.{Spelt}
 use Rattle.plain_machine.specs.Does.{Did}
 use Rattle.input_state.specs.Stored.{Stored}

@@ -2,7 +2,7 @@ use Rattle.std.proofs.Common.{◌≡◌, ◌∙◌, [], ◌∷◌, refl, List, N
 use Rattle.equivalents.specs.declared.values.Val.TheVariants as val
 use Rattle.rows.specs.Readings.{ActsOn}
 use Rattle.rows.specs.declared.command.Effect.TheVariants.{SetList}
-use Rattle.reading_frames.specs.Sees.{kept_list_of, top_list}
+use Rattle.reading_frames.specs.Views.{kept_list_of, top_list}
 use Rattle.reading_frames.specs.Stack.{innermost_count}
 use Rattle.plain_machine.specs.States.{Move, Closed, ListSet, Set}
 use Rattle.plain_machine.specs.Plan.{is_global}
@@ -18,8 +18,8 @@ use Rattle.stomach.proofs.lists.set_list.Goals as goal
 
 -- A LIST WITH A TOKEN
 
-pub returns-in_err-pass_list-clause-err : goal.returns-in_err-pass_list-clause-err
-returns-in_err-pass_list-clause-err c = let e = c.args.engine.now in let e1 = c.pass_list.new.engine in let i = c.in_err-pass_list in let ts = kept_list_of c.args.listed e.input.builds in
+pub returns-in_err-assign_list-clause-err : goal.returns-in_err-assign_list-clause-err
+returns-in_err-assign_list-clause-err c = let e = c.args.engine.now in let e1 = c.assign_list.new.engine in let i = c.in_err-assign_list in let ts = kept_list_of c.args.listed e.input.builds in
     let some = c.if-has_token.ensures in
     let top = kept_top c.args.listed e.input.builds some in
     same_err c.from_residual.result (broken.Full i.field-0.0) _ c.from_residual.ensures.1
@@ -28,8 +28,8 @@ returns-in_err-pass_list-clause-err c = let e = c.args.engine.now in let e1 = c.
     in_by sizes s e1 w w _ _ (broken.Full i.field-0.0) (sets_some (page_of e book) c.args.call c.args.loc (top_list e.input.builds) ts top (λ none. some (top ∙ none)))
     (unmade_in sizes s e e1 e1 w moves (broken.Full i.field-0.0) (i.ensures.err sizes w book r rs st)))
 
-pub returns-in_ok-pass_list-clause-rule : goal.returns-in_ok-pass_list-clause-rule
-returns-in_ok-pass_list-clause-rule c = let e = c.args.engine.now in let e1 = c.pass_list.new.engine in let e2 = c.put_after.new.self in let n = c.put_after.ensures in let p = c.in_ok-pass_list.ensures in
+pub returns-in_ok-assign_list-clause-rule : goal.returns-in_ok-assign_list-clause-rule
+returns-in_ok-assign_list-clause-rule c = let e = c.args.engine.now in let e1 = c.assign_list.new.engine in let e2 = c.put_after.new.self in let n = c.put_after.ensures in let p = c.in_ok-assign_list.ensures in
     let ts = kept_list_of c.args.listed e.input.builds in
     let some = c.if-has_token.ensures in
     let top = kept_top c.args.listed e.input.builds some in
@@ -39,8 +39,8 @@ returns-in_ok-pass_list-clause-rule c = let e = c.args.engine.now in let e1 = c.
     went_by sizes s e2 w w _ _ 0 (sets_some (page_of e book) c.args.call c.args.loc (top_list e.input.builds) ts top (λ none. some (top ∙ none)))
     (behind_went sizes s e e1 e2 w moves (p.call ∙ st.uncalled.none) p.after n.frames (p.rule takes sizes w book r rs st own) n.others n.store idle did)) n.did n.idle
 
-pub returns-in_ok-pass_list-clause-err : goal.returns-in_ok-pass_list-clause-err
-returns-in_ok-pass_list-clause-err c = let e = c.args.engine.now in let e1 = c.pass_list.new.engine in let e2 = c.put_after.new.self in let n = c.put_after.ensures in let p = c.in_ok-pass_list.ensures in
+pub returns-in_ok-assign_list-clause-err : goal.returns-in_ok-assign_list-clause-err
+returns-in_ok-assign_list-clause-err c = let e = c.args.engine.now in let e1 = c.assign_list.new.engine in let e2 = c.put_after.new.self in let n = c.put_after.ensures in let p = c.in_ok-assign_list.ensures in
     let ts = kept_list_of c.args.listed e.input.builds in
     let some = c.if-has_token.ensures in
     let top = kept_top c.args.listed e.input.builds some in

@@ -2,9 +2,9 @@ use Rattle.std.proofs.Common.{◌∙◌, [], ◌∷◌, map, refl, ap, subst, So
 use Rattle.rows.specs.declared.command.Effect.{Effect}
 use Rattle.plain_tokens.specs.Tokens.{character_codes}
 use Rattle.rows.specs.Readings.{ActsOn}
-use Rattle.reading_frames.specs.Sees.{kept_list_of}
+use Rattle.reading_frames.specs.Views.{kept_list_of}
 use Rattle.equivalents.specs.Cases.{case_codes, case_changed}
-use Rattle.rows.specs.Suiting.{IsSmall}
+use Rattle.rows.specs.Suiting.{IsSuited}
 use Rattle.plain_machine.specs.Plan.{acts_on, put_text}
 use Rattle.plain_machine.proofs.Pulls.{text_none}
 use Rattle.plain_machine.specs.States.{Closed}
@@ -59,14 +59,14 @@ returns-in-SetList-clause-rule g c = let e = c.args.engine.now in let e' = c.set
     λ sizes f book r rs st asks.
     column_went sizes _ e' f _ e.in_line _ 0 c.set_list.ensures.column
     (went_by sizes _ e' _ _ _ _ 0 (ap (λ (x : Effect). acts_on (page_of e book) c.args.call x ts) is)
-    (i.rule (subst IsSmall is (small_gathered sizes e book r rs c.args.call c.args.effect ts st asks)) sizes _ book r rs st (asks ∙ ap (λ (x : Effect). Some (ActsOn c.args.call x ts)) is)))
+    (i.rule (subst IsSuited is (small_gathered sizes e book r rs c.args.call c.args.effect ts st asks)) sizes _ book r rs st (asks ∙ ap (λ (x : Effect). Some (ActsOn c.args.call x ts)) is)))
 
 pub returns-in_err-set_list-in-SetList-clause-err : goal.returns-in_err-set_list-in-SetList-clause-err
 returns-in_err-set_list-in-SetList-clause-err g c = let e = c.args.engine.now in let e' = c.set_list.new.engine in let i = c.in_err-set_list-in-SetList in let is = c.in-SetList.is in let ts = kept_list_of c.args.listed e.input.builds in
     same_err c.from_residual-in_err-set_list-in-SetList.result i.field-0.0 _ c.from_residual-in_err-set_list-in-SetList.ensures.1
     (λ sizes f book r rs st asks. in_by sizes _ e' _ _ _ _ i.field-0.0 (ap (λ (x : Effect). acts_on (page_of e book) c.args.call x ts) is)
     (column_in sizes _ e' f _ e.in_line _ i.field-0.0 c.set_list.ensures.column
-    (i.ensures.err (subst IsSmall is (small_gathered sizes e book r rs c.args.call c.args.effect ts st asks)) sizes _ book r rs st (asks ∙ ap (λ (x : Effect). Some (ActsOn c.args.call x ts)) is))))
+    (i.ensures.err (subst IsSuited is (small_gathered sizes e book r rs c.args.call c.args.effect ts st asks)) sizes _ book r rs st (asks ∙ ap (λ (x : Effect). Some (ActsOn c.args.call x ts)) is))))
 
 pub returns-in-SetList-clause-light : goal.returns-in-SetList-clause-light
 returns-in-SetList-clause-light g c free = λ asks. c.in_ok-set_list-in-SetList.ensures.light c.requires.uncalled (ActsOn c.args.call c.args.effect []) asks tt

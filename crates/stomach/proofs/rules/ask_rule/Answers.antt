@@ -4,7 +4,7 @@ use Rattle.tex_defs.specs.declared.Token.{Token}
 use Rattle.rows.specs.Readings as reading
 use Rattle.reading_frames.specs.Weights.{IsReported}
 use Rattle.reading_frames.specs.declared.ask.Ask.TheVariants.{More, Inner, Done, Acts, ActsOn, Defines, Ends, Tells, Inserts, Puts, Relaxes, Magnifies, Fetches}
-use Rattle.reading_frames.specs.Sees.{IsFetchedAt, kept_list_of}
+use Rattle.reading_frames.specs.Views.{IsFetchedAt, kept_list_of}
 use Rattle.plain_machine.specs.States.{no_files}
 use Rattle.engine_state.specs.Book.{with_work}
 use Rattle.engine_state.specs.Stands.{page_of}

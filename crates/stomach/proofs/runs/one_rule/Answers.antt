@@ -1,7 +1,7 @@
 use Rattle.std.proofs.Common.{◌≡◌, ◌∙◌, sym, ap, subst, Bool}
 use Rattle.std.specs.Prelude.{Ok, Result}
 use Rattle.plain_machine.specs.Extended.{Rests}
-use Rattle.world_io.specs.Told.{world}
+use Rattle.world_io.specs.Contents.{world}
 use Rattle.equivalents.specs.Parameters.{end_of_line}
 use Rattle.engine_state.proofs.CuttingReadings.{near_all}
 use Rattle.engine_state.specs.declared.engine.Engine.{Engine}

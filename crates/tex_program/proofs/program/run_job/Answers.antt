@@ -1,7 +1,7 @@
 use Rattle.std.proofs.Common.{◌≡◌, sym, false}
 use Rattle.plain_machine.specs.Meaning.{sizes_of}
 use Rattle.plain_machine.proofs.Doing.{wrote_none}
-use Rattle.world_io.specs.Told.{world}
+use Rattle.world_io.specs.Contents.{world}
 use Rattle.tex_program.proofs.Meanings.{means_by, means_no_room}
 use Rattle.tex_program.proofs.program.run_job.Goals as goal
 

@@ -1,7 +1,7 @@
 use Rattle.std.proofs.Common.{sym, subst, refl, false, inl}
 use Rattle.command_words.specs.Words.{Command}
 use Rattle.plain_machine.specs.Meaning.{Means}
-use Rattle.world_io.specs.Told.{world}
+use Rattle.world_io.specs.Contents.{world}
 use Rattle.tex_program.proofs.Meanings.{no_memory_means}
 use Rattle.tex_program.proofs.program.top.Goals as goal
 

@@ -2,7 +2,7 @@ use Rattle.std.proofs.Common.{sym, subst, Bool, None, false, ◌≤◌, arith}
 use Rattle.plain_machine.specs.Plan.{reports_room}
 use Rattle.plain_machine.specs.Does.{CutAt}
 use Rattle.plain_machine.specs.Meaning.{First}
-use Rattle.world_io.specs.Told.{world}
+use Rattle.world_io.specs.Contents.{world}
 use Rattle.engine_state.specs.Faults.{why_of}
 use Rattle.engine_state.specs.Book.{first_book}
 use Rattle.tex_program.specs.Says.{SaysSo}

@@ -1,7 +1,7 @@
 use Rattle.std.proofs.Common.{◌∙◌, sym, subst, ap, ℕ, Bool, refl, Some, false, arith}
 use Rattle.plain_machine.specs.Meaning.{First, Line, steps_line}
 use Rattle.plain_machine.specs.Extended.{first_left}
-use Rattle.world_io.specs.Told.{world}
+use Rattle.world_io.specs.Contents.{world}
 use Rattle.engine_state.specs.Rules.{world_of}
 use Rattle.stomach.specs.Ran.{Came, Ran, StoppedBy, RanTo, StoppedTo}
 use Rattle.stomach.proofs.Reading.{reads_map}

@@ -1,7 +1,7 @@
 use Rattle.std.proofs.Common.{◌∙◌, refl, [], None, false}
 use Rattle.plain_machine.specs.Meaning.{First}
 use Rattle.plain_machine.specs.States.{no_files}
-use Rattle.world_io.specs.Told.{content, world}
+use Rattle.world_io.specs.Contents.{content, world}
 use Rattle.engine_state.specs.Book.{first_book}
 use Rattle.tex_program.proofs.Meanings.{named, name_refused, told_files, means_told, bare, fault_rose}
 use Rattle.tex_program.proofs.run.run_file.Goals as goal

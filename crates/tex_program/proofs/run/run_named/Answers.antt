@@ -3,7 +3,7 @@ use Rattle.std.specs.Bool.{MatchBool}
 use Rattle.plain_machine.specs.States.{no_files}
 use Rattle.plain_machine.specs.Extended.{first_left}
 use Rattle.plain_machine.specs.Meaning.{First}
-use Rattle.world_io.specs.Told.{NotFound, world}
+use Rattle.world_io.specs.Contents.{NotFound, world}
 use Rattle.line_reader.specs.Readers.{OpensInnermost, KeepsReaders}
 use Rattle.engine_state.specs.declared.engine.Engine.{Engine}
 use Rattle.stomach.specs.Read.{AreTied}

@@ -1,6 +1,6 @@
 use Rattle.std.proofs.Common.{rules, arith, ◌≡◌, ◌∙◌, ◌+◌, ◌++◌, take, length, length-take, true, refl, sym, ap, subst, List, ℕ}
 use Rattle.std.specs.Prelude.{Err, is_ok, vec_len}
-use Rattle.world_io.specs.Told.{SoFar}
+use Rattle.world_io.specs.Contents.{SoFar}
 use Rattle.world_io.proofs.Reading.{so_far_none, so_far_read, so_far_whole, only_reads_none, only_reads_on, only_reads_same}
 use Rattle.world_io.proofs.whole.read_rest.Goals as goal
 

@@ -1,6 +1,6 @@
 use Rattle.std.proofs.Common.{◌≡◌, ◌≤◌, ◌-◌}
 use Rattle.std.specs.Prelude.{vec_len}
-use Rattle.world_io.specs.Told.{SoFar, OnlyReads}
+use Rattle.world_io.specs.Contents.{SoFar, OnlyReads}
 use Rattle.world_io.proofs.whole.read_rest.Given as goal
 
 abbrev pub invariant-loop-n : goal.invariant-loop-n

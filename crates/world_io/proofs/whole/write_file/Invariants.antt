@@ -1,6 +1,6 @@
 use Rattle.std.proofs.Common.{length, ◌-◌, ◌≡◌, ◌≤◌, take, List, ℕ}
 use Rattle.std.specs.Prelude.{Some}
-use Rattle.world_io.specs.Told.{Grew}
+use Rattle.world_io.specs.Contents.{Grew}
 use Rattle.world_io.proofs.whole.write_file.Given as goal
 
 abbrev pub invariant-loop-at : goal.invariant-loop-at

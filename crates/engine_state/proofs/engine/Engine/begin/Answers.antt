@@ -1,7 +1,7 @@
 use Rattle.std.proofs.Common.{[], length, ◌∙◌}
 use Rattle.std.specs.Prelude.{Some, None}
 use Rattle.plain_readings.specs.Readings.{lists, opened}
-use Rattle.reading_frames.specs.Sees.{kind_of}
+use Rattle.reading_frames.specs.Views.{kind_of}
 use Rattle.reading_frames.specs.Stands.{opened_lists}
 use Rattle.engine_state.proofs.ReadingsOpened.{begun_refusal, none_of, opened_words, opens, words_of}
 use Rattle.engine_state.proofs.engine.Engine.begin.Goals as goal
@@ -18,5 +18,5 @@ returns-clause-fits c = λ sizes book counts. let e = c.args.self.now in let o =
 
 pub returns-clause-stands : goal.returns-clause-stands
 returns-clause-stands c = λ sizes book st. let e = c.args.self.now in let o = c.args.opening in let b = c.in_default-begin.ensures in
-    opens sizes e c.begin_list.new.self book (opened (kind_of o) book.work) c.begin.new.self (opened_lists o e.input.builds) c.in_default-begin_list.ensures.ok b.size c.begin_list.ensures.macros
+    opens sizes e c.begin_list.new.self book (opened (kind_of o) book.work) c.begin.new.self (opened_lists o e.input.builds) c.in_default-begin_list.ensures.ok b.size c.begin_list.ensures.all_lists
     (b.begins e.input.builds book.work st.readings.frames) (b.shallow e.input.builds st.readings.shallow) st

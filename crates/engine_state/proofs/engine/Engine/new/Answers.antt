@@ -35,7 +35,7 @@ first_tied i g p =
 -- the first state, by its parts
 first_at : (pending : Pending) (groups : Groups) (names strings : List (List ℕ)) (gathered : List (List Token)) (making : Option (List Token)) (conditionals : List Conditional) (style : Style) (quiet : Bool) (file : List ℕ) (job : Option (List ℕ)) →
     pending ≡ record bottom { next = job } → groups ≡ first_groups is_known → names ≡ primitive_names → strings ≡ [] → gathered ≡ [] → making ≡ None → conditionals ≡ [] → style ≡ style_in (first_groups is_known).now primitive_names →
-    record { pending = pending; files = no_files; naming = false; groups = groups; names = names; strings = strings; macros = []; after = None; mag_set = 0; conditionals = conditionals; last = no_token; work = []; gathered = gathered; making = making; in_line = false; reports = 0; flawed = false; quiet = quiet; stopped = None; due = job_due style file job }
+    record { pending = pending; files = no_files; naming = false; groups = groups; names = names; strings = strings; all_lists = []; after = None; mag_set = 0; conditionals = conditionals; last = no_token; work = []; gathered = gathered; making = making; in_line = false; reports = 0; flawed = false; quiet = quiet; stopped = None; due = job_due style file job }
     ≡ first_state (first_groups is_known) quiet file job no_files
 first_at pending groups names strings gathered making conditionals style quiet file job a b c d e f g h = rw (a, b, c, d, e, f, g, h) refl
 

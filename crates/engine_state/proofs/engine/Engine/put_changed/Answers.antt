@@ -4,7 +4,7 @@ use Rattle.plain_machine.specs.States.{ListGrown}
 use Rattle.plain_machine.specs.Plan.{put_made, put_text}
 use Rattle.plain_machine.specs.Does.{Did}
 use Rattle.equivalents.specs.Cases.{case_codes, case_changed}
-use Rattle.reading_frames.specs.Sees.{kept_list_of}
+use Rattle.reading_frames.specs.Views.{kept_list_of}
 use Rattle.input_state.specs.HeldLists.{made}
 use Rattle.engine_state.specs.declared.broken.Broken.TheVariants as broken
 use Rattle.engine_state.specs.declared.engine.Engine.{Engine}
@@ -47,14 +47,14 @@ returns-clause-did c = let e = c.args.self.now in let e1 = c.begin_text.new.self
     on_ok c.end_text.result (λ h sizes w book counts idle.
     subst (λ (us : List Token). Did sizes (state_of e book) (state_of e3 book) w w (put_text us)) (sym (changed_behind e e1 book c.begin_text.ensures.front c.args.upper c.args.listed))
     (whole_did e e1 i2 ts b.begun c.begin_text.ensures.front c.begin_text.ensures.settled c.in_ok-some.ensures.ok sizes w book counts.sound (b.did sizes w book counts.sound) e3
-    (subst (λ (x : Engine). IsSound sizes x book.number book.macros → Did sizes (state_of x book) (state_of e3 book) w w (put_made (made x.input.making))) c.grow_changed.ensures.rest (h sizes w book)))) c.end_text.ensures.did
+    (subst (λ (x : Engine). IsSound sizes x book.number book.all_lists → Did sizes (state_of x book) (state_of e3 book) w w (put_made (made x.input.making))) c.grow_changed.ensures.rest (h sizes w book)))) c.end_text.ensures.did
 
 pub returns-clause-err : goal.returns-clause-err
 returns-clause-err c = let e = c.args.self.now in let e1 = c.begin_text.new.self in let i2 = c.grow_changed.new.self.input in let b = c.in_ok-begin_text.ensures in let e3 = c.end_text.new.self in let ts = changed_list c.args.upper c.args.listed e1.input in
     err_to c.end_text.result (λ y h sizes w book more counts idle.
     subst (λ (us : List Token). Cuts sizes (state_of e book) e3 book w w (put_text us ++ more) y) (sym (changed_behind e e1 book c.begin_text.ensures.front c.args.upper c.args.listed))
     (whole_cuts e e1 i2 ts b.begun c.begin_text.ensures.front c.begin_text.ensures.settled c.in_ok-some.ensures.ok sizes w book counts.sound (b.did sizes w book counts.sound) e3 y more
-    (subst (λ (x : Engine). IsSound sizes x book.number book.macros → Cuts sizes (state_of x book) e3 book w w (put_made (made x.input.making) ++ more) y) c.grow_changed.ensures.rest (h sizes w book more)))) c.end_text.ensures.err
+    (subst (λ (x : Engine). IsSound sizes x book.number book.all_lists → Cuts sizes (state_of x book) e3 book w w (put_made (made x.input.making) ++ more) y) c.grow_changed.ensures.rest (h sizes w book more)))) c.end_text.ensures.err
 
 pub returns-clause-front : goal.returns-clause-front
 returns-clause-front c = let e = c.args.self.now in let e1 = c.begin_text.new.self in let i2 = c.grow_changed.new.self.input in let b = c.in_ok-begin_text.ensures in let ts = changed_list c.args.upper c.args.listed e1.input in

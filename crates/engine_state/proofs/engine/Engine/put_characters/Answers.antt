@@ -39,14 +39,14 @@ returns-clause-did c = let e = c.args.self.now in let b = c.in_ok-begin_text.ens
     on_ok c.end_text.result (λ h sizes w book counts idle.
     subst (λ (cs : List ℕ). Did sizes (state_of e book) (state_of e3 book) w w (put_text (made_text cs))) (sym (characters_behind sizes e c.begin_text.new.self book c.begin_text.ensures.front counts.sound c.args.made))
     (whole_did c.args.self.now c.begin_text.new.self c.grow_made.new.self.input (made_text (characters_in c.begin_text.new.self c.args.made)) b.begun c.begin_text.ensures.front c.begin_text.ensures.settled c.in_ok-some.ensures.ok sizes w book counts.sound (b.did sizes w book counts.sound) e3
-    (subst (λ (x : Engine). IsSound sizes x book.number book.macros → Did sizes (state_of x book) (state_of e3 book) w w (put_made (made x.input.making))) c.grow_made.ensures.rest (h sizes w book)))) c.end_text.ensures.did
+    (subst (λ (x : Engine). IsSound sizes x book.number book.all_lists → Did sizes (state_of x book) (state_of e3 book) w w (put_made (made x.input.making))) c.grow_made.ensures.rest (h sizes w book)))) c.end_text.ensures.did
 
 pub returns-clause-err : goal.returns-clause-err
 returns-clause-err c = let e = c.args.self.now in let b = c.in_ok-begin_text.ensures in let e3 = c.end_text.new.self in
     err_to c.end_text.result (λ y h sizes w book more counts idle.
     subst (λ (cs : List ℕ). Cuts sizes (state_of e book) e3 book w w (put_text (made_text cs) ++ more) y) (sym (characters_behind sizes e c.begin_text.new.self book c.begin_text.ensures.front counts.sound c.args.made))
     (whole_cuts c.args.self.now c.begin_text.new.self c.grow_made.new.self.input (made_text (characters_in c.begin_text.new.self c.args.made)) b.begun c.begin_text.ensures.front c.begin_text.ensures.settled c.in_ok-some.ensures.ok sizes w book counts.sound (b.did sizes w book counts.sound) e3 y more
-    (subst (λ (x : Engine). IsSound sizes x book.number book.macros → Cuts sizes (state_of x book) e3 book w w (put_made (made x.input.making) ++ more) y) c.grow_made.ensures.rest (h sizes w book more)))) c.end_text.ensures.err
+    (subst (λ (x : Engine). IsSound sizes x book.number book.all_lists → Cuts sizes (state_of x book) e3 book w w (put_made (made x.input.making) ++ more) y) c.grow_made.ensures.rest (h sizes w book more)))) c.end_text.ensures.err
 
 pub returns-clause-frames : goal.returns-clause-frames
 returns-clause-frames c = let b = c.in_ok-begin_text.ensures in (front_join c.args.self.now (record c.begin_text.new.self { input = c.grow_made.new.self.input }) c.end_text.new.self (grown_front c.args.self.now c.begin_text.new.self c.grow_made.new.self.input (made_text (characters_in c.begin_text.new.self c.args.made)) b.begun c.begin_text.ensures.front c.begin_text.ensures.settled c.in_ok-some.ensures.ok) (subst (λ (x : Engine). IsInFront x c.end_text.new.self) c.grow_made.ensures.rest c.end_text.ensures.front)).frames

@@ -2,7 +2,7 @@ use Rattle.std.proofs.Common.{◌≡◌, ℕ, [], ap, ◌∙◌, true}
 use Rattle.plain_state.specs.Reports.{error_message_bytes}
 use Rattle.token_lists.specs.Ids.{build_id}
 use Rattle.token_show.specs.Views.{style_of}
-use Rattle.reading_frames.specs.Sees.{kept_list_of}
+use Rattle.reading_frames.specs.Views.{kept_list_of}
 use Rattle.engine_state.proofs.Reporting.{shown_is, listed_is, unlisted_is, err_out}
 use Rattle.engine_state.proofs.engine.Engine.write_error_message.Goals as goal
 use Rattle.engine_state.specs.Stands.{own_style}

@@ -1,6 +1,6 @@
 use Rattle.std.proofs.Common.{◌∙◌}
 use Rattle.input_stack.specs.View.{innermost}
-use Rattle.input_stack.proofs.Settled.{arguments_are}
+use Rattle.input_stack.proofs.ListsEnded.{arguments_are}
 use Rattle.input_stack.proofs.Tops.{arguments_in_use}
 use Rattle.input_stack.proofs.stack.InputStack.arguments.Goals as goal
 

@@ -8,7 +8,7 @@ use Rattle.tex_defs.specs.declared.Full.{Full}
 use Rattle.input_stack.specs.declared.level.Begun.{Begun}
 use Rattle.input_stack.specs.declared.level.Begun.TheVariants as begun
 use Rattle.input_stack.specs.Backs.{begun_holds, IsBegun, LacksMemory, Refuses}
-use Rattle.input_stack.specs.Pending.{settle, used_levels}
+use Rattle.input_stack.specs.Pending.{end_token_lists, used_levels}
 use Rattle.input_stack.specs.View.{innermost, pending, held}
 use Rattle.input_stack.proofs.Backs.{begun_pending, begun_read, settle_twice, put_back, back_refusal, back_room, fresh_is, still_held}
 use Rattle.input_stack.proofs.stack.InputStack.back.Goals as goal
@@ -164,7 +164,7 @@ returns-in-Err-push_list-clause-err c =
     let n = id_of c.in-Ok.list in
     let p = pending c.args.lists.now c.args.self.now in
     let q = begun_pending c.drop_finished.new.lists c.begun.new.lists (innermost c.drop_finished.new.self) (holds n) p e.stands.read b.account b.kept e.after in
-    c.in-Err-push_list.ensures.err ∙ ap settle q ∙ settle_twice p
+    c.in-Err-push_list.ensures.err ∙ ap end_token_lists q ∙ settle_twice p
 
 pub returns-in-Err-push_list-clause-refused : goal.returns-in-Err-push_list-clause-refused
 returns-in-Err-push_list-clause-refused c =

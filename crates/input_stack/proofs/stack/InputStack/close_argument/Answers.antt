@@ -3,7 +3,7 @@ use Rattle.std.proofs.lemmas.List.{length-set}
 use Rattle.input_stack.specs.View.{innermost, open_in}
 use Rattle.input_stack.proofs.Tops.{top_of, top_level, top_covers, fits_changed}
 use Rattle.input_stack.proofs.Lines.{top_set}
-use Rattle.input_stack.proofs.Settled.{open_cons}
+use Rattle.input_stack.proofs.ListsEnded.{open_cons}
 use Rattle.input_stack.proofs.Closed.{top_closed, closed_read, closed_all, closed_after, closed_held}
 use Rattle.input_stack.proofs.stack.InputStack.close_argument.Goals as goal
 

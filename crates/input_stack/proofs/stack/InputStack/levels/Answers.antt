@@ -1,7 +1,7 @@
 use Rattle.std.proofs.Common.{arith}
 use Rattle.std.proofs.lemmas.List.{length-reverse}
 use Rattle.input_stack.specs.View.{innermost}
-use Rattle.input_stack.proofs.Settled.{levels_are}
+use Rattle.input_stack.proofs.ListsEnded.{levels_are}
 use Rattle.input_stack.proofs.stack.InputStack.levels.Goals as goal
 
 pub returns : goal.returns

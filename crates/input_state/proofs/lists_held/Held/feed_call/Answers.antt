@@ -26,8 +26,8 @@ invariant_of-self c =
     let was : i.call ≡ call.Gathers name scan = sym c.replace.ensures.value ∙ c.into_scan-name.ensures in
     recalls_sound i.lists c.feed-call.new.lists i.stack i.making i.builds.items i.table i.call (call.Gathers c.into_scan-name.result.0 c.into_scan-name.result.1) c.feed-call.result.0 c.replace-2.new.dest i.sizes _ c.self.invariant was c.replace-2.ensures.after (c.feed-call.ensures.recalls i.table c.in-Some.ensures.list)
 
-pub returns-clause-macros : goal.returns-clause-macros
-returns-clause-macros c =
+pub returns-clause-all_lists : goal.returns-clause-all_lists
+returns-clause-all_lists c =
     let i = c.self.inside in
     let v = c.args.self.now in
     let name = c.into_scan-name.result.0 in

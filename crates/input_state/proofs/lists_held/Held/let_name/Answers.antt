@@ -1,7 +1,7 @@
 use Rattle.std.proofs.Common.{ℕ, refl, ap, ◌∙◌, Option}
 use Rattle.tex_defs.specs.declared.Meaning.{Meaning}
 use Rattle.plain_tokens.specs.Meanings.{meaning_to_let}
-use Rattle.meanings.specs.Kept.{numbered}
+use Rattle.meanings.specs.Kept.{numbered_meaning}
 use Rattle.equivalents.specs.declared.values.Val.TheVariants as val
 use Rattle.equivalents.specs.Groups.{set_name}
 use Rattle.equivalents.specs.Holding.{list_of}
@@ -21,20 +21,20 @@ invariant_of-self c =
     let i = c.self.inside in
     let t = c.to_let-meaning.ensures in
     let e = c.assign.ensures in
-    let_sound i.lists c.to_let-meaning.new.lists c.assign.new.lists i.stack (named i.table i.call) (named c.assign.new.table i.call) i.making i.builds.items i.sizes _ c.self.invariant c.args.self.now c.self.view_is (val.Meant (numbered c.to_let-meaning.result)) t.held t.account t.kept (shared_size i.lists c.to_let-meaning.new.lists _ t.after) c.args.global c.in_ok-loc.loc e.after refl (record { moves = e.account; keeps = e.kept; lasting = e.lasting; fewer = e.fewer; size = e.length }) c.requires.calls
+    let_sound i.lists c.to_let-meaning.new.lists c.assign.new.lists i.stack (named i.table i.call) (named c.assign.new.table i.call) i.making i.builds.items i.sizes _ c.self.invariant c.args.self.now c.self.view_is (val.Meant (numbered_meaning c.to_let-meaning.result)) t.held t.account t.kept (shared_size i.lists c.to_let-meaning.new.lists _ t.after) c.args.global c.in_ok-loc.loc e.after refl (record { moves = e.account; keeps = e.kept; lasting = e.lasting; fewer = e.fewer; size = e.length }) c.requires.calls
 
 pub returns-clause-ok : goal.returns-clause-ok
 returns-clause-ok c =
     let i = c.self.inside in
     let t = c.to_let-meaning.ensures in
     let e = c.assign.ensures in
-    let_view i.lists c.to_let-meaning.new.lists c.assign.new.lists i.stack (named i.table i.call) (named c.assign.new.table i.call) i.making i.builds.items i.sizes _ c.self.invariant c.args.self.now c.self.view_is (val.Meant (numbered c.to_let-meaning.result)) t.held t.account t.kept (shared_size i.lists c.to_let-meaning.new.lists _ t.after) c.args.global c.in_ok-loc.loc e.after refl (record { moves = e.account; keeps = e.kept; lasting = e.lasting; fewer = e.fewer; size = e.length })
-    ∙ named_groups c.args.global c.args.self.now c.args.name (numbered c.to_let-meaning.result) c.in_ok-loc.loc c.assign.new.lists c.in_ok-loc.ensures.place
+    let_view i.lists c.to_let-meaning.new.lists c.assign.new.lists i.stack (named i.table i.call) (named c.assign.new.table i.call) i.making i.builds.items i.sizes _ c.self.invariant c.args.self.now c.self.view_is (val.Meant (numbered_meaning c.to_let-meaning.result)) t.held t.account t.kept (shared_size i.lists c.to_let-meaning.new.lists _ t.after) c.args.global c.in_ok-loc.loc e.after refl (record { moves = e.account; keeps = e.kept; lasting = e.lasting; fewer = e.fewer; size = e.length })
+    ∙ named_groups c.args.global c.args.self.now c.args.name (numbered_meaning c.to_let-meaning.result) c.in_ok-loc.loc c.assign.new.lists c.in_ok-loc.ensures.place
     ∙ ap (λ (m : Meaning (Option ℕ)). record c.args.self.now { groups = set_name c.args.global c.args.self.now.groups c.args.name m; lists = texts c.assign.new.lists }) (t.same ∙ ap (λ (w : HeldLists). meaning_to_let w.groups.now.meanings c.args.x) c.self.view_is)
 
-pub returns-clause-macros : goal.returns-clause-macros
-returns-clause-macros c =
+pub returns-clause-all_lists : goal.returns-clause-all_lists
+returns-clause-all_lists c =
     let i = c.self.inside in
     let t = c.to_let-meaning.ensures in
     let e = c.assign.ensures in
-    let_macros i.lists c.to_let-meaning.new.lists c.assign.new.lists i.stack (named i.table i.call) (named c.assign.new.table i.call) i.making i.builds.items i.sizes _ c.self.invariant c.args.self.now c.self.view_is (val.Meant (numbered c.to_let-meaning.result)) t.held t.account t.kept (shared_size i.lists c.to_let-meaning.new.lists _ t.after) c.args.global c.in_ok-loc.loc e.after refl (record { moves = e.account; keeps = e.kept; lasting = e.lasting; fewer = e.fewer; size = e.length })
+    let_macros i.lists c.to_let-meaning.new.lists c.assign.new.lists i.stack (named i.table i.call) (named c.assign.new.table i.call) i.making i.builds.items i.sizes _ c.self.invariant c.args.self.now c.self.view_is (val.Meant (numbered_meaning c.to_let-meaning.result)) t.held t.account t.kept (shared_size i.lists c.to_let-meaning.new.lists _ t.after) c.args.global c.in_ok-loc.loc e.after refl (record { moves = e.account; keeps = e.kept; lasting = e.lasting; fewer = e.fewer; size = e.length })

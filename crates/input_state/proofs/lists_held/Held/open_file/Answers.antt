@@ -15,7 +15,7 @@ pub invariant_of-self : goal.invariant_of-self
 invariant_of-self c =
     let i = c.self.inside in
     let e = c.push_file.ensures in
-    open_sound i.lists c.push_file.new.lists i.stack c.push_file.new.self i.making i.builds.items (named i.table i.call) i.sizes _ c.self.invariant e.stands e.account e.kept e.lasting e.size e.parameter_size c.args.self.now c.self.view_is c.requires.settled _ c.args.line c.push_file.result e.ok e.err
+    open_sound i.lists c.push_file.new.lists i.stack c.push_file.new.self i.making i.builds.items (named i.table i.call) i.sizes _ c.self.invariant e.stands e.account e.kept e.lasting e.size e.parameter_size c.args.self.now c.self.view_is c.requires.without_ended _ c.args.line c.push_file.result e.ok e.err
 
 pub returns-clause-refused : goal.returns-clause-refused
 returns-clause-refused c =
@@ -29,16 +29,16 @@ pub returns-clause-ok : goal.returns-clause-ok
 returns-clause-ok c =
     let i = c.self.inside in
     let e = c.push_file.ensures in
-    open_ok i.lists c.push_file.new.lists i.stack c.push_file.new.self i.making i.builds.items (named i.table i.call) i.sizes _ c.self.invariant e.stands e.account e.kept e.lasting e.size e.parameter_size c.args.self.now c.self.view_is c.requires.settled _ c.args.line c.push_file.result e.ok e.err
+    open_ok i.lists c.push_file.new.lists i.stack c.push_file.new.self i.making i.builds.items (named i.table i.call) i.sizes _ c.self.invariant e.stands e.account e.kept e.lasting e.size e.parameter_size c.args.self.now c.self.view_is c.requires.without_ended _ c.args.line c.push_file.result e.ok e.err
 
 pub returns-clause-err : goal.returns-clause-err
 returns-clause-err c =
     let i = c.self.inside in
     let e = c.push_file.ensures in
-    open_err i.lists c.push_file.new.lists i.stack c.push_file.new.self i.making i.builds.items (named i.table i.call) i.sizes _ c.self.invariant e.stands e.account e.kept e.lasting e.size e.parameter_size c.args.self.now c.self.view_is c.requires.settled _ c.args.line c.push_file.result e.ok e.err
+    open_err i.lists c.push_file.new.lists i.stack c.push_file.new.self i.making i.builds.items (named i.table i.call) i.sizes _ c.self.invariant e.stands e.account e.kept e.lasting e.size e.parameter_size c.args.self.now c.self.view_is c.requires.without_ended _ c.args.line c.push_file.result e.ok e.err
 
-pub returns-clause-macros : goal.returns-clause-macros
-returns-clause-macros c =
+pub returns-clause-all_lists : goal.returns-clause-all_lists
+returns-clause-all_lists c =
     let i = c.self.inside in
     let e = c.push_file.ensures in
-    open_macros i.lists c.push_file.new.lists i.stack c.push_file.new.self i.making i.builds.items (named i.table i.call) i.sizes _ c.self.invariant e.stands e.account e.kept e.lasting e.size e.parameter_size c.args.self.now c.self.view_is c.requires.settled _ c.args.line c.push_file.result e.ok e.err
+    open_macros i.lists c.push_file.new.lists i.stack c.push_file.new.self i.making i.builds.items (named i.table i.call) i.sizes _ c.self.invariant e.stands e.account e.kept e.lasting e.size e.parameter_size c.args.self.now c.self.view_is c.requires.without_ended _ c.args.line c.push_file.result e.ok e.err

@@ -24,7 +24,7 @@ returns-in_default c =
     let groups = λ (x : Seen). sym (ap (λ (w : HeldLists). list_of (meaning_to_let w.groups.now.meanings x)) c.self.view_is) in
     let id = id_of c.in_default.field-0-0.now in
     first i.lists v.lists lists (meaning_to_let v.groups.now.meanings c.args.x) (meaning_to_let v.groups.now.meanings c.args.y) id
-    (groups c.args.x ∙ c.in_default.ensures.list) (c.self.invariant.shared.macros id c.in_default.ensures.held) (groups c.args.y ∙ c.in_default.ensures'.list)
+    (groups c.args.x ∙ c.in_default.ensures.list) (c.self.invariant.shared.all_lists id c.in_default.ensures.held) (groups c.args.y ∙ c.in_default.ensures'.list)
 
 pub returns-in_default-2 : goal.returns-in_default-2
 returns-in_default-2 c =
@@ -34,4 +34,4 @@ returns-in_default-2 c =
     let groups = λ (x : Seen). sym (ap (λ (w : HeldLists). list_of (meaning_to_let w.groups.now.meanings x)) c.self.view_is) in
     let id = id_of c.in_default.field-0-1.now in
     second i.lists v.lists lists (meaning_to_let v.groups.now.meanings c.args.x) (meaning_to_let v.groups.now.meanings c.args.y) id
-    (groups c.args.x ∙ c.in_default.ensures.list) (groups c.args.y ∙ c.in_default.ensures'.list) (c.self.invariant.shared.macros id c.in_default.ensures'.held)
+    (groups c.args.x ∙ c.in_default.ensures.list) (groups c.args.y ∙ c.in_default.ensures'.list) (c.self.invariant.shared.all_lists id c.in_default.ensures'.held)

@@ -4,7 +4,7 @@ use Rattle.equivalents.specs.Tables.{get}
 use Rattle.equivalents.specs.Groups.{set}
 use Rattle.equivalents.specs.Holding.{value_list}
 use Rattle.eqtb_save.specs.Table.{Table}
-use Rattle.eqtb_save.specs.Values.{numbered}
+use Rattle.eqtb_save.specs.Values.{numbered_value}
 use Rattle.eqtb_save.specs.Holding.{val_holds}
 use Rattle.input_state.specs.HeldLists.{HeldLists}
 use Rattle.input_state.specs.HeldViews.{named, texts}
@@ -27,20 +27,20 @@ invariant_of-self c =
     let t = c.shared-value.ensures in
     let e = c.assign.ensures in
     let same = ap (λ (w : HeldLists). get w.groups.now c.args.from) (sym c.self.view_is) ∙ sym t.same in
-    set_sound i.lists c.shared-value.new.lists c.assign.new.lists i.stack (named i.table i.call) (named c.assign.new.table i.call) i.making i.builds.items i.sizes _ c.self.invariant c.args.self.now c.self.view_is (numbered c.shared-value.result) (λ h. omega (arith, c.get-from.ensures.held h, ap (λ (v : V). val_holds v h) (t.same ∙ sym c.get-from.ensures.value))) t.account t.kept (shared_size i.lists c.shared-value.new.lists _ t.after) c.args.global c.args.loc e.after refl (record { moves = e.account; keeps = e.kept; lasting = e.lasting; fewer = e.fewer; size = e.length })
-    (ap (λ (k : Table). k.groups.now.meanings) e.after ∙ set_other c.args.global i.table.groups c.args.loc (numbered c.shared-value.result) (subst (Suits c.args.loc) same c.requires.suits) (no_meaning (numbered c.shared-value.result) (subst IsTokens same c.requires.list)))
+    set_sound i.lists c.shared-value.new.lists c.assign.new.lists i.stack (named i.table i.call) (named c.assign.new.table i.call) i.making i.builds.items i.sizes _ c.self.invariant c.args.self.now c.self.view_is (numbered_value c.shared-value.result) (λ h. omega (arith, c.get-from.ensures.held h, ap (λ (v : V). val_holds v h) (t.same ∙ sym c.get-from.ensures.value))) t.account t.kept (shared_size i.lists c.shared-value.new.lists _ t.after) c.args.global c.args.loc e.after refl (record { moves = e.account; keeps = e.kept; lasting = e.lasting; fewer = e.fewer; size = e.length })
+    (ap (λ (k : Table). k.groups.now.meanings) e.after ∙ set_other c.args.global i.table.groups c.args.loc (numbered_value c.shared-value.result) (subst (Suits c.args.loc) same c.requires.suits) (no_meaning (numbered_value c.shared-value.result) (subst IsTokens same c.requires.list)))
 
 pub returns-clause-ok : goal.returns-clause-ok
 returns-clause-ok c =
     let i = c.self.inside in
     let t = c.shared-value.ensures in
     let e = c.assign.ensures in
-    let_view i.lists c.shared-value.new.lists c.assign.new.lists i.stack (named i.table i.call) (named c.assign.new.table i.call) i.making i.builds.items i.sizes _ c.self.invariant c.args.self.now c.self.view_is (numbered c.shared-value.result) (λ h. omega (arith, c.get-from.ensures.held h, ap (λ (v : V). val_holds v h) (t.same ∙ sym c.get-from.ensures.value))) t.account t.kept (shared_size i.lists c.shared-value.new.lists _ t.after) c.args.global c.args.loc e.after refl (record { moves = e.account; keeps = e.kept; lasting = e.lasting; fewer = e.fewer; size = e.length })
+    let_view i.lists c.shared-value.new.lists c.assign.new.lists i.stack (named i.table i.call) (named c.assign.new.table i.call) i.making i.builds.items i.sizes _ c.self.invariant c.args.self.now c.self.view_is (numbered_value c.shared-value.result) (λ h. omega (arith, c.get-from.ensures.held h, ap (λ (v : V). val_holds v h) (t.same ∙ sym c.get-from.ensures.value))) t.account t.kept (shared_size i.lists c.shared-value.new.lists _ t.after) c.args.global c.args.loc e.after refl (record { moves = e.account; keeps = e.kept; lasting = e.lasting; fewer = e.fewer; size = e.length })
     ∙ ap (λ (v : V). let w : HeldLists = record c.args.self.now { groups = set c.args.global c.args.self.now.groups c.args.loc v; lists = texts c.assign.new.lists } in w) (t.same ∙ ap (λ (w : HeldLists). get w.groups.now c.args.from) c.self.view_is)
 
-pub returns-clause-macros : goal.returns-clause-macros
-returns-clause-macros c =
+pub returns-clause-all_lists : goal.returns-clause-all_lists
+returns-clause-all_lists c =
     let i = c.self.inside in
     let t = c.shared-value.ensures in
     let e = c.assign.ensures in
-    let_macros i.lists c.shared-value.new.lists c.assign.new.lists i.stack (named i.table i.call) (named c.assign.new.table i.call) i.making i.builds.items i.sizes _ c.self.invariant c.args.self.now c.self.view_is (numbered c.shared-value.result) (λ h. omega (arith, c.get-from.ensures.held h, ap (λ (v : V). val_holds v h) (t.same ∙ sym c.get-from.ensures.value))) t.account t.kept (shared_size i.lists c.shared-value.new.lists _ t.after) c.args.global c.args.loc e.after refl (record { moves = e.account; keeps = e.kept; lasting = e.lasting; fewer = e.fewer; size = e.length })
+    let_macros i.lists c.shared-value.new.lists c.assign.new.lists i.stack (named i.table i.call) (named c.assign.new.table i.call) i.making i.builds.items i.sizes _ c.self.invariant c.args.self.now c.self.view_is (numbered_value c.shared-value.result) (λ h. omega (arith, c.get-from.ensures.held h, ap (λ (v : V). val_holds v h) (t.same ∙ sym c.get-from.ensures.value))) t.account t.kept (shared_size i.lists c.shared-value.new.lists _ t.after) c.args.global c.args.loc e.after refl (record { moves = e.account; keeps = e.kept; lasting = e.lasting; fewer = e.fewer; size = e.length })

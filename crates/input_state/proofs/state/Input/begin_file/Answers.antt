@@ -5,7 +5,7 @@ use Rattle.std.specs.Option.{option_map}
 use Rattle.std.specs.Vec.{with_items}
 use Rattle.tex_defs.specs.declared.Sizes.{Sizes}
 use Rattle.plain_tokens.specs.Lines.{first_line}
-use Rattle.plain_tokens.specs.Puts.{settled}
+use Rattle.plain_tokens.specs.Puts.{without_ended}
 use Rattle.plain_tokens.specs.Pending.{line_ended, with_end, with_begun, begun_by}
 use Rattle.equivalents.specs.Parameters.{end_of_line}
 use Rattle.line_lexer.specs.declared.Line.{Line}
@@ -43,17 +43,17 @@ returns-clause-refused c =
     (omega (arith, c.if-cut-len.false, c.len.ensures, i.buffer.ok.0, t.size))
     ∙ sym c.room.ensures.refused ∙ c.in_default.is
 
-pub returns-in-Some-clause-macros : goal.returns-in-Some-clause-macros
-returns-in-Some-clause-macros c =
+pub returns-in-Some-clause-all_lists : goal.returns-in-Some-clause-all_lists
+returns-in-Some-clause-all_lists c =
     let i = c.self.inside in
-    keeps i.held c.room.new.self i.buffer.items i.buffer.items i.files i.files c.args.self.now c.self.view_is c.room.ensures.macros
+    keeps i.held c.room.new.self i.buffer.items i.buffer.items i.files i.files c.args.self.now c.self.view_is c.room.ensures.all_lists
 
-pub returns-clause-macros : goal.returns-clause-macros
-returns-clause-macros c =
+pub returns-clause-all_lists : goal.returns-clause-all_lists
+returns-clause-all_lists c =
     let i = c.self.inside in
     let buffer = with_items i.buffer c.put_line-length.new.buffer in
     keeps i.held c.open_file.new.self i.buffer.items buffer.items i.files c.begin.new.self c.args.self.now c.self.view_is
-    (held_twice i.held c.room.new.self c.open_file.new.self c.room.ensures.macros c.open_file.ensures.macros (ap (λ (w : HeldLists). w.groups) c.in-Ok.ensures.ok) (ap puts_held c.in-Ok.ensures.ok))
+    (held_twice i.held c.room.new.self c.open_file.new.self c.room.ensures.all_lists c.open_file.ensures.all_lists (ap (λ (w : HeldLists). w.groups) c.in-Ok.ensures.ok) (ap puts_held c.in-Ok.ensures.ok))
 
 pub returns-clause-ok : goal.returns-clause-ok
 returns-clause-ok c =
@@ -72,7 +72,7 @@ returns-clause-ok c =
     let d_is : buffer.items ≡ d = written i.buffer.len d i.buffer.items (c.put_line-length.auto.buffer ∙ ap length c.deref_mut.ensures.value ∙ sym i.buffer.ok.0) in
     let same_bytes : c.first_bytes-2.result.now ≡ bytes = same_Some c.first_bytes-2.result.now bytes (c.first_bytes-2.ensures ∙ sym c.first_bytes.ensures) in
     let pieces = cut_front lines count c.deref_mut.result.now d (line_ended end (take kept c.first_bytes-2.result.now)) (omega (arith, c.if-cut-len.false, c.len.ensures, ap length c.deref_mut.ensures.value, i.buffer.ok.0)) c.put_line-length.ensures.line in
-    let quiet : settled i.held.puts ≡ i.held.puts = ap (λ (v : Stored). settled v.pending.puts) c.self.view_is ∙ ap (λ p. p.puts) c.requires.settled ∙ sym (ap (λ (v : Stored). v.pending.puts) c.self.view_is) in
+    let quiet : without_ended i.held.puts ≡ i.held.puts = ap (λ (v : Stored). without_ended v.pending.puts) c.self.view_is ∙ ap (λ p. p.puts) c.requires.without_ended ∙ sym (ap (λ (v : Stored). v.pending.puts) c.self.view_is) in
     let front_is : c.room.new.self ≡ record i.held { lists = c.room.new.self.lists } = c.room.ensures.after ∙ ap (λ ps. let w : HeldLists = record i.held { puts = ps; lists = c.room.new.self.lists } in w) quiet in
     let end_is : end ≡ end_of_line s.groups.now =
     to_z-of_z w32 c.integer-end.result (search rules)

@@ -19,11 +19,11 @@ invariant_of-self c =
     let e = c.drop_front.ensures in
     read_tied i.held c.drop_front.new.self i.buffer.items buffer.items i.files [] e.after e.further (sym buffer.ok.0 ∙ i.buffer.ok.0) c.self.invariant
 
-pub returns-clause-macros : goal.returns-clause-macros
-returns-clause-macros c =
+pub returns-clause-all_lists : goal.returns-clause-all_lists
+returns-clause-all_lists c =
     let i = c.self.inside in
     let buffer = with_items i.buffer c.drop_front.new.bytes in
-    keeps i.held c.drop_front.new.self i.buffer.items buffer.items i.files i.files c.args.self.now c.self.view_is c.drop_front.ensures.macros
+    keeps i.held c.drop_front.new.self i.buffer.items buffer.items i.files i.files c.args.self.now c.self.view_is c.drop_front.ensures.all_lists
 
 pub returns-clause-outer : goal.returns-clause-outer
 returns-clause-outer c =

@@ -1,7 +1,7 @@
 use Rattle.input_state.proofs.Joined.{keeps}
 use Rattle.input_state.proofs.state.Input.open_group.Goals as goal
 
-pub returns-clause-macros : goal.returns-clause-macros
-returns-clause-macros c =
+pub returns-clause-all_lists : goal.returns-clause-all_lists
+returns-clause-all_lists c =
     let i = c.self.inside in
-    keeps i.held c.open_group.new.self i.buffer.items i.buffer.items i.files i.files c.args.self.now c.self.view_is c.open_group.ensures.macros
+    keeps i.held c.open_group.new.self i.buffer.items i.buffer.items i.files i.files c.args.self.now c.self.view_is c.open_group.ensures.all_lists

@@ -11,7 +11,7 @@ pub returns-in-Nothing-clause-ok : goal.returns-in-Nothing-clause-ok
 returns-in-Nothing-clause-ok c =
     let i = c.self.inside in
     let s = c.args.self.now in
-    (subst (λ (x : Step). GivesStep x s.pending) c.in-Nothing.is (step_gives i.held i.buffer.items i.files s c.step.result c.self.view_is c.step.ensures), sym c.requires.settled)
+    (subst (λ (x : Step). GivesStep x s.pending) c.in-Nothing.is (step_gives i.held i.buffer.items i.files s c.step.result c.self.view_is c.step.ensures), sym c.requires.without_ended)
 
 pub returns-in-Over-clause-ok : goal.returns-in-Over-clause-ok
 returns-in-Over-clause-ok c =
@@ -22,8 +22,8 @@ returns-in-Over-clause-ok c =
     ∙ ap (λ ss. FileOver (beneath ss)) (sym c.drop_front.ensures.outer)
     ∙ sym (ap (λ (v : Stored). FileOver v.pending) c.end_file.ensures)
 
-pub returns-in-Over-clause-macros : goal.returns-in-Over-clause-macros
-returns-in-Over-clause-macros c = over_keeps c.args.self.now c.drop_front.new.self c.end_file.new.self c.drop_front.ensures.macros c.drop_front.ensures.front c.end_file.ensures
+pub returns-in-Over-clause-all_lists : goal.returns-in-Over-clause-all_lists
+returns-in-Over-clause-all_lists c = over_keeps c.args.self.now c.drop_front.new.self c.end_file.new.self c.drop_front.ensures.all_lists c.drop_front.ensures.front c.end_file.ensures
 
 pub returns-in_ok-take_line-in-Line-clause-puts : goal.returns-in_ok-take_line-in-Line-clause-puts
 returns-in_ok-take_line-in-Line-clause-puts c = λ id.

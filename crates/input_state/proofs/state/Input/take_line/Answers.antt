@@ -39,12 +39,12 @@ drop_front-requires-clause-in_buffer c =
     let i = c.self.inside in
     rooms_in i.held.below i.files.files (length c.deref_mut.result.now) c.self.invariant.lines (omega (arith, c.self.invariant.room, ap length c.deref_mut.ensures.value))
 
-pub returns-clause-macros : goal.returns-clause-macros
-returns-clause-macros c =
+pub returns-clause-all_lists : goal.returns-clause-all_lists
+returns-clause-all_lists c =
     let i = c.self.inside in
     let buffer = with_items (with_items i.buffer c.drop_front.new.bytes) c.put_line-length.new.buffer in
-    keeps i.held c.begin_line.new.self i.buffer.items buffer.items i.files c.go_on.new.self c.args.self.now c.self.view_is
-    (line_keeps i.held c.drop_front.new.self c.begin_line.new.self c.line_start.result c.begin_line.ensures c.drop_front.ensures.macros)
+    keeps i.held c.begin_line.new.self i.buffer.items buffer.items i.files c.pass_line.new.self c.args.self.now c.self.view_is
+    (line_keeps i.held c.drop_front.new.self c.begin_line.new.self c.line_start.result c.begin_line.ensures c.drop_front.ensures.all_lists)
 
 some_files : (h : HeldLists) (b : List ℕ) (f : FilesLeft) (s : Stored) → stored_of h b f ≡ s → s.pending.file ≡ Begun → 0 < length f.files
 some_files h b f s is begun = begun_some f.files (ap (λ (v : Stored). v.pending.file) is ∙ begun)
@@ -59,9 +59,9 @@ invariant_of-self c =
     let cut = c.first_line-cut.ensures in
     let buffer = with_items (with_items i.buffer c.drop_front.new.bytes) c.put_line-length.new.buffer in
     let some = some_files i.held i.buffer.items i.files c.args.self.now c.self.view_is c.requires.«open» in
-    taken_tied i.held c.drop_front.new.self c.begin_line.new.self i.buffer.items c.drop_front.new.bytes buffer.items c.put_line-length.result c.first_line-cut.result.kept c.first_line-cut.result.used i.files c.go_on.new.self c.drop_front.ensures.after
+    taken_tied i.held c.drop_front.new.self c.begin_line.new.self i.buffer.items c.drop_front.new.bytes buffer.items c.put_line-length.result c.first_line-cut.result.kept c.first_line-cut.result.used i.files c.pass_line.new.self c.drop_front.ensures.after
     (c.begin_line.ensures ∙ ap (λ (l : Line). record c.drop_front.new.self { below = at_line l c.drop_front.new.self.below }) (c.line_start.ensures ∙ ap (λ (n : ℕ). line_at n c.put_line-length.result) c.lines_beneath-lines.ensures.is))
-    c.go_on.ensures c.drop_front.ensures.further t
+    c.pass_line.ensures c.drop_front.ensures.further t
     (some_lines i.held c.drop_front.new.self i.buffer.items i.files t c.drop_front.ensures.further some) some
     (omega (
       arith,
@@ -99,9 +99,9 @@ returns-clause-ok c =
     let line_is : take kept c.rest-2.result.now ≡ first_line (innermost i.files.files).rest =
     ap (take kept) (c.rest-2.ensures ∙ sym c.rest.ensures) ∙ cut.kept ∙ ap first_line c.rest.ensures in
     let stands : rest_of buffer.items (line_at lines count) ≡ line_ended end (take kept c.rest-2.result.now) = line_stands buffer.items (line_ended end (take kept c.rest-2.result.now)) lines count (ap (λ (xs : List ℕ). take count (drop lines xs)) d_is ∙ pieces.1) in
-    taken_pending i.held c.drop_front.new.self c.begin_line.new.self i.buffer.items m buffer.items count kept c.first_line-cut.result.used i.files c.go_on.new.self c.drop_front.ensures.after
+    taken_pending i.held c.drop_front.new.self c.begin_line.new.self i.buffer.items m buffer.items count kept c.first_line-cut.result.used i.files c.pass_line.new.self c.drop_front.ensures.after
     (c.begin_line.ensures ∙ ap (λ (l : Line). record c.drop_front.new.self { below = at_line l c.drop_front.new.self.below }) (c.line_start.ensures ∙ ap (λ (n : ℕ). line_at n count) c.lines_beneath-lines.ensures.is))
-    c.go_on.ensures c.drop_front.ensures.further t
+    c.pass_line.ensures c.drop_front.ensures.further t
     (some_lines i.held c.drop_front.new.self i.buffer.items i.files t c.drop_front.ensures.further some) some
     (end_of_line s.groups.now) s c.self.view_is c.requires.«open»
     (sym (ap (λ (n : ℕ). rest_of buffer.items (line_at n count)) c.lines_beneath-lines.ensures.is) ∙ stands ∙ ap₂ line_ended end_is line_is)

@@ -1,5 +1,5 @@
 use Rattle.std.proofs.Common.{◌≡◌, length}
-use Rattle.world_io.specs.Told.{FilesTold, SameCounts}
+use Rattle.world_io.specs.Contents.{FilesTold, SameCounts}
 use Rattle.line_reader.specs.Readers.{AreOpen, ClosesReaders}
 use Rattle.line_reader.proofs.readers.Readers.close_all.Given as goal
 

@@ -1,6 +1,6 @@
 use Rattle.std.proofs.Common.{◌∷◌, ap, ◌∙◌, refl}
 use Rattle.world_io.specs.declared.traits.InId.{InId}
-use Rattle.world_io.specs.Told.{SameFiles, OpensReader}
+use Rattle.world_io.specs.Contents.{SameFiles, OpensReader}
 use Rattle.line_reader.specs.Readers.{OpenReader}
 use Rattle.line_reader.proofs.OpenFiles.{some_of, none_of, opens, opens_open, opens_knows, keeps, agree_same, still_open, still_knows}
 use Rattle.line_reader.proofs.readers.Readers.open.Goals as goal

@@ -62,5 +62,5 @@ returns-then-self-eq0-clause-took c =
     (c.in_default.ensures.kept.1 ∙ ap (λ (k : ℕ). length (tokens_at c.keep.new.lists k)) (sym c.keep.ensures.same)) c.in_default.ensures.kept.2 c.in_default.ensures.kept.3
     (sym c.is_end.ensures ∙ c.if-is_end.true) c.if-self-eq0.true
 
-pub go_on-requires-clause-releases : goal.go_on-requires-clause-releases
-go_on-requires-clause-releases c = released (goal.at.go_on-requires-clause-releases c).After-released-out
+pub feed_on-requires-clause-releases : goal.feed_on-requires-clause-releases
+feed_on-requires-clause-releases c = released (goal.at.feed_on-requires-clause-releases c).After-released-out

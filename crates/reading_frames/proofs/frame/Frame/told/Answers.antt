@@ -1,6 +1,6 @@
 -- What reports, or has the magnification checked, goes on with less.
 use Rattle.std.proofs.Common.{[]}
-use Rattle.reading_frames.specs.Sees.{grown}
+use Rattle.reading_frames.specs.Views.{grown}
 use Rattle.reading_frames.proofs.Weights.{command_falls, number_falls, fraction_falls, dimension_falls, glue_falls, keyword_falls, build_falls}
 use Rattle.reading_frames.proofs.frame.Frame.told.Goals as goal
 

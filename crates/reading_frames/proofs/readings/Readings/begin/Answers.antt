@@ -1,6 +1,6 @@
 -- Those that were open stand beneath the one that begins.
 use Rattle.std.proofs.Common.{◌≡◌, List, [], ◌∷◌, reverse, subst, arith}
-use Rattle.reading_frames.specs.Sees.{kind_of}
+use Rattle.reading_frames.specs.Views.{kind_of}
 use Rattle.reading_frames.specs.Stack.{frames_of}
 use Rattle.reading_frames.specs.Stands.{FramesStand, opened_lists}
 use Rattle.reading_frames.specs.declared.frame.Frame.{Frame}

@@ -1,7 +1,7 @@
 use Rattle.std.proofs.Common.{[], ◌∷◌, ◌∙◌, arith}
 use Rattle.rows.specs.Readings.{Tok}
 use Rattle.plain_readings.specs.Readings.{lists}
-use Rattle.reading_frames.specs.Sees.{kind_of, on_top}
+use Rattle.reading_frames.specs.Views.{kind_of, on_top}
 use Rattle.reading_frames.specs.Stands.{opened_lists}
 use Rattle.reading_frames.proofs.Whole.{whole, opened_list}
 use Rattle.reading_frames.proofs.readings.Readings.begin_with.Goals as goal

@@ -4,7 +4,7 @@ use Rattle.rows.specs.declared.command.Call.{Call}
 use Rattle.rows.specs.Readings as reading
 use Rattle.row_frames.specs.declared.frame.RowFrame.{RowFrame}
 use Rattle.row_frames.specs.Data.{values}
-use Rattle.row_frames.specs.Sees.{fed_of}
+use Rattle.row_frames.specs.Views.{fed_of}
 use Rattle.row_frames.specs.Resumes.{turn_of}
 use Rattle.row_frames.proofs.Rows.{row_takes, row_leaves}
 use Rattle.row_frames.proofs.frame.RowFrame.+feed.Goals as goal

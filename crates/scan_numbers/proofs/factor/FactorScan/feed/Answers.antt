@@ -2,7 +2,7 @@ use Rattle.std.proofs.Common.{Bool, ◌∷◌, Option, Some, sym, ap, ◌∙◌}
 use Rattle.rows.specs.Readings.{Tok}
 use Rattle.plain_readings.specs.Factors.{is_point}
 use Rattle.scan_numbers.specs.Resumes.{resume}
-use Rattle.scan_numbers.specs.FactorSees.{decimal_behind}
+use Rattle.scan_numbers.specs.FactorViews.{decimal_behind}
 use Rattle.scan_numbers.specs.FactorResumes.{resume_at}
 use Rattle.scan_numbers.specs.declared.number.NumberScan.{NumberScan}
 use Rattle.scan_numbers.proofs.Factors.{stepped}

@@ -1,5 +1,5 @@
 use Rattle.std.proofs.Common.{ℕ, List, length, take_all, subst, sym, arith}
-use Rattle.world_io.specs.Told.{Grew}
+use Rattle.world_io.specs.Contents.{Grew}
 use Rattle.world_io.specs.Memory.{files_told}
 use Rattle.world_io.proofs.mem_files.MemFilesFiles.write.Goals as goal
 

@@ -5,7 +5,7 @@ use Rattle.equivalents.specs.declared.values.Loc.TheVariants as loc
 use Rattle.rows.specs.Arithmetic.{too_large}
 use Rattle.rows.specs.Internal.{IsFetchable}
 use Rattle.plain_readings.specs.Dimens as dimens
-use Rattle.plain_readings.specs.declared.measures.Amount.{Amount}
+use Rattle.plain_readings.specs.declared.measures.Quantity.{Quantity}
 use Rattle.plain_readings.specs.declared.measures.Measure.{Measure}
 use Rattle.scan_dimens.specs.declared.decimals.Digits.{Digits}
 use Rattle.scan_dimens.specs.declared.dimen.Inner.{Inner}
@@ -36,11 +36,11 @@ digits_of ds = take ds.count ds.values
 
 -- FACTORS: as they are read, and as `true` makes them, at a magnification of 1 at least
 
-pub record IsRead (a : Amount) : Type 0 where
+pub record IsRead (a : Quantity) : Type 0 where
   pub whole : a.whole ≤ 2147483647
   pub fraction : a.fraction ≤ 65536
 
-pub record IsMagnified (a : Amount) : Type 0 where
+pub record IsMagnified (a : Quantity) : Type 0 where
   pub whole : a.whole ≤ 2199023255552
   pub fraction : a.fraction ≤ 65536
 
@@ -52,14 +52,14 @@ pub record IsUnit (u : Measure) : Type 0 where
 
 -- WHAT IS KEPT at a place: a factor as it was read, one that `true` may have changed, a value and a location; elsewhere 0
 
-abbrev pub no_amount : Amount
+abbrev pub no_amount : Quantity
 no_amount = record { whole = 0; fraction = 0 }
 
-abbrev pub amount_sought : Sought → Amount
+abbrev pub amount_sought : Sought → Quantity
 amount_sought sought.Dimension = no_amount
 amount_sought (sought.Unit a) = a
 
-abbrev pub amount_read : DimenPlace → Amount
+abbrev pub amount_read : DimenPlace → Quantity
 amount_read (place.Point n) = record { whole = n; fraction = 0 }
 amount_read (place.Fraction n ds) = record { whole = n; fraction = 0 }
 amount_read (place.Numbered s b) = amount_sought s
@@ -77,7 +77,7 @@ amount_read (place.Magnification a) = a
 amount_read (place.MagnificationFetched a) = a
 amount_read p = no_amount
 
-abbrev pub amount_kept : DimenPlace → Amount
+abbrev pub amount_kept : DimenPlace → Quantity
 amount_kept (place.Physical n a) = a
 amount_kept (place.ScaledPoints a) = a
 amount_kept p = no_amount

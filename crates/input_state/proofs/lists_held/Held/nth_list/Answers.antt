@@ -1,7 +1,7 @@
 use Rattle.std.proofs.Common.{ap}
 use Rattle.input_state.specs.HeldLists.{HeldLists}
 use Rattle.input_state.proofs.ListNumbers.{number_held, number_tokens}
-use Rattle.input_state.proofs.lists_held.Held.list_number.Goals as goal
+use Rattle.input_state.proofs.lists_held.Held.nth_list.Goals as goal
 
 pub returns-clause-held : goal.returns-clause-held
 returns-clause-held c =

@@ -5,14 +5,14 @@ use Rattle.std.proofs.lemmas.List.Elements.{All-head, All-tail}
 use Rattle.std.proofs.lemmas.List.Sums.{sum_by-cons}
 use Rattle.tex_defs.specs.declared.Token.{Token}
 use Rattle.token_lists.specs.Table.{Entry}
-use Rattle.input_stack.specs.Puts.{Put, Item, Text, is_empty, settled, settled_top, later_of, count_of, standing, standing_of, standing_arguments, used, used_of, used_arguments, when_some}
+use Rattle.input_stack.specs.Puts.{Put, Item, Text, is_empty, without_ended, settled_top, later_of, count_of, standing, standing_of, standing_arguments, used, used_of, used_arguments, when_some}
 use Rattle.input_stack.specs.declared.level.Level.{Level}
 use Rattle.input_stack.specs.declared.level.Level.TheVariants as level
 use Rattle.input_stack.specs.Rest.{number, rest}
-use Rattle.input_stack.specs.Pending.{Pending, Below, with_puts, settle, levels, used_levels, arguments, used_parameters}
+use Rattle.input_stack.specs.Pending.{Pending, Below, with_puts, end_token_lists, levels, used_levels, arguments, used_parameters}
 use Rattle.token_lists.specs.declared.ListRef.{ListRef}
 use Rattle.input_stack.specs.declared.call.Call.{Call}
-use Rattle.input_stack.specs.Calls.{number_of}
+use Rattle.input_stack.specs.Calls.{argument_list}
 use Rattle.input_stack.specs.CallViews.{argument_in, arguments_in, put_of_call, IsCall, IsSettled}
 use Rattle.input_stack.specs.View.{pending_in, put_of, in_front, level_open, open_in, level_arguments, arguments_of}
 use Rattle.input_stack.specs.Standing.{IsLevel, IsUnfinished, AreUnfinished}
@@ -29,14 +29,14 @@ settled_same : (p : Put) (xs : List Item) (below rest : List Put) → p.items �
 settled_same p [] below rest at is = absurd is
 settled_same p (x ∷ xs) below rest at is = ap₂ (λ (o : Option ℕ) (ys : List Item). record { list = p.list; body = p.body; arguments = p.arguments; reading = o; items = ys } ∷ rest) (sym is) (sym at)
 
-settled_put : (p : Put) (q : Pending) → IsSettled p.reading p.items → settle (in_front p q) ≡ in_front p q
-settled_put p q is = ap (λ (ps : List Put). with_puts ps q) (settled_same p p.items (settled q.puts) q.puts refl is)
+settled_put : (p : Put) (q : Pending) → IsSettled p.reading p.items → end_token_lists (in_front p q) ≡ in_front p q
+settled_put p q is = ap (λ (ps : List Put). with_puts ps q) (settled_same p p.items (without_ended q.puts) q.puts refl is)
 
 -- an unfinished level on top stays
-pub head_settle : (table : List (Option Entry)) (l : Level) (ls : List Level) → IsUnfinished table l → settle (pending_in table (l ∷ ls)) ≡ pending_in table (l ∷ ls)
+pub head_settle : (table : List (Option Entry)) (l : Level) (ls : List Level) → IsUnfinished table l → end_token_lists (pending_in table (l ∷ ls)) ≡ pending_in table (l ∷ ls)
 head_settle table (level.List r) ls some =
     let q = pending_in table ls in
-    ap (λ (ps : List Put). with_puts ps q) (text_stays (number r) (rest table r) (settled q.puts) q.puts some)
+    ap (λ (ps : List Put). with_puts ps q) (text_stays (number r) (rest table r) (without_ended q.puts) q.puts some)
 head_settle table (level.Call c) ls is = settled_put (put_of_call table c) (pending_in table ls) is
 head_settle table (level.Source s) ls is = refl
 
@@ -48,11 +48,11 @@ settled_to p p' (x ∷ xs) below rest a k b at is =
     ∙ ap₂ (λ (o : Option ℕ) (ys : List Item). record { list = p'.list; body = p'.body; arguments = p'.arguments; reading = o; items = ys } ∷ rest) (sym is) (sym at)
 
 -- a list on top whose argument's level goes
-pub closed_settle : (p p' : Put) (q : Pending) → p'.list ≡ p.list → p'.body ≡ p.body → p'.arguments ≡ p.arguments → p'.items ≡ p.items → IsSettled p'.reading p.items → settle (in_front p q) ≡ in_front p' q
-closed_settle p p' q a k b at is = ap (λ (ps : List Put). with_puts ps q) (settled_to p p' p.items (settled q.puts) q.puts a k b at is)
+pub closed_settle : (p p' : Put) (q : Pending) → p'.list ≡ p.list → p'.body ≡ p.body → p'.arguments ≡ p.arguments → p'.items ≡ p.items → IsSettled p'.reading p.items → end_token_lists (in_front p q) ≡ in_front p' q
+closed_settle p p' q a k b at is = ap (λ (ps : List Put). with_puts ps q) (settled_to p p' p.items (without_ended q.puts) q.puts a k b at is)
 
 -- where nothing is finished on top, settling changes nothing
-pub unfinished_settle : (table : List (Option Entry)) (ls : List Level) → AreUnfinished table ls → settle (pending_in table ls) ≡ pending_in table ls
+pub unfinished_settle : (table : List (Option Entry)) (ls : List Level) → AreUnfinished table ls → end_token_lists (pending_in table ls) ≡ pending_in table ls
 unfinished_settle table [] a = refl
 unfinished_settle table (l ∷ ls) a = head_settle table l ls (All-head (IsUnfinished table) l ls a)
 
@@ -102,22 +102,22 @@ top_used : (p : Put) (xs : List Item) (below rest : List Put) → used below ≡
 top_used p [] below rest is = omega (arith, is)
 top_used p (x ∷ xs) below rest is = sum_by-cons (λ (q : Put). used_of q.items) (record { list = p.list; body = p.body; arguments = p.arguments; reading = later_of x; items = x ∷ xs }) rest
 
-used_settled : (ps : List Put) → used (settled ps) ≡ used ps
+used_settled : (ps : List Put) → used (without_ended ps) ≡ used ps
 used_settled [] = refl
-used_settled (p ∷ ps) = top_used p p.items (settled ps) ps (used_settled ps) ∙ sym (sum_by-cons (λ (q : Put). used_of q.items) p ps)
+used_settled (p ∷ ps) = top_used p p.items (without_ended ps) ps (used_settled ps) ∙ sym (sum_by-cons (λ (q : Put). used_of q.items) p ps)
 
 -- what settling takes away isn't used
-pub used_settle : (p : Pending) → used_levels (settle p) ≡ used_levels p
+pub used_settle : (p : Pending) → used_levels (end_token_lists p) ≡ used_levels p
 used_settle p = omega (arith, used_settled p.puts)
 
 -- ARGUMENTS
 
-count_length : (table : List (Option Entry)) (cells : List (Option ListRef)) (n : ℕ) → n ≤ length cells → length (map number_of (map (argument_in table) (take n cells))) ≡ n
+count_length : (table : List (Option Entry)) (cells : List (Option ListRef)) (n : ℕ) → n ≤ length cells → length (map argument_list (map (argument_in table) (take n cells))) ≡ n
 count_length table cells zero l = refl
 count_length table [] (suc n) l = absurd (omega arith)
 count_length table (c ∷ cells) (suc n) l = omega (arith, count_length table cells n (omega arith))
 
-pub put_count : (table : List (Option Entry)) (c : Call) → IsCall table c → length (map number_of (arguments_in table c.args)) ≡ c.args.count
+pub put_count : (table : List (Option Entry)) (c : Call) → IsCall table c → length (map argument_list (arguments_in table c.args)) ≡ c.args.count
 put_count table c a = count_length table c.args.lists c.args.count (omega (arith, a.filled.few, c.args.nine))
 
 -- the arguments of all calls that stand
@@ -159,9 +159,9 @@ top_arguments : (p : Put) (xs : List Item) (below rest : List Put) → used_argu
 top_arguments p [] below rest is = omega (arith, is)
 top_arguments p (x ∷ xs) below rest is = sum_by-cons (λ (q : Put). when_some q.items (length q.arguments)) (record { list = p.list; body = p.body; arguments = p.arguments; reading = later_of x; items = x ∷ xs }) rest
 
-arguments_settled : (ps : List Put) → used_arguments (settled ps) ≡ used_arguments ps
+arguments_settled : (ps : List Put) → used_arguments (without_ended ps) ≡ used_arguments ps
 arguments_settled [] = refl
-arguments_settled (p ∷ ps) = top_arguments p p.items (settled ps) ps (arguments_settled ps) ∙ sym (sum_by-cons (λ (q : Put). when_some q.items (length q.arguments)) p ps)
+arguments_settled (p ∷ ps) = top_arguments p p.items (without_ended ps) ps (arguments_settled ps) ∙ sym (sum_by-cons (λ (q : Put). when_some q.items (length q.arguments)) p ps)
 
-pub parameters_settle : (p : Pending) → used_parameters (settle p) ≡ used_parameters p
+pub parameters_settle : (p : Pending) → used_parameters (end_token_lists p) ≡ used_parameters p
 parameters_settle p = omega (arith, arguments_settled p.puts)

@@ -7,7 +7,7 @@ use Rattle.engine_state.proofs.Joining.{same_err}
 use Rattle.engine_state.proofs.Standing.{same_engine}
 use Rattle.stomach.proofs.Magnifying.{note_free}
 use Rattle.stomach.proofs.Telling.{noted_went, told_light}
-use Rattle.stomach.proofs.ends.go_on.Goals as goal
+use Rattle.stomach.proofs.ends.proceed.Goals as goal
 
 pub returns-in_err-note-clause-err : goal.returns-in_err-note-clause-err
 returns-in_err-note-clause-err c = let i = c.in_err-note in

@@ -3,11 +3,11 @@ use Rattle.rows.specs.Readings.{Defines}
 use Rattle.input_state.specs.Stored.{Stored}
 use Rattle.engine_state.proofs.Joining.{same_err}
 use Rattle.engine_state.proofs.Weighing.{acted_lighter}
-use Rattle.reading_frames.specs.Sees.{top_list}
+use Rattle.reading_frames.specs.Views.{top_list}
 use Rattle.stomach.proofs.Defining.{macro_went, lost_went, defined_cut}
 use Rattle.stomach.proofs.RuleCloses.{closed_lighter}
-use Rattle.stomach.proofs.define.pass_list.Goals as goal
-use Rattle.stomach.proofs.define.pass_list.Goals.{then-is_calling-via-then-is_calling, then-is_calling-via-else-is_calling+then-not-is_placed}
+use Rattle.stomach.proofs.define.assign_macro.Goals as goal
+use Rattle.stomach.proofs.define.assign_macro.Goals.{then-is_calling-via-then-is_calling, then-is_calling-via-else-is_calling+then-not-is_placed}
 
 -- THE NAME HAS NO LOCATION
 
@@ -32,7 +32,7 @@ returns-in_err-define-clause-err c = let i = c.in_err-define in
 pub returns-clause-rule : goal.returns-clause-rule
 returns-clause-rule c = let i = c.in_ok-define.ensures in let n = c.end.ensures in
     λ sizes w book r rs st own.
-    macro_went sizes c.args.engine.now book w r rs c.args.call c.args.name c.is_global-global.result c.end.new.self c.define.new.self (c.is_global-global.ensures book) c.requires.token n.rest n.stands n.shallow i.ok i.defines i.macros i.refused st own
+    macro_went sizes c.args.engine.now book w r rs c.args.call c.args.name c.is_global-global.result c.end.new.self c.define.new.self (c.is_global-global.ensures book) c.requires.token n.rest n.stands n.shallow i.ok i.defines i.all_lists i.refused st own
 
 pub returns-clause-light : goal.returns-clause-light
 returns-clause-light c = let e = c.args.engine.now in let n = c.end.ensures in

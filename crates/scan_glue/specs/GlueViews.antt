@@ -5,7 +5,7 @@ use Rattle.equivalents.specs.declared.values.Loc.{Loc}
 use Rattle.equivalents.specs.declared.values.Loc.TheVariants as loc
 use Rattle.equivalents.specs.Locations.{zero_glue}
 use Rattle.rows.specs.Internal.{IsFetchable}
-use Rattle.scan_dimens.specs.DimenSees.{IsDimension}
+use Rattle.scan_dimens.specs.DimenViews.{IsDimension}
 use Rattle.plain_readings.specs.Glues as glues
 use Rattle.scan_glue.specs.declared.glue.Inner.{Inner}
 use Rattle.scan_glue.specs.declared.glue.Inner.TheVariants as inner

@@ -10,8 +10,8 @@ use Rattle.macro_call.proofs.Cursors.{delimiter_within}
 use Rattle.macro_call.proofs.Tables.{length_within}
 use Rattle.macro_call.proofs.Taken.{depth_within, took_on, took_par, cut_out, cut_all, cut_last, out_front, out_all}
 use Rattle.macro_call.proofs.Undelimited.{not_first, not_second, both}
-use Rattle.macro_call.proofs.present.Present.go_on.Goals as goal
-use Rattle.macro_call.proofs.present.Present.go_on.Goals.{After-store, else-is_short-via-then-is_short+else-is_par, else-is_short-via-else-is_short}
+use Rattle.macro_call.proofs.present.Present.feed_on.Goals as goal
+use Rattle.macro_call.proofs.present.Present.feed_on.Goals.{After-store, else-is_short-via-then-is_short+else-is_par, else-is_short-via-else-is_short}
 
 pub behind-depth-requires : goal.behind-depth-requires
 behind-depth-requires c =

@@ -7,7 +7,7 @@ use Rattle.rows.specs.Internal.{IsFetchable}
 use Rattle.rows.specs.Readings as reading
 use Rattle.plain_readings.specs.Integers.{integer, is_digit}
 use Rattle.plain_readings.specs.Factors.{is_point}
-use Rattle.scan_numbers.specs.Sees.{IsInRange}
+use Rattle.scan_numbers.specs.Views.{IsInRange}
 use Rattle.scan_numbers.specs.Resumes.{resume}
 use Rattle.scan_numbers.specs.declared.number.NumberScan.{NumberScan}
 use Rattle.scan_numbers.specs.declared.factor.FactorAsk.{FactorAsk}

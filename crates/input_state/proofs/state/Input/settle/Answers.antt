@@ -1,7 +1,0 @@
-use Rattle.input_state.proofs.Joined.{keeps}
-use Rattle.input_state.proofs.state.Input.settle.Goals as goal
-
-pub returns-clause-macros : goal.returns-clause-macros
-returns-clause-macros c =
-    let i = c.self.inside in
-    keeps i.held c.settle.new.self i.buffer.items i.buffer.items i.files i.files c.args.self.now c.self.view_is c.settle.ensures.macros
