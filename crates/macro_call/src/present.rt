@@ -60,16 +60,22 @@ fn built_len(lists: &Lists, build: &Build) -> usize
     from.index()
 }
 
-// How many tokens a delimiter has.
-fn delimiter_len(lists: &Lists, list: &ListRef, delimiter: Cursor) -> usize
+// Whether a delimiter has one token more than so many. The call walks along these, and looks at the next two.
+fn has_one_more(lists: &Lists, list: &ListRef, delimiter: Cursor, count: usize) -> bool
     requires { IsOn lists.now (id_of list.now) delimiter }
-    ensures { result ≡ length (delimiter_at lists.now (id_of list.now) delimiter) }
+    ensures { IsTrue result ↔ (count + 1 ≡ length (delimiter_at lists.now (id_of list.now) delimiter)) }
 {
     let mut from = delimiter;
-    while let Some((_, next)) = from.next_along(lists) {
+    for _i in 0..count {
+        let Some((_, next)) = from.next_along(lists) else {
+            return false;
+        };
         from = next;
     }
-    from.index() - delimiter.index()
+    match from.next_along(lists) {
+        Some((_, next)) => next.next_along(lists).is_none(),
+        None => false,
+    }
 }
 
 impl Present {
@@ -190,11 +196,7 @@ impl Present {
         requires { IsOn lists.now (id_of list.now) delimiter }
         ensures { IsTrue result ↔ ((out ≡ 0) × (self.now.matched + 1 ≡ length (delimiter_at lists.now (id_of list.now) delimiter))) }
     {
-        if out > 0 {
-            return false;
-        }
-        let len = delimiter_len(lists, list, delimiter);
-        len > 0 && self.matched == len - 1
+        out == 0 && has_one_more(lists, list, delimiter, self.matched)
     }
 
     // A token that is no part of a whole match and no extra brace.
