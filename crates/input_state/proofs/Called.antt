@@ -1,6 +1,6 @@
 -- A call begins and takes tokens.
-use Rattle.std.proofs.Common.{◌≡◌, ℕ, ◌+◌, ◌<◌, ◌≤◌, List, [], ◌∷◌, length, drop, map, take, Bool, true, Option, None, Some, Result, Ok, Err, refl, sym, ap, ap₂, ◌∙◌, subst, arith}
-use Rattle.std.specs.Prelude.{if◌then◌else◌, IfOk, OnOk, OnErr, IfErr, option_map}
+use Rattle.std.proofs.Common.{◌≡◌, ℕ, ◌+◌, ◌<◌, ◌≤◌, List, [], ◌∷◌, length, drop, map, take, Bool, true, Option, None, Some, Result, Ok, Err, inl, inr, refl, sym, ap, ap₂, ◌∙◌, subst, arith}
+use Rattle.std.specs.Prelude.{if◌then◌else◌, IfOk, OnOk, IfErr, option_map}
 use Rattle.std.proofs.lemmas.Option.{none-some, same_Some}
 use Rattle.std.proofs.lemmas.List.Sums.{sum_by-append}
 use Rattle.tex_defs.specs.declared.Token.{Token}
@@ -9,18 +9,23 @@ use Rattle.tex_defs.specs.declared.Full.{Full}
 use Rattle.tex_defs.specs.declared.Sizes.{Sizes}
 use Rattle.tex_defs.specs.declared.Meaning.{Meaning}
 use Rattle.tex_defs.specs.declared.Meaning.TheVariants as means
-use Rattle.plain_tokens.specs.Arguments.{ParMode, begins_with_place, start_of}
+use Rattle.plain_tokens.specs.Arguments.{ParMode, Called, arguments, begins_with_place, start_of}
 use Rattle.plain_tokens.specs.Meanings.{name_meaning}
 use Rattle.plain_tokens.specs.Tables.{lists_words, list_words, memory, refused}
 use Rattle.token_lists.specs.declared.Build.{Build}
-use Rattle.token_lists.specs.Table.{Entry, tokens_at}
+use Rattle.token_lists.specs.Table.{Entry, tokens_at, holders_at}
+use Rattle.token_lists.specs.Accounts.{Keeps, Moves, none}
 use Rattle.token_lists.specs.Refusals.{IsFull}
-use Rattle.macro_args.specs.Args.{cell_tokens}
+use Rattle.macro_args.specs.declared.args.Args.{Args}
+use Rattle.macro_args.specs.Args.{args_in, args_hold, cell_tokens}
 use Rattle.macro_call.specs.declared.present.Present.{Present}
 use Rattle.macro_call.specs.declared.scan.ArgScan.{ArgScan}
+use Rattle.macro_call.specs.declared.scan.ArgAsk.{ArgAsk}
+use Rattle.macro_call.specs.declared.scan.ArgAsk.TheVariants as ask
 use Rattle.macro_call.specs.Stages.{stage_of}
-use Rattle.macro_call.specs.PlainScans.{Scan, first_scan}
-use Rattle.macro_call.specs.Scans.{IsSound as IsStanding, IsInPlace, scan_of, scan_holds}
+use Rattle.macro_call.specs.Modes.{par_mode}
+use Rattle.macro_call.specs.PlainScans.{Scan, first_scan, resume_scan, with_work, places_left}
+use Rattle.macro_call.specs.Scans.{Answers, IsCutShort, IsSound as IsStanding, IsInPlace, scan_of, scan_holds}
 use Rattle.macro_call.proofs.Resumed.{has_lists}
 use Rattle.eqtb_save.specs.Table.{Table}
 use Rattle.equivalents.specs.Groups.{Groups}
@@ -30,14 +35,16 @@ use Rattle.input_stack.specs.declared.stack.InputStack.{InputStack}
 use Rattle.input_state.specs.HeldLists.{HeldLists, words_held}
 use Rattle.input_state.specs.Macros.{list_at}
 use Rattle.input_state.specs.Calls.{macro_text, text_of, begun_lists}
-use Rattle.input_state.specs.Callings.{Calling, NotCalling, Gathering, call_lists, scan_lists}
-use Rattle.input_state.specs.CallFeeds.{Comes, Feeds, CutTo, CutShort, growth, scan_growth, IsTaking}
+use Rattle.input_state.specs.Callings.{Calling, NotCalling, Gathering, Stopped, Gathered, call_lists, scan_lists}
+use Rattle.input_state.specs.CallFeeds.{Comes, Feeds, CutTo, CutShort, InGrowth, Between, growth, scan_growth, IsTaking}
 use Rattle.input_state.specs.Recalls.{Recalls}
 use Rattle.input_state.specs.declared.gathering.Gathering as code
 use Rattle.input_state.specs.declared.gathering.Gathering.TheVariants as call
 use Rattle.input_state.specs.declared.answer.CallTold.{CallTold}
+use Rattle.input_state.specs.declared.answer.CallTold.TheVariants as tell
 use Rattle.input_state.specs.HeldViews.{Named, calling_of, texts, lists_of, IsCall, IsScanning, IsSound}
-use Rattle.input_state.proofs.Sharing.{text_at}
+use Rattle.input_state.proofs.CallStays.{args_stay}
+use Rattle.input_state.proofs.Sharing.{Stay, text_at}
 use Rattle.input_state.proofs.Sounds.{full_now}
 use Rattle.input_state.proofs.Growing.{begun_words, growth_fits}
 use Rattle.input_state.proofs.Refusing.{memory_room}
@@ -55,11 +62,11 @@ text_by lists (means.Prim number) id is = absurd (none-some id is)
 text_by lists (means.Macro long outer None) id is = absurd (none-some id is)
 text_by lists (means.Macro long outer (Some i)) id is = ap (list_at lists) (same_Some i id is)
 
+own_text : (table : List (Option Entry)) (m : Table) (name : Name) (id : ℕ) → list_of (name_meaning m.groups.now.meanings name) ≡ Some id → tokens_at table id ≡ text_of (texts table) m.groups.now.meanings name
+own_text table m name id is = sym (text_at table id) ∙ sym (text_by (texts table) (name_meaning m.groups.now.meanings name) id is)
+
 pub named_text : (table : List (Option Entry)) (m : Table) (name : Name) (id : ℕ) (v : HeldLists) → list_of (name_meaning m.groups.now.meanings name) ≡ Some id → texts table ≡ v.lists → m.groups ≡ v.groups → tokens_at table id ≡ text_of v.lists v.groups.now.meanings name
-named_text table m name id v is lists groups =
-    sym (text_at table id)
-    ∙ sym (text_by (texts table) (name_meaning m.groups.now.meanings name) id is)
-    ∙ ap₂ (λ (ls : List (List Token)) (g : Groups). text_of ls g.now.meanings name) lists groups
+named_text table m name id v is lists groups = own_text table m name id is ∙ ap₂ (λ (ls : List (List Token)) (g : Groups). text_of ls g.now.meanings name) lists groups
 
 -- A CALL BEGINS
 
@@ -75,6 +82,64 @@ begun_fits v text name mode used none all within =
 pub begun_full : (v : HeldLists) (text : List Token) (f : Full) → begins_with_place text ≡ true → refused v.sizes (memory 1 (words_held v) ∷ []) ≡ Some f → refused v.sizes (memory (lists_words (begun_lists text)) (words_held v) ∷ []) ≡ Some f
 begun_full v text f is full = ap (λ (n : ℕ). refused v.sizes (memory n (words_held v) ∷ [])) (begun_one text is) ∙ full
 
+-- WHAT A SCANNER ANSWERS
+
+-- The scanner stands over the list of this macro, which stays.
+module _ (table after : List (Option Entry)) (id : ℕ) (name : Name) (scan next : ArgScan) (t : Token) (sound : IsStanding table id scan) where
+  more_comes : Answers table after id scan next t ask.More → Comes (tokens_at table id) t tell.More name (scan_of table scan) (Gathering name (scan_of after next))
+  more_comes a = (
+    refl,
+    record {
+      stands = record { says = sym a.answers; args = a.args; work = a.work };
+      more = refl;
+      same = λ fed. (a.goes_on tt).same fed ∙ ap (λ (ts : List Token). resume_scan ts (scan_of after next) fed) (a.kept.tokens id sound.outside);
+    },
+  )
+
+  brace_comes : Answers table after id scan next t ask.ExtraBrace → Comes (tokens_at table id) t tell.ExtraBrace name (scan_of table scan) (Gathering name (scan_of after next))
+  brace_comes a = (
+    refl,
+    record {
+      stands = record { says = sym a.answers; args = a.args; work = a.work };
+      more = refl;
+      same = λ fed. (a.goes_on tt).same fed ∙ ap (λ (ts : List Token). resume_scan ts (scan_of after next) fed) (a.kept.tokens id sound.outside);
+    },
+  )
+
+  mismatch_comes : Answers table after id scan next t ask.Mismatch → Comes (tokens_at table id) t tell.Mismatch name (scan_of table scan) (Stopped name (scan_of after next))
+  mismatch_comes a = (refl, record { stands = record { says = sym a.answers; args = a.args; work = a.work }; closed = refl })
+
+  ended_comes : (silent : Bool) → Answers table after id scan next t (ask.ParEnded silent) → Comes (tokens_at table id) t (tell.ParEnded silent) name (scan_of table scan) (Stopped name (scan_of after next))
+  ended_comes silent a = (refl, record { stands = record { says = sym a.answers; args = a.args; work = a.work }; closed = refl })
+
+  -- what is left of the scanner goes
+  called_comes : (args : Args) (last : List (Option Entry)) → Answers table after id scan next t (ask.Called args) → Moves after last (scan_holds next) none → Keeps after last (scan_holds next) →
+      Comes (tokens_at table id) t tell.Gathered name (scan_of table scan) (Gathered name (args_in last args))
+  called_comes args last a moves kept =
+      let counted : (h : ℕ) → 0 < args_hold args h → scan_holds next h < holders_at after h = λ h some. omega (arith, some, a.hands.spent h, a.moves h, sound.owns h) in
+      let stay : Stay after last (args_hold args) = record {
+        tokens = λ h some. kept.tokens h (counted h some);
+        places = λ h some. kept.places h (counted h some);
+        holders = λ h some. omega (arith, counted h some, moves h, a.hands.spent h);
+      } in
+      (refl, refl, sym a.answers ∙ ap (λ (all : List (List Token)). Called all) (sym (args_stay after last args stay)))
+
+  cut_comes : IsCutShort table after id scan next t → CutTo (tokens_at table id) t name (scan_of table scan) (Stopped name (scan_of after next))
+  cut_comes c = (
+    refl,
+    elim c.stage [
+      | inl g ↦ InGrowth (record { was = g.was; front = g.part.front; behind = g.part.behind; before = g.before; whole = g.part.whole; some = g.part.some; after = g.scan ∙ ap (λ (ts : List Token). with_work (scan_of table scan) ts) g.part.grown })
+      | inr b ↦ Between (record {
+        none = ap (λ (p : Option Present). option_map (λ q. stage_of after q) p) b.none;
+        mode = ap par_mode b.mode;
+        settled = b.settled;
+        args = b.args;
+        due = b.due;
+        same = λ fed. b.same fed ∙ ap (λ (ts : List Token). arguments (par_mode next.mode) (args_in after next.args) (places_left (args_in after next.args) (drop next.cursor.index ts)) fed) (c.kept.tokens id sound.outside);
+      })
+    ],
+  )
+
 -- A TOKEN IS FED
 
 pub is_scanning : (table : List (Option Entry)) (k : code.Gathering) → IsTaking (calling_of table k) → IsScanning k
@@ -83,24 +148,54 @@ is_scanning table (call.Gathers name scan) is = tt
 is_scanning table (call.Stopped name scan) is = is
 is_scanning table (call.Gathered name args) is = is
 
-module _ (text : Name → List Token) (here : List Token) (t : Token) (name : Name) (scan : Scan) (old : Calling) (was : old ≡ Gathering name scan) (new : Calling) (same : here ≡ text name) where
-  fed_one : (told : CallTold) → Comes here t told name scan new → Feeds text t told old new
-  fed_one told is = subst (λ (c : Calling). Feeds text t told c new) (sym was) (subst (λ (ts : List Token). Comes ts t told name scan new) same is)
-
-  pub fed_ok : (r : Result CallTold Full) → IfOk r (λ told. Comes here t told name scan new) → IfOk r (λ told. Feeds text t told old new)
-  fed_ok (Ok told) is = fed_one told is
-  fed_ok (Err f) is = tt
-
-  pub fed_err : (r : Result CallTold Full) → OnErr r (CutTo here t name scan new) → OnErr r (CutShort text t old new)
-  fed_err (Ok told) is = tt
-  fed_err (Err f) is = subst (λ (c : Calling). CutShort text t c new) (sym was) (subst (λ (ts : List Token). CutTo ts t name scan new) same is)
-
-  pub growth_is : growth text t old ≡ scan_growth here t scan
-  growth_is = ap (growth text t) was ∙ ap (λ (ts : List Token). scan_growth ts t scan) (sym same)
+growth_is : (text : Name → List Token) (here : List Token) (t : Token) (name : Name) (scan : Scan) (old : Calling) → old ≡ Gathering name scan → here ≡ text name → growth text t old ≡ scan_growth here t scan
+growth_is text here t name scan old was same = ap (growth text t) was ∙ ap (λ (ts : List Token). scan_growth ts t scan) (sym same)
 
 -- over the list of its name
 pub same_sound : (table : List (Option Entry)) (m : Table) (name : Name) (id : ℕ) (scan : ArgScan) → list_of (name_meaning m.groups.now.meanings name) ≡ Some id → IsCall table m (call.Gathers name scan) → IsStanding table id scan
 same_sound table m name id scan list is = subst (λ (k : ℕ). IsStanding table k scan) (same_Some is.id id (sym is.list ∙ list)) is.sound
+
+-- What the scanner of a call answers is what the call comes to.
+module _ (table after : List (Option Entry)) (m : Table) (k : code.Gathering) (id : ℕ) (name : Name) (scan next : ArgScan) (x t : Token) (is : IsCall table m k) (was : k ≡ call.Gathers name scan) (list : list_of (name_meaning m.groups.now.meanings name) ≡ Some id) (same : x ≡ t) where
+  standing : IsStanding table id scan
+  standing = same_sound table m name id scan list (subst (IsCall table m) was is)
+
+  said : (a b : ArgAsk) → a ≡ b → Answers table after id scan next x a → Answers table after id scan next t b
+  said a b says answers = subst (λ (c : ArgAsk). Answers table after id scan next t c) says (subst (λ (y : Token). Answers table after id scan next y a) same answers)
+
+  feeds : (told : CallTold) (l n : code.Gathering) → l ≡ n → Comes (tokens_at table id) t told name (scan_of table scan) (calling_of after n) → Feeds (text_of (texts table) m.groups.now.meanings) t told (calling_of table k) (calling_of after l)
+  feeds told l n now comes =
+      subst (λ (g : code.Gathering). Feeds (text_of (texts table) m.groups.now.meanings) t told (calling_of table g) (calling_of after l)) (sym was)
+      (subst (λ (g : code.Gathering). Comes (text_of (texts table) m.groups.now.meanings name) t told name (scan_of table scan) (calling_of after g)) (sym now)
+      (subst (λ (ts : List Token). Comes ts t told name (scan_of table scan) (calling_of after n)) (own_text table m name id list) comes))
+
+  pub more_feeds : (a : ArgAsk) → a ≡ ask.More → Answers table after id scan next x a → Feeds (text_of (texts table) m.groups.now.meanings) t tell.More (calling_of table k) (calling_of after (call.Gathers name next))
+  more_feeds a says answers = feeds tell.More (call.Gathers name next) (call.Gathers name next) refl (more_comes table after id name scan next t standing (said a ask.More says answers))
+
+  pub brace_feeds : (a : ArgAsk) → a ≡ ask.ExtraBrace → Answers table after id scan next x a → Feeds (text_of (texts table) m.groups.now.meanings) t tell.ExtraBrace (calling_of table k) (calling_of after (call.Gathers name next))
+  brace_feeds a says answers = feeds tell.ExtraBrace (call.Gathers name next) (call.Gathers name next) refl (brace_comes table after id name scan next t standing (said a ask.ExtraBrace says answers))
+
+  module _ (l : code.Gathering) (stops : l ≡ call.Stopped name next) where
+    pub mismatch_feeds : (a : ArgAsk) → a ≡ ask.Mismatch → Answers table after id scan next x a → Feeds (text_of (texts table) m.groups.now.meanings) t tell.Mismatch (calling_of table k) (calling_of after l)
+    mismatch_feeds a says answers = feeds tell.Mismatch l (call.Stopped name next) stops (mismatch_comes table after id name scan next t standing (said a ask.Mismatch says answers))
+
+    pub ended_feeds : (silent : Bool) → (a : ArgAsk) → a ≡ ask.ParEnded silent → Answers table after id scan next x a → Feeds (text_of (texts table) m.groups.now.meanings) t (tell.ParEnded silent) (calling_of table k) (calling_of after l)
+    ended_feeds silent a says answers = feeds (tell.ParEnded silent) l (call.Stopped name next) stops (ended_comes table after id name scan next t standing silent (said a (ask.ParEnded silent) says answers))
+
+    pub cut_feeds : IsCutShort table after id scan next x → CutShort (text_of (texts table) m.groups.now.meanings) t (calling_of table k) (calling_of after l)
+    cut_feeds cut =
+        subst (λ (g : code.Gathering). CutShort (text_of (texts table) m.groups.now.meanings) t (calling_of table g) (calling_of after l)) (sym was)
+        (subst (λ (g : code.Gathering). CutTo (text_of (texts table) m.groups.now.meanings name) t name (scan_of table scan) (calling_of after g)) (sym stops)
+        (subst (λ (ts : List Token). CutTo ts t name (scan_of table scan) (Stopped name (scan_of after next))) (own_text table m name id list)
+        (cut_comes table after id name scan next t standing (subst (λ (y : Token). IsCutShort table after id scan next y) same cut))))
+
+  pub called_feeds : (args : Args) (last : List (Option Entry)) (l : code.Gathering) → l ≡ call.Gathered name args → Moves after last (scan_holds next) none → Keeps after last (scan_holds next) → (a : ArgAsk) → a ≡ ask.Called args → Answers table after id scan next x a →
+      Feeds (text_of (texts table) m.groups.now.meanings) t tell.Gathered (calling_of table k) (calling_of last l)
+  called_feeds args last l has moves kept a says answers =
+      subst (λ (g : code.Gathering). Feeds (text_of (texts table) m.groups.now.meanings) t tell.Gathered (calling_of table g) (calling_of last l)) (sym was)
+      (subst (λ (g : code.Gathering). Comes (text_of (texts table) m.groups.now.meanings name) t tell.Gathered name (scan_of table scan) (calling_of last g)) (sym has)
+      (subst (λ (ts : List Token). Comes ts t tell.Gathered name (scan_of table scan) (Gathered name (args_in last args))) (own_text table m name id list)
+      (called_comes table after id name scan next t standing args last (said a (ask.Called args) says answers) moves kept)))
 
 -- ROOM
 
@@ -129,6 +224,19 @@ module _ (table : List (Option Entry)) (id : ℕ) (scan : ArgScan) (sound : IsSt
   pub fed_fits : (r : Result CallTold Full) (grows : List Token) → grows ≡ scan_growth (tokens_at table id) t (scan_of table scan) → IfOk r (λ told. Comes (tokens_at table id) t told name (scan_of table scan) new) → OnOk r (words_held v + length grows ≤ size)
   fed_fits (Ok told) grows is comes = omega (arith, fits_one told comes, ap length is)
   fed_fits (Err f) grows is comes = tt
+
+-- what is fed to a call that takes tokens has room
+pub fed_room : (table : List (Option Entry)) (m : Table) (k : code.Gathering) (is : IsCall table m k) (v : HeldLists) → texts table ≡ v.lists → m.groups ≡ v.groups → calling_of table k ≡ v.call → (t : Token) (new : Calling) (used size : ℕ) → used + lists_words (call_lists v.call) ≡ words_held v + lists_words (call_lists new) → words_held v ≤ size → used ≤ size →
+    (r : Result CallTold Full) → IfOk r (λ told. Feeds (text_of (texts table) m.groups.now.meanings) t told (calling_of table k) new) → OnOk r (words_held v + length (growth (text_of v.lists v.groups.now.meanings) t v.call) ≤ size)
+fed_room table m k is v lists groups calls t new used size all before within (Err f) fed = tt
+fed_room table m call.None is v lists groups calls t new used size all before within (Ok told) fed = absurd fed
+fed_room table m (call.Stopped name scan) is v lists groups calls t new used size all before within (Ok told) fed = absurd fed
+fed_room table m (call.Gathered name args) is v lists groups calls t new used size all before within (Ok told) fed = absurd fed
+fed_room table m (call.Gathers name scan) is v lists groups calls t new used size all before within (Ok told) fed =
+    let text : tokens_at table is.id ≡ text_of v.lists v.groups.now.meanings name = named_text table m name is.id v is.list lists groups in
+    let own : text_of (texts table) m.groups.now.meanings name ≡ tokens_at table is.id = sym (own_text table m name is.id is.list) in
+    fed_fits table is.id scan is.sound name v (sym calls) t new used size all before within (Ok told) _ (growth_is (text_of v.lists v.groups.now.meanings) (tokens_at table is.id) t name (scan_of table scan) v.call (sym calls) text)
+    (subst (λ (ts : List Token). Comes ts t told name (scan_of table scan) new) own fed)
 
 pub fed_full : (r : Result CallTold Full) (table : List (Option Entry)) (s : InputStack) (making : Option Build) (gathered : List Build) (m : Named) (sizes : Sizes) (capacity : ℕ) → IsSound table s making gathered m sizes capacity → IfErr r (λ f. IsFull f table) →
     IfErr r (λ f. refused sizes (memory 1 (words_held (lists_of table (pending table s) making gathered m sizes)) ∷ []) ≡ Some f)

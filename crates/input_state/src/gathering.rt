@@ -1,5 +1,5 @@
 // The call whose arguments are gathered.
-ghost use Rattle.std.specs.Prelude.{◌≡◌, true, IfOk, IfErr, OnErr, Some};
+ghost use Rattle.std.specs.Prelude.{◌≡◌, true, length, IfOk, IfErr, OnErr, Some};
 ghost use Rattle.token_lists.specs.Table.{IsHeld, tokens_at};
 ghost use Rattle.token_lists.specs.Ids.{id_of};
 ghost use Rattle.token_lists.specs.Refusals.{IsFull};
@@ -10,16 +10,19 @@ ghost use Rattle.macro_call.specs.Modes.{mode_of};
 ghost use Rattle.input_state.specs.Callings as calls;
 ghost use Rattle.eqtb_save.specs.Table.{Table};
 ghost use Rattle.equivalents.specs.Holding.{list_of};
-ghost use Rattle.macro_call.specs.Scans.{IsSound, scan_of};
+ghost use Rattle.token_lists.specs.Accounts.{Moves, Keeps, none};
 ghost use Rattle.input_state.specs.declared.gathering.Gathering.TheVariants as gathering;
-ghost use Rattle.input_state.specs.HeldViews.{calling_of, IsScanning, HasArguments};
-ghost use Rattle.input_state.specs.CallFeeds.{Comes, CutTo};
-ghost use Rattle.input_state.specs.Recalls.{Recalls};
+ghost use Rattle.input_state.specs.HeldViews.{calling_of, call_holds, texts, IsCall, IsScanning, HasArguments};
+ghost use Rattle.input_state.specs.CallFeeds.{Feeds, CutShort};
+ghost use Rattle.input_state.specs.Calls.{text_of};
+ghost use Rattle.input_state.specs.Recalls.{Recalls, stopped, with_args, OwnsScan};
 
 use crate::CallTold;
+use eqtb_save::Eqtb;
 use macro_args::Args;
 use macro_call::{ArgAsk, ArgScan};
-use tex_defs::{Full, Name, Seen};
+use std::mem;
+use tex_defs::{Full, Name, Token};
 use token_lists::{ListRef, Lists};
 
 /// A call of a macro, with what is gathered of its arguments.
@@ -89,33 +92,67 @@ pub fn begin(lists: &mut Lists, list: &ListRef, name: Name, long: bool) -> Resul
     Ok(Gathering::Gathers(name, scan))
 }
 
-/// Feeds a token to the scanner of a call.
+// A call that takes tokens takes no more.
+fn stop(call: &mut Gathering)
+    requires { IsScanning call.old }
+    ensures { call.new ≡ stopped call.old }
+{
+    let (name, scan) = mem::replace(call, Gathering::None).into_scan();
+    mem::replace(call, Gathering::Stopped(name, scan)).end();
+}
+
+// All arguments of a call are there: its scanner goes.
+fn gathered(lists: &mut Lists, call: &mut Gathering, args: Args)
+    requires scanning { IsScanning call.old }
+    requires owned { OwnsScan lists.old call.old }
+    ensures after { call.new ≡ with_args args call.old }
+    ensures account { Moves lists.old lists.new (call_holds call.old) none }
+    ensures kept { Keeps lists.old lists.new (call_holds call.old) }
+    ensures length { length lists.new ≡ length lists.old }
+{
+    let (name, scan) = mem::replace(call, Gathering::None).into_scan();
+    scan.abandon(lists);
+    mem::replace(call, Gathering::Gathered(name, args)).end();
+}
+
+/// Feeds a token to the scanner of a call, which stays where it is as long as it takes tokens.
 pub fn feed(
     lists: &mut Lists,
-    list: &ListRef,
-    name: Name,
-    scan: ArgScan,
-    seen: Seen,
-) -> (Gathering, Result<CallTold, Full>)
-    requires { IsSound lists.old (id_of list.now) scan }
-    ensures recalls { (t : Table) → list_of (name_meaning t.groups.now.meanings name) ≡ Some (id_of list.now) → Recalls lists.old lists.new t (gathering.Gathers name scan) result.0 }
-    ensures ok { IfOk result.1 (λ told. Comes (tokens_at lists.old (id_of list.now)) seen.token told name (scan_of lists.old scan) (calling_of lists.new result.0)) }
-    ensures err { OnErr result.1 (CutTo (tokens_at lists.old (id_of list.now)) seen.token name (scan_of lists.old scan) (calling_of lists.new result.0)) }
-    ensures full { IfErr result.1 (λ f. IsFull f lists.new) }
+    table: &Eqtb,
+    call: &mut Gathering,
+    token: Token,
+) -> Result<CallTold, Full>
+    requires scanning { IsScanning call.old }
+    requires sound { IsCall lists.old table.now call.old }
+    ensures recalls { Recalls lists.old lists.new table.now call.old call.new }
+    ensures ok { IfOk result (λ told. Feeds (text_of (texts lists.old) table.now.groups.now.meanings) token told (calling_of lists.old call.old) (calling_of lists.new call.new)) }
+    ensures err { OnErr result (CutShort (text_of (texts lists.old) table.now.groups.now.meanings) token (calling_of lists.old call.old) (calling_of lists.new call.new)) }
+    ensures full { IfErr result (λ f. IsFull f lists.new) }
 {
-    let mut scan = scan;
-    match scan.feed(lists, list, seen) {
-        Ok(ArgAsk::More) => (Gathering::Gathers(name, scan), Ok(CallTold::More)),
-        Ok(ArgAsk::ExtraBrace) => (Gathering::Gathers(name, scan), Ok(CallTold::ExtraBrace)),
+    let Gathering::Gathers(name, scan) = call else {
+        unreachable!()
+    };
+    let Some(list) = table.list(*name) else {
+        unreachable!()
+    };
+    match scan.feed(lists, list, table.seen(token)) {
+        Ok(ArgAsk::More) => Ok(CallTold::More),
+        Ok(ArgAsk::ExtraBrace) => Ok(CallTold::ExtraBrace),
         Ok(ArgAsk::Called(args)) => {
-            scan.abandon(lists);
-            (Gathering::Gathered(name, args), Ok(CallTold::Gathered))
+            gathered(lists, call, args);
+            Ok(CallTold::Gathered)
         }
-        Ok(ArgAsk::Mismatch) => (Gathering::Stopped(name, scan), Ok(CallTold::Mismatch)),
-        Ok(ArgAsk::ParEnded(silent)) => (
-            Gathering::Stopped(name, scan),
-            Ok(CallTold::ParEnded(silent)),
-        ),
-        Err(full) => (Gathering::Stopped(name, scan), Err(full)),
+        Ok(ArgAsk::Mismatch) => {
+            stop(call);
+            Ok(CallTold::Mismatch)
+        }
+        Ok(ArgAsk::ParEnded(silent)) => {
+            stop(call);
+            Ok(CallTold::ParEnded(silent))
+        }
+        Err(full) => {
+            stop(call);
+            Err(full)
+        }
     }
 }

@@ -1124,13 +1124,7 @@ impl Held {
         ensures all_lists { KeepsHeld self.old self.new }
     {
         let _old_words = self.lists.used();
-        let (name, scan) = mem::replace(&mut self.call, Gathering::None).into_scan();
-        let Some(list) = self.table.list(name) else {
-            unreachable!()
-        };
-        let seen = self.table.seen(token);
-        let (call, told) = feed(&mut self.lists, list, name, scan, seen);
-        mem::replace(&mut self.call, call).end();
+        let told = feed(&mut self.lists, &self.table, &mut self.call, token);
         let _words = self.lists.used();
         told
     }

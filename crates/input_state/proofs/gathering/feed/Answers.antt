@@ -1,43 +1,41 @@
-use Rattle.std.proofs.Common.{◌≡◌, ℕ, List, length, Option, Some, sym, ap, subst, arith}
-use Rattle.tex_defs.specs.declared.Token.{Token}
-use Rattle.tex_defs.specs.declared.Name.{Name}
-use Rattle.token_lists.specs.Table.{Entry}
+use Rattle.std.proofs.Common.{ap}
+use Rattle.tex_defs.specs.declared.Seen.{Seen}
 use Rattle.token_lists.specs.Ids.{id_of}
-use Rattle.plain_tokens.specs.Meanings.{name_meaning}
-use Rattle.eqtb_save.specs.Table.{Table}
-use Rattle.equivalents.specs.Holding.{list_of}
-use Rattle.macro_call.specs.declared.scan.ArgScan.{ArgScan}
-use Rattle.macro_call.specs.declared.scan.ArgAsk.{ArgAsk}
-use Rattle.macro_call.specs.declared.scan.ArgAsk.TheVariants as ask
-use Rattle.macro_call.specs.Scans.{Answers, IsOpen, handed}
-use Rattle.input_state.specs.Recalls.{Recalls}
-use Rattle.input_state.specs.declared.gathering.Gathering.TheVariants as call
+use Rattle.input_state.proofs.Called.{more_feeds, brace_feeds, called_feeds, mismatch_feeds, ended_feeds, cut_feeds}
 use Rattle.input_state.proofs.gathering.feed.Goals as goal
 
-module _ (old new : List (Option Entry)) (macro : ℕ) (scan next : ArgScan) (x : Token) (answer : ArgAsk) (answers : Answers old new macro scan next x answer) (size : length new ≡ length old) (name : Name) (m : Table) (means : list_of (name_meaning m.groups.now.meanings name) ≡ Some macro) where
-  -- the scanner goes on, and hands nothing out
-  goes_on : IsOpen answer → ((h : ℕ) → handed answer h ≡ 0) → Recalls old new m (call.Gathers name scan) (call.Gathers name next)
-  goes_on still none = record {
-    is = record { id = macro; list = means; sound = (answers.goes_on still).sound };
-    moves = λ h. omega (arith, answers.moves h, none h);
-    keeps = answers.kept;
-    gains = record {
-      others = λ h some. omega (arith, answers.gains.others h some, none h);
-      fresh = λ h free. omega (arith, answers.gains.fresh h free, none h);
-    };
-    size = size;
-  }
+pub returns-in-Ok-More-clause-ok : goal.returns-in-Ok-More-clause-ok
+returns-in-Ok-More-clause-ok c =
+    let h = c.in-Gathers in
+    more_feeds c.args.lists.now c.feed.new.lists c.args.table.now c.args.call.now (id_of c.in-Some.list.now) h.name h.scan c.feed.new.self c.seen.result.token c.args.token c.requires.sound h.is c.in-Some.ensures.list (ap (λ (s : Seen). s.token) c.seen.ensures)
+    c.in-Ok-More.field-0 c.in-Ok-More.field-0-is c.in-Ok-More.ensures.answers
 
-  more : answer ≡ ask.More → Recalls old new m (call.Gathers name scan) (call.Gathers name next)
-  more is = goes_on (subst IsOpen (sym is) tt) (λ h. ap (λ (a : ArgAsk). handed a h) is)
+pub returns-in-Ok-ExtraBrace-clause-ok : goal.returns-in-Ok-ExtraBrace-clause-ok
+returns-in-Ok-ExtraBrace-clause-ok c =
+    let h = c.in-Gathers in
+    brace_feeds c.args.lists.now c.feed.new.lists c.args.table.now c.args.call.now (id_of c.in-Some.list.now) h.name h.scan c.feed.new.self c.seen.result.token c.args.token c.requires.sound h.is c.in-Some.ensures.list (ap (λ (s : Seen). s.token) c.seen.ensures)
+    c.in-Ok-ExtraBrace.field-0 c.in-Ok-ExtraBrace.field-0-is c.in-Ok-ExtraBrace.ensures.answers
 
-  extra_brace : answer ≡ ask.ExtraBrace → Recalls old new m (call.Gathers name scan) (call.Gathers name next)
-  extra_brace is = goes_on (subst IsOpen (sym is) tt) (λ h. ap (λ (a : ArgAsk). handed a h) is)
+pub returns-in-Ok-Called-clause-ok : goal.returns-in-Ok-Called-clause-ok
+returns-in-Ok-Called-clause-ok c =
+    let h = c.in-Gathers in
+    called_feeds c.args.lists.now c.feed.new.lists c.args.table.now c.args.call.now (id_of c.in-Some.list.now) h.name h.scan c.feed.new.self c.seen.result.token c.args.token c.requires.sound h.is c.in-Some.ensures.list (ap (λ (s : Seen). s.token) c.seen.ensures)
+    c.in-Ok-Called.args c.gathered.new.lists c.gathered.new.call c.gathered.ensures.after c.gathered.ensures.account c.gathered.ensures.kept c.in-Ok-Called.field-0 c.in-Ok-Called.field-0-is c.in-Ok-Called.ensures.answers
 
-pub returns-in-Ok-More-clause-recalls : goal.returns-in-Ok-More-clause-recalls
-returns-in-Ok-More-clause-recalls c =
-    λ m means. more c.args.lists.now c.feed.new.lists (id_of c.args.list.now) c.args.scan c.feed.new.self c.args.seen.token c.in-Ok-More.field-0 c.in-Ok-More.ensures.answers c.in-Ok-More.ensures.length c.args.name m means c.in-Ok-More.field-0-is
+pub returns-in-Ok-Mismatch-clause-ok : goal.returns-in-Ok-Mismatch-clause-ok
+returns-in-Ok-Mismatch-clause-ok c =
+    let h = c.in-Gathers in
+    mismatch_feeds c.args.lists.now c.feed.new.lists c.args.table.now c.args.call.now (id_of c.in-Some.list.now) h.name h.scan c.feed.new.self c.seen.result.token c.args.token c.requires.sound h.is c.in-Some.ensures.list (ap (λ (s : Seen). s.token) c.seen.ensures)
+    c.stop.new.call c.stop.ensures c.in-Ok-Mismatch.field-0 c.in-Ok-Mismatch.field-0-is c.in-Ok-Mismatch.ensures.answers
 
-pub returns-in-Ok-ExtraBrace-clause-recalls : goal.returns-in-Ok-ExtraBrace-clause-recalls
-returns-in-Ok-ExtraBrace-clause-recalls c =
-    λ m means. extra_brace c.args.lists.now c.feed.new.lists (id_of c.args.list.now) c.args.scan c.feed.new.self c.args.seen.token c.in-Ok-ExtraBrace.field-0 c.in-Ok-ExtraBrace.ensures.answers c.in-Ok-ExtraBrace.ensures.length c.args.name m means c.in-Ok-ExtraBrace.field-0-is
+pub returns-in-Ok-ParEnded-clause-ok : goal.returns-in-Ok-ParEnded-clause-ok
+returns-in-Ok-ParEnded-clause-ok c =
+    let h = c.in-Gathers in
+    ended_feeds c.args.lists.now c.feed.new.lists c.args.table.now c.args.call.now (id_of c.in-Some.list.now) h.name h.scan c.feed.new.self c.seen.result.token c.args.token c.requires.sound h.is c.in-Some.ensures.list (ap (λ (s : Seen). s.token) c.seen.ensures)
+    c.stop-in-Ok-ParEnded.new.call c.stop-in-Ok-ParEnded.ensures c.in-Ok-ParEnded.silent c.in-Ok-ParEnded.field-0 c.in-Ok-ParEnded.field-0-is c.in-Ok-ParEnded.ensures.answers
+
+pub returns-in-Err-clause-err : goal.returns-in-Err-clause-err
+returns-in-Err-clause-err c =
+    let h = c.in-Gathers in
+    cut_feeds c.args.lists.now c.feed.new.lists c.args.table.now c.args.call.now (id_of c.in-Some.list.now) h.name h.scan c.feed.new.self c.seen.result.token c.args.token c.requires.sound h.is c.in-Some.ensures.list (ap (λ (s : Seen). s.token) c.seen.ensures)
+    c.stop-in-Err.new.call c.stop-in-Err.ensures c.in-Err.ensures.cut_short
