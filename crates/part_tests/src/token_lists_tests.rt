@@ -258,3 +258,43 @@ fn lists_are_compared(rt: HostRuntime) {
     };
     assert!(rt; same);
 }
+
+// Whether a list's first token is a parameter's number, and whether it is the end of a parameter text.
+fn first_kind(lists: &Lists, list: &ListRef) -> (bool, bool)
+    requires { IsHeld lists.now (id_of list.now) }
+{
+    match lists.first(list) {
+        Some(place) => (lists.is_number(place), lists.is_end(place)),
+        None => (false, false),
+    }
+}
+
+// The kind of this token, read in a list of its own.
+fn kind_of(lists: &mut Lists, token: Token) -> Option<(bool, bool)> {
+    let Ok(mut build) = lists.begin() else {
+        return None;
+    };
+    let appended = lists.append(&mut build, token);
+    let list = lists.finish(build);
+    let kind = first_kind(lists, &list);
+    lists.release(list);
+    if appended.is_ok() { Some(kind) } else { None }
+}
+
+// Whether a parameter's number, the end of a parameter text and what stands next to both are told apart.
+fn are_told_apart(lists: &mut Lists) -> bool {
+    kind_of(lists, Token::Number(0)) == Some((true, false))
+        && kind_of(lists, Token::Number(255)) == Some((true, false))
+        && kind_of(lists, Token::Place(255)) == Some((false, false))
+        && kind_of(lists, Token::EndPlaces) == Some((false, true))
+        && kind_of(lists, Token::Char { cat: 1, code: 123 }) == Some((false, false))
+}
+
+#[test]
+fn kinds_are_told_apart(rt: HostRuntime) {
+    let apart = match Lists::new(rt.alloc(), 2) {
+        Ok(mut lists) => are_told_apart(&mut lists) && lists.size() == 2,
+        Err(_) => false,
+    };
+    assert!(rt; apart);
+}
