@@ -5,7 +5,7 @@ use Rattle.tex_defs.specs.declared.Full.{Full}
 use Rattle.token_lists.specs.Table.{Entry, holders_at, holders_of, entry_at}
 use Rattle.token_lists.specs.Accounts.{none, Moves, Keeps, Covers}
 use Rattle.input_stack.specs.Puts.{Put, Item, without_ended, settled_top}
-use Rattle.input_stack.specs.declared.level.Level.{Level}
+use Rattle.input_stack.specs.WholeLevel.{WholeLevel}
 use Rattle.input_stack.specs.Pending.{Pending, with_puts, end_token_lists, put, plain_put, room, refusal, used_levels}
 use Rattle.input_stack.specs.View.{pending_in, held_in}
 use Rattle.input_stack.specs.Standing.{AreRead}
@@ -21,10 +21,10 @@ joins old new f g covers moves keeps = record {
   held = λ h some. omega (arith, some, covers h, moves h);
 }
 
-pub begun_pending : (old new : List (Option Entry)) (ls : List Level) (g : ℕ → ℕ) (p : Pending) → AreRead old ls → Moves old new none g → Keeps old new none → pending_in old ls ≡ end_token_lists p → pending_in new ls ≡ end_token_lists p
+pub begun_pending : (old new : List (Option Entry)) (ls : List WholeLevel) (g : ℕ → ℕ) (p : Pending) → AreRead old ls → Moves old new none g → Keeps old new none → pending_in old ls ≡ end_token_lists p → pending_in new ls ≡ end_token_lists p
 begun_pending old new ls g p a moves keeps is = pending_stays old new ls (joins old new (held_in ls) g a.covers moves keeps) ∙ is
 
-pub begun_read : (old new : List (Option Entry)) (ls : List Level) (g : ℕ → ℕ) → AreRead old ls → Moves old new none g → Keeps old new none → AreRead new ls
+pub begun_read : (old new : List (Option Entry)) (ls : List WholeLevel) (g : ℕ → ℕ) → AreRead old ls → Moves old new none g → Keeps old new none → AreRead new ls
 begun_read old new ls g a moves keeps = read_stays old new ls (joins old new (held_in ls) g a.covers moves keeps) (λ h. omega (arith, a.covers h, moves h)) a
 
 top_twice : (p : Put) (xs : List Item) (below rest : List Put) → without_ended below ≡ below → without_ended (settled_top p xs below rest) ≡ settled_top p xs below rest
@@ -55,5 +55,5 @@ back_room size m t ts p q is at same r = room_left size (used_levels p) (back_re
 pub fresh_is : (old mid : List (Option Entry)) (f g : ℕ → ℕ) (n : ℕ) → Moves old mid f g → entry_at mid n ≡ None → holders_at old n ≤ f n
 fresh_is old mid f g n moves new = omega (arith, moves n, ap holders_of new)
 
-pub still_held : (mid begun new : List (Option Entry)) (n : ℕ) (ls : List Level) (g : ℕ → ℕ) → entry_at mid n ≡ None → AreRead mid ls → 0 < holders_at begun n → Moves begun new (held_in ls) g → 0 < holders_at new n
+pub still_held : (mid begun new : List (Option Entry)) (n : ℕ) (ls : List WholeLevel) (g : ℕ → ℕ) → entry_at mid n ≡ None → AreRead mid ls → 0 < holders_at begun n → Moves begun new (held_in ls) g → 0 < holders_at new n
 still_held mid begun new n ls g fresh a held moves = omega (arith, ap holders_of fresh, a.covers n, held, moves n)

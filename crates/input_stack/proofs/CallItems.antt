@@ -1,5 +1,5 @@
 -- What stands in front of a call.
-use Rattle.std.proofs.Common.{zero, suc, ◌≡◌, ℕ, ◌+◌, ◌-◌, ◌<◌, ◌≤◌, List, [], ◌∷◌, ◌++◌, map, length, take, drop, get_or, Option, None, Some, Bool, true, false, not, refl, sym, ap, ◌∙◌, arith, add-one}
+use Rattle.std.proofs.Common.{zero, suc, ◌≡◌, ℕ, ◌+◌, ◌-◌, ◌<◌, ◌≤◌, List, [], ◌∷◌, ◌++◌, map, length, drop, get_or, Option, None, Some, Bool, true, false, not, refl, sym, ap, ◌∙◌, arith, add-one}
 use Rattle.std.specs.Prelude.{slice_get, is_some}
 use Rattle.std.proofs.lemmas.List.Sums.{sum_by-cons}
 use Rattle.std.proofs.lemmas.Option.{same_Some, none-some}
@@ -9,57 +9,46 @@ use Rattle.token_lists.specs.declared.ListRef.{ListRef}
 use Rattle.token_lists.specs.Ids.{id_of}
 use Rattle.token_lists.specs.Table.{Entry}
 use Rattle.token_lists.specs.Accounts.{cell_holds, cells_hold}
-use Rattle.macro_args.specs.declared.args.Args.{Args}
-use Rattle.macro_args.specs.Args.{IsFilled}
 use Rattle.input_stack.specs.declared.reader.Reader.{Reader}
 use Rattle.input_stack.specs.declared.met.Met.{Met}
 use Rattle.input_stack.specs.declared.met.Met.TheVariants as met_as
 use Rattle.input_stack.specs.Puts.{Item, Text, First, Later, Gap, first, without_gaps, is_empty}
 use Rattle.input_stack.specs.Calls.{Argument, spread, argument_items, placed_argument, token_items, substituted}
 use Rattle.input_stack.specs.Rest.{rest, number}
-use Rattle.input_stack.specs.CallViews.{argument_in, arguments_in, arguments_hold, open_tokens, open_items, met}
+use Rattle.input_stack.specs.CallViews.{argument_in, cells_in, open_tokens, open_items, met}
 use Rattle.input_stack.proofs.CallKept.{holds_itself}
 
 -- ARGUMENTS BY THEIR NUMBERS
 
-get_some : (table : List (Option Entry)) (cells : List (Option ListRef)) (n k : ℕ) → k < n → n ≤ length cells → slice_get (map (argument_in table) (take n cells)) k ≡ Some (argument_in table (get_or cells k None))
-get_some table [] n k l m = absurd (omega arith)
-get_some table (c ∷ cells) zero k l m = absurd (omega arith)
-get_some table (c ∷ cells) (suc n) zero l m = refl
-get_some table (c ∷ cells) (suc n) (suc k) l m = get_some table cells n k (omega arith) (omega arith)
+get_some : (table : List (Option Entry)) (cells : List (Option ListRef)) (k : ℕ) → k < length cells → slice_get (cells_in table cells) k ≡ Some (argument_in table (get_or cells k None))
+get_some table [] k l = absurd (omega (arith, l))
+get_some table (c ∷ cells) zero l = refl
+get_some table (c ∷ cells) (suc k) l = get_some table cells k (omega (arith, l))
 
-get_none : (table : List (Option Entry)) (cells : List (Option ListRef)) (n k : ℕ) → n ≤ k → slice_get (map (argument_in table) (take n cells)) k ≡ None
-get_none table [] zero zero l = refl
-get_none table [] zero (suc k) l = refl
-get_none table [] (suc n) zero l = absurd (omega arith)
-get_none table [] (suc n) (suc k) l = refl
-get_none table (c ∷ cells) zero zero l = refl
-get_none table (c ∷ cells) zero (suc k) l = refl
-get_none table (c ∷ cells) (suc n) zero l = absurd (omega arith)
-get_none table (c ∷ cells) (suc n) (suc k) l = get_none table cells n k (omega arith)
-
-cell_counts : (cells : List (Option ListRef)) (n k : ℕ) (r : ListRef) → k < n → n ≤ length cells → get_or cells k None ≡ Some r → 0 < cells_hold (take n cells) (id_of r)
-cell_counts [] n k r l m is = absurd (omega arith)
-cell_counts (c ∷ cells) zero k r l m is = absurd (omega arith)
-cell_counts (c ∷ cells) (suc n) zero r l m is = omega (arith, sum_by-cons (λ (x : Option ListRef). cell_holds x (id_of r)) c (take n cells), ap (λ (x : Option ListRef). cell_holds x (id_of r)) is, holds_itself (id_of r))
-cell_counts (c ∷ cells) (suc n) (suc k) r l m is = omega (arith, sum_by-cons (λ (x : Option ListRef). cell_holds x (id_of r)) c (take n cells), cell_counts cells n k r (omega arith) (omega arith) is)
+get_none : (table : List (Option Entry)) (cells : List (Option ListRef)) (k : ℕ) → length cells ≤ k → slice_get (cells_in table cells) k ≡ None
+get_none table [] zero l = refl
+get_none table [] (suc k) l = refl
+get_none table (c ∷ cells) zero l = absurd (omega (arith, l))
+get_none table (c ∷ cells) (suc k) l = get_none table cells k (omega (arith, l))
 
 -- an argument's list is one of those that are held
-pub argument_counts : (args : Args) (k : ℕ) (r : ListRef) → IsFilled args → k < args.count → get_or args.lists k None ≡ Some r → 0 < arguments_hold args (id_of r)
-argument_counts args k r filled l is = cell_counts args.lists args.count k r l (omega (arith, filled.few, args.nine)) is
+pub cell_counts : (cells : List (Option ListRef)) (k : ℕ) (r : ListRef) → k < length cells → get_or cells k None ≡ Some r → 0 < cells_hold cells (id_of r)
+cell_counts [] k r l is = absurd (omega (arith, l))
+cell_counts (c ∷ cells) zero r l is = omega (arith, sum_by-cons (λ (x : Option ListRef). cell_holds x (id_of r)) c cells, ap (λ (x : Option ListRef). cell_holds x (id_of r)) is, holds_itself (id_of r))
+cell_counts (c ∷ cells) (suc k) r l is = omega (arith, sum_by-cons (λ (x : Option ListRef). cell_holds x (id_of r)) c cells, cell_counts cells k r (omega (arith, l)) is)
 
-pub item_is : (table : List (Option Entry)) (args : Args) (t : Token) (n k : ℕ) (cell : Option ListRef) → IsFilled args → k < args.count → k ≡ n - 1 → t ≡ Number n → get_or args.lists k None ≡ cell → token_items (arguments_in table args) t ≡ argument_items (argument_in table cell)
-item_is table args t n k cell filled l same is at =
-    ap (token_items (arguments_in table args)) is
-    ∙ ap (λ (i : ℕ). placed_argument n (slice_get (arguments_in table args) i)) (sym same)
-    ∙ ap (placed_argument n) (get_some table args.lists args.count k l (omega (arith, filled.few, args.nine)))
+pub item_is : (table : List (Option Entry)) (cells : List (Option ListRef)) (t : Token) (n k : ℕ) (cell : Option ListRef) → k < length cells → k ≡ n - 1 → t ≡ Number n → get_or cells k None ≡ cell → token_items (cells_in table cells) t ≡ argument_items (argument_in table cell)
+item_is table cells t n k cell l same is at =
+    ap (token_items (cells_in table cells)) is
+    ∙ ap (λ (i : ℕ). placed_argument n (slice_get (cells_in table cells) i)) (sym same)
+    ∙ ap (placed_argument n) (get_some table cells k l)
     ∙ ap (λ (x : Option ListRef). argument_items (argument_in table x)) at
 
-pub item_past : (table : List (Option Entry)) (args : Args) (t : Token) (n k : ℕ) → args.count ≤ k → k ≡ n - 1 → t ≡ Number n → token_items (arguments_in table args) t ≡ Text (Number n) ∷ []
-item_past table args t n k l same is =
-    ap (token_items (arguments_in table args)) is
-    ∙ ap (λ (i : ℕ). placed_argument n (slice_get (arguments_in table args) i)) (sym same)
-    ∙ ap (placed_argument n) (get_none table args.lists args.count k l)
+pub item_past : (table : List (Option Entry)) (cells : List (Option ListRef)) (t : Token) (n k : ℕ) → length cells ≤ k → k ≡ n - 1 → t ≡ Number n → token_items (cells_in table cells) t ≡ Text (Number n) ∷ []
+item_past table cells t n k l same is =
+    ap (token_items (cells_in table cells)) is
+    ∙ ap (λ (i : ℕ). placed_argument n (slice_get (cells_in table cells) i)) (sym same)
+    ∙ ap (placed_argument n) (get_none table cells k l)
 
 pub first_met : (l : ℕ) (ts : List Token) (t : Token) → Some t ≡ slice_get ts 0 → spread l ts ≡ First l t ∷ map (Later l) (drop 1 ts)
 first_met l [] t some = absurd (none-some t (sym some))

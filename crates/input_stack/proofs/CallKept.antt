@@ -11,12 +11,12 @@ use Rattle.token_lists.specs.Accounts.{holds, cell_holds, cells_hold}
 use Rattle.macro_args.specs.declared.args.Args.{Args}
 use Rattle.macro_args.specs.Args.{IsFilled, args_hold}
 use Rattle.input_stack.specs.declared.reader.Reader.{Reader}
-use Rattle.input_stack.specs.declared.call.Call.{Call}
+use Rattle.input_stack.specs.Whole.{WholeCall}
 use Rattle.input_stack.specs.Puts.{Item, Put, Later, numbers, lists_of}
 use Rattle.input_stack.specs.Pending.{times}
 use Rattle.input_stack.specs.Calls.{Argument, argument_list, substituted}
 use Rattle.input_stack.specs.Rest.{number, rest, IsAt}
-use Rattle.input_stack.specs.CallViews.{argument_in, arguments_in, arguments_hold, open_items, open_number, open_holds, put_of_call, call_holds, IsCall}
+use Rattle.input_stack.specs.CallViews.{argument_in, cells_in, arguments_hold, open_items, open_number, open_holds, put_of_call, call_holds, IsCall}
 
 pub holds_itself : (n : ℕ) → holds n n ≡ 1
 holds_itself n =
@@ -26,7 +26,7 @@ holds_itself n =
 abbrev Same : (old new : List (Option Entry)) → (ℕ → ℕ) → Type 0
 Same old new f = (h : ℕ) → 0 < f h → tokens_at new h ≡ tokens_at old h
 
-cells_same : (old new : List (Option Entry)) (cells : List (Option ListRef)) → Same old new (cells_hold cells) → map (argument_in new) cells ≡ map (argument_in old) cells
+pub cells_same : (old new : List (Option Entry)) (cells : List (Option ListRef)) → Same old new (cells_hold cells) → cells_in new cells ≡ cells_in old cells
 cells_same old new [] same = refl
 cells_same old new (None ∷ cells) same =
     ap (λ (xs : List (Option Argument)). None ∷ xs) (cells_same old new cells (λ h some. same h (omega (arith, some, sum_by-cons (λ (c : Option ListRef). cell_holds c h) None cells))))
@@ -36,9 +36,6 @@ cells_same old new (Some r ∷ cells) same =
     (same n (omega (arith, sum_by-cons (λ (c : Option ListRef). cell_holds c n) (Some r) cells, holds_itself n)))
     (cells_same old new cells (λ h some. same h (omega (arith, some, sum_by-cons (λ (c : Option ListRef). cell_holds c h) (Some r) cells))))
 
-pub arguments_same : (old new : List (Option Entry)) (args : Args) → Same old new (arguments_hold args) → arguments_in new args ≡ arguments_in old args
-arguments_same old new args same = cells_same old new (take args.count args.lists) same
-
 pub rest_same : (old new : List (Option Entry)) (r : Reader) → Same old new (holds (number r)) → rest new r ≡ rest old r
 rest_same old new r same = ap (λ (ts : List Token). drop r.read ts) (same (number r) (omega (arith, holds_itself (number r))))
 
@@ -46,16 +43,16 @@ open_same : (old new : List (Option Entry)) (o : Option Reader) → Same old new
 open_same old new None same = refl
 open_same old new (Some r) same = ap (map (Later (number r))) (rest_same old new r same)
 
-abbrev put_from : Call → List (Option Argument) → List Item → List Token → Put
+abbrev put_from : WholeCall → List (Option Argument) → List Item → List Token → Put
 put_from c args front ts = record { list = number c.body; body = true; arguments = map argument_list args; reading = open_number c.argument; items = front ++ substituted args ts }
 
-pub call_same : (old new : List (Option Entry)) (c : Call) → Same old new (call_holds c) → put_of_call new c ≡ put_of_call old c
+pub call_same : (old new : List (Option Entry)) (c : WholeCall) → Same old new (call_holds c) → put_of_call new c ≡ put_of_call old c
 call_same old new c same =
-    let e = arguments_same old new c.args (λ h some. same h (omega (arith, some))) in
+    let e = cells_same old new c.args (λ h some. same h (omega (arith, some))) in
     let f = open_same old new c.argument (λ h some. same h (omega (arith, some))) in
     let g = rest_same old new c.body (λ h some. same h (omega (arith, some))) in
     ap₂ (λ (xs : List (Option Argument)) (ys : List Item). put_from c xs ys (rest new c.body)) e f
-    ∙ ap (λ (ts : List Token). put_from c (arguments_in old c.args) (open_items old c.argument) ts) g
+    ∙ ap (λ (ts : List Token). put_from c (cells_in old c.args) (open_items old c.argument) ts) g
 
 pub at_same : (old new : List (Option Entry)) (r : Reader) → tokens_at new (number r) ≡ tokens_at old (number r) → places_at new (number r) ≡ places_at old (number r) → IsHeld new (number r) → IsAt old r → IsAt new r
 at_same old new r tokens places held a = record {
@@ -71,13 +68,12 @@ module _ (old new : List (Option Entry)) (f : ℕ → ℕ) (tokens : (h : ℕ) �
       let one : 0 < f (number r) = omega (arith, less (number r), holds_itself (number r)) in
       at_same old new r (tokens (number r) one) (places (number r) one) (held (number r) one) a
 
-  pub call_stands : (c : Call) → ((h : ℕ) → call_holds c h ≤ f h) → IsCall old c → IsCall new c
+  pub call_stands : (c : WholeCall) → ((h : ℕ) → call_holds c h ≤ f h) → IsCall old c → IsCall new c
   call_stands c less a =
       let one : 0 < f (number c.body) = omega (arith, less (number c.body), holds_itself (number c.body)) in
       record {
         body = at_same old new c.body (tokens (number c.body) one) (places (number c.body) one) (held (number c.body) one) a.body;
         argument = open_stands c.argument (λ h. omega (arith, less h)) a.argument;
-        filled = a.filled;
         held = λ h some. held h (omega (arith, some, less h));
       }
 
@@ -115,7 +111,7 @@ open_numbers None cells h = omega arith
 open_numbers (Some r) cells h = sum_by-cons (λ (n : ℕ). holds n h) (number r) (numbers cells)
 
 -- a call holds the lists of its Put
-pub call_lists : (table : List (Option Entry)) (c : Call) (h : ℕ) → call_holds c h ≡ times h (lists_of (put_of_call table c))
+pub call_lists : (table : List (Option Entry)) (c : WholeCall) (h : ℕ) → call_holds c h ≡ times h (lists_of (put_of_call table c))
 call_lists table c h =
-    let cells = map argument_list (arguments_in table c.args) in
-    omega (arith, sum_by-cons (λ (n : ℕ). holds n h) (number c.body) (numbers (open_number c.argument ∷ cells)), open_numbers c.argument cells h, cells_numbers table (take c.args.count c.args.lists) h)
+    let cells = map argument_list (cells_in table c.args) in
+    omega (arith, sum_by-cons (λ (n : ℕ). holds n h) (number c.body) (numbers (open_number c.argument ∷ cells)), open_numbers c.argument cells h, cells_numbers table c.args h)

@@ -1,5 +1,5 @@
 -- A macro call in front.
-use Rattle.std.proofs.Common.{◌≡◌, ℕ, ◌+◌, ◌<◌, ◌≤◌, List, [], ◌∷◌, map, Option, None, Some, Bool, true, false, not, refl, sym, ap, ap₂, ◌∙◌, subst, arith}
+use Rattle.std.proofs.Common.{◌≡◌, ℕ, ◌+◌, ◌<◌, ◌≤◌, List, [], ◌∷◌, map, take, Option, None, Some, Bool, true, false, not, refl, sym, ap, ap₂, ◌∙◌, subst, arith}
 use Rattle.std.specs.Prelude.{slice_get, is_some}
 use Rattle.std.proofs.lemmas.Option.{none-some}
 use Rattle.tex_defs.specs.declared.Token.{Token}
@@ -11,9 +11,9 @@ use Rattle.token_lists.specs.Accounts.{holds, none, Moves, Keeps}
 use Rattle.macro_args.specs.declared.args.Args.{Args}
 use Rattle.macro_args.specs.Args.{IsFilled}
 use Rattle.input_stack.specs.declared.reader.Reader.{Reader}
-use Rattle.input_stack.specs.declared.call.Call.{Call}
-use Rattle.input_stack.specs.declared.level.Level.{Level}
-use Rattle.input_stack.specs.declared.level.Level.TheVariants as level
+use Rattle.input_stack.specs.Whole.{WholeCall}
+use Rattle.input_stack.specs.WholeLevel.{WholeLevel}
+use Rattle.input_stack.specs.WholeLevel as level
 use Rattle.input_stack.specs.Puts.{Item, Put, put_top, is_empty}
 use Rattle.input_stack.specs.Calls.{argument_list, substituted, body_of, call_put}
 use Rattle.input_stack.specs.Rest.{number, rest, IsAt}
@@ -46,7 +46,13 @@ nothing_left (u ∷ ts) None b at is t = absurd (none-some u at)
 nothing_left (u ∷ ts) (Some v) true at is t = cc
 nothing_left (u ∷ ts) (Some v) false at is t = cc
 
-module _ (old : List (Option Entry)) (f : ℕ → ℕ) (body : ListRef) (args : Args) (r : Reader) (call : Call) (is : call ≡ record { body = r; argument = None; args = args }) (same : number r ≡ id_of body) (left : rest old r ≡ body_of (tokens_at old (id_of body))) (at : IsAt old r) (filled : IsFilled args) (covers : (h : ℕ) → pushed_holds body args h + f h ≤ holders_at old h) where
+pub kept_as : (old new : List (Option Entry)) (f g : ℕ → ℕ) → ((h : ℕ) → f h ≡ g h) → Keeps old new f → Keeps old new g
+kept_as old new f g same keeps = record {
+  tokens = λ h less. keeps.tokens h (omega (arith, less, same h));
+  places = λ h less. keeps.places h (omega (arith, less, same h));
+}
+
+module _ (old : List (Option Entry)) (f : ℕ → ℕ) (body : ListRef) (args : Args) (r : Reader) (call : WholeCall) (is : call ≡ record { body = r; argument = None; args = take args.count args.lists }) (same : number r ≡ id_of body) (left : rest old r ≡ body_of (tokens_at old (id_of body))) (at : IsAt old r) (filled : IsFilled args) (covers : (h : ℕ) → pushed_holds body args h + f h ≤ holders_at old h) where
   -- the items that the call puts
   abbrev items : List Item
   items = substituted (arguments_in old args) (body_of (tokens_at old (id_of body)))
@@ -60,21 +66,21 @@ module _ (old : List (Option Entry)) (f : ℕ → ℕ) (body : ListRef) (args : 
       ∙ ap₂ (λ (n : ℕ) (ts : List Token). record { list = n; body = true; arguments = map argument_list (arguments_in old args); reading = None; items = substituted (arguments_in old args) ts }) same left
 
   pub holds_are : (h : ℕ) → call_holds call h ≡ pushed_holds body args h
-  holds_are h = omega (arith, ap (λ (c : Call). call_holds c h) is, ap (λ (n : ℕ). holds n h) same, filled_holds args h filled)
+  holds_are h = omega (arith, ap (λ (c : WholeCall). call_holds c h) is, ap (λ (n : ℕ). holds n h) same, filled_holds args h filled)
 
   pub stands_old : IsCall old call
-  stands_old = subst (IsCall old) (sym is) (record { body = at; argument = tt; filled = filled; held = λ h some. omega (arith, some, covers h, filled_holds args h filled) })
+  stands_old = subst (IsCall old) (sym is) (record { body = at; argument = tt; held = λ h some. omega (arith, some, covers h, filled_holds args h filled) })
 
   -- a call without a body
-  module _ (new : List (Option Entry)) (ls : List Level) (o : Option Token) (b : Bool) (peeked : o ≡ slice_get (rest old r) 0) (tested : is_some o ≡ not b) (nothing : b ≡ true) (held : (h : ℕ) → f h ≡ held_in ls h) (moves : Moves old new (call_holds call) none) (keeps : Keeps old new (call_holds call)) where
+  module _ (new : List (Option Entry)) (ls : List WholeLevel) (o : Option Token) (b : Bool) (peeked : o ≡ slice_get (rest old r) 0) (tested : is_some o ≡ not b) (nothing : b ≡ true) (held : (h : ℕ) → f h ≡ held_in ls h) (moves : Moves old new (pushed_holds body args) none) (keeps : Keeps old new (pushed_holds body args)) where
     no_items : items ≡ []
     no_items = ap (substituted (arguments_in old args)) (sym left ∙ nothing_left (rest old r) o b peeked tested nothing)
 
     stays : Stay old new (held_in ls)
-    stays = leaves old new (call_holds call) (held_in ls) (λ h. omega (arith, covers h, holds_are h, held h)) moves keeps
+    stays = leaves old new (pushed_holds body args) (held_in ls) (λ h. omega (arith, covers h, held h)) moves keeps
 
     pub empty_read : AreRead old ls → AreRead new ls
-    empty_read a = read_stays old new ls stays (λ h. omega (arith, covers h, holds_are h, held h, moves h)) a
+    empty_read a = read_stays old new ls stays (λ h. omega (arith, covers h, held h, moves h)) a
 
     pub empty_ok : pending_in new ls ≡ put put_is (pending_in old ls)
     empty_ok = pending_stays old new ls stays ∙ sym (put_none put_is items (pending_in old ls) no_items)
@@ -83,12 +89,12 @@ module _ (old : List (Option Entry)) (f : ℕ → ℕ) (body : ListRef) (args : 
     empty_refused size parameter_size count p = none_refused size parameter_size count items p no_items
 
     pub empty_moves : Moves old new (λ h. pushed_holds body args h + f h) f
-    empty_moves h = omega (arith, moves h, holds_are h)
+    empty_moves h = omega (arith, moves h)
 
     pub empty_keeps : Keeps old new (λ h. pushed_holds body args h + f h)
     empty_keeps = record {
-      tokens = λ h less. keeps.tokens h (omega (arith, less, holds_are h));
-      places = λ h less. keeps.places h (omega (arith, less, holds_are h));
+      tokens = λ h less. keeps.tokens h (omega (arith, less));
+      places = λ h less. keeps.places h (omega (arith, less));
     }
 
   -- a call with one
@@ -109,7 +115,7 @@ module _ (old : List (Option Entry)) (f : ℕ → ℕ) (body : ListRef) (args : 
       pub call_level : IsCall mid call
       call_level = call_stands old mid (call_holds call) tokens (λ h some. keeps.places h (omega (arith, some, covers h, holds_are h))) (λ h some. omega (arith, some, covers h, holds_are h, moves h)) call (λ h. omega arith) stands_old
 
-      pub call_pending : (xs ls : List Level) (p : Pending) → xs ≡ level.Call call ∷ ls → pending_in mid ls ≡ end_token_lists p → pending_in mid xs ≡ put put_is p
+      pub call_pending : (xs ls : List WholeLevel) (p : Pending) → xs ≡ level.Call call ∷ ls → pending_in mid ls ≡ end_token_lists p → pending_in mid xs ≡ put put_is p
       call_pending xs ls p at_top after =
           ap (pending_in mid) at_top
           ∙ ap₂ in_front (call_same old mid call tokens ∙ call_is) after

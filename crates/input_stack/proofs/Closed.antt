@@ -8,16 +8,16 @@ use Rattle.tex_defs.specs.declared.Token.TheVariants.{Char, Named, Marked, Place
 use Rattle.token_lists.specs.Table.{Entry, holders_at}
 use Rattle.token_lists.specs.Accounts.{none, Moves, Keeps}
 use Rattle.input_stack.specs.declared.reader.Reader.{Reader}
-use Rattle.input_stack.specs.declared.call.Call.{Call}
-use Rattle.input_stack.specs.declared.level.Level.{Level}
-use Rattle.input_stack.specs.declared.level.Level.TheVariants as level
+use Rattle.input_stack.specs.Whole.{WholeCall}
+use Rattle.input_stack.specs.WholeLevel.{WholeLevel}
+use Rattle.input_stack.specs.WholeLevel as level
 use Rattle.input_stack.specs.Puts.{Item, Put, Text, Later, is_empty, is_finished}
 use Rattle.input_stack.specs.Calls.{Argument, spread, placed_argument, token_items, substituted}
 use Rattle.input_stack.specs.Rest.{number, rest}
 use Rattle.input_stack.specs.Pending.{Pending, end_token_lists}
-use Rattle.input_stack.specs.CallViews.{arguments_in, open_items, open_tokens, open_number, open_holds, call_holds, items_of, put_of_call, IsCall, IsSettled, Closes}
+use Rattle.input_stack.specs.CallViews.{cells_in, open_items, open_tokens, open_number, open_holds, call_holds, items_of, put_of_call, IsCall, IsSettled, Closes}
 use Rattle.input_stack.specs.Levels.{LevelCloses, is_level_finished}
-use Rattle.input_stack.specs.View.{pending_in, in_front, level_holds, level_open, level_arguments, held_in}
+use Rattle.input_stack.specs.View.{pending_in, in_front, level_holds, level_open, held_in}
 use Rattle.input_stack.specs.Standing.{IsLevel, IsUnfinished, AreUnfinished, AreRead}
 use Rattle.input_stack.proofs.CallKept.{call_same, call_stands}
 use Rattle.input_stack.proofs.Kept.{Stay, leave, held_cons, pending_stays, levels_stay, unfinished_stay}
@@ -62,8 +62,8 @@ no_open table (Some r) is = ap (map (Later (number r))) is
 
 -- A CALL
 
-module _ (old new : List (Option Entry)) (c : Call) (f : ℕ → ℕ) (covers : (h : ℕ) → call_holds c h + f h ≤ holders_at old h) (call : IsCall old c) (some : is_empty (items_of old c) ≡ false) (tokens : open_tokens old c.argument ≡ []) (moves : Moves old new (open_holds c.argument) none) (keeps : Keeps old new (open_holds c.argument)) where
-  abbrev after : Call
+module _ (old new : List (Option Entry)) (c : WholeCall) (f : ℕ → ℕ) (covers : (h : ℕ) → call_holds c h + f h ≤ holders_at old h) (call : IsCall old c) (some : is_empty (items_of old c) ≡ false) (tokens : open_tokens old c.argument ≡ []) (moves : Moves old new (open_holds c.argument) none) (keeps : Keeps old new (open_holds c.argument)) where
+  abbrev after : WholeCall
   after = record { body = c.body; argument = None; args = c.args }
 
   stays : Stay old new (λ h. call_holds after h + f h)
@@ -73,13 +73,13 @@ module _ (old new : List (Option Entry)) (c : Call) (f : ℕ → ℕ) (covers : 
   same = call_same old new after (λ h one. stays.tokens h (omega (arith, one)))
 
   items : items_of old after ≡ items_of old c
-  items = ap (λ (xs : List Item). xs ++ substituted (arguments_in old c.args) (rest old c.body)) (sym (no_open old c.argument tokens))
+  items = ap (λ (xs : List Item). xs ++ substituted (cells_in old c.args) (rest old c.body)) (sym (no_open old c.argument tokens))
 
   settled : IsSettled None (items_of old after)
-  settled = body_settled (arguments_in old c.args) (rest old c.body) (ap is_empty items ∙ some)
+  settled = body_settled (cells_in old c.args) (rest old c.body) (ap is_empty items ∙ some)
 
   pub closed_stands : IsCall new after
-  closed_stands = call_stands old new (λ h. call_holds after h + f h) stays.tokens stays.places stays.held after (λ h. omega arith) (record { body = call.body; argument = tt; filled = call.filled; held = call.held })
+  closed_stands = call_stands old new (λ h. call_holds after h + f h) stays.tokens stays.places stays.held after (λ h. omega arith) (record { body = call.body; argument = tt; held = call.held })
 
   pub closed_unfinished : IsSettled None (items_of new after)
   closed_unfinished = subst (λ (p : Put). IsSettled None p.items) (sym same) settled
@@ -90,29 +90,27 @@ module _ (old new : List (Option Entry)) (c : Call) (f : ℕ → ℕ) (covers : 
 -- LEVELS
 
 -- what becomes of a level on top, and of the others
-pub record IsClosed (old new : List (Option Entry)) (l l' : Level) (ls : List Level) (b : Bool) : Type 0 where
+pub record IsClosed (old new : List (Option Entry)) (l l' : WholeLevel) (ls : List WholeLevel) (b : Bool) : Type 0 where
   pub level : IsLevel new l'
   pub unfinished : IsUnfinished new l'
   pub after : pending_in new (l' ∷ ls) ≡ end_token_lists (pending_in old (l ∷ ls))
   pub levels : level_open l ≡ level_open l' + cond b 1 0
-  pub counts : level_arguments l' ≡ level_arguments l
   pub stays : Stay old new (held_in ls)
   pub moves : Moves old new (level_holds l) (level_holds l')
   pub kept : Keeps old new (level_holds l)
 
-none_closed : (old new : List (Option Entry)) (l l' : Level) (ls : List Level) (b : Bool) → new ≡ old → l' ≡ l → b ≡ false → IsLevel old l → IsUnfinished old l → ((h : ℕ) → held_in ls h ≤ holders_at old h) → IsClosed old new l l' ls b
+none_closed : (old new : List (Option Entry)) (l l' : WholeLevel) (ls : List WholeLevel) (b : Bool) → new ≡ old → l' ≡ l → b ≡ false → IsLevel old l → IsUnfinished old l → ((h : ℕ) → held_in ls h ≤ holders_at old h) → IsClosed old new l l' ls b
 none_closed old new l l' ls b is stay nope a u covers =
     let k : IsClosed old old l l ls false = record {
       level = a;
       unfinished = u;
       after = sym (head_settle old l ls u);
       levels = omega arith;
-      counts = refl;
       stays = record { tokens = λ h one. refl; places = λ h one. refl; held = λ h one. omega (arith, one, covers h) };
       moves = λ h. refl;
       kept = record { tokens = λ h one. refl; places = λ h one. refl };
     } in
-    let m = subst (λ (x : Level). IsClosed old old l x ls false) (sym stay) k in
+    let m = subst (λ (x : WholeLevel). IsClosed old old l x ls false) (sym stay) k in
     let n = subst (λ (x : Bool). IsClosed old old l l' ls x) (sym nope) m in
     subst (λ (t : List (Option Entry)). IsClosed old t l l' ls b) (sym is) n
 
@@ -120,9 +118,9 @@ some_left : (ts : List Token) → is_empty (map Text ts) ≡ false → 0 < lengt
 some_left [] is = cc
 some_left (t ∷ ts) is = omega arith
 
-call_closed : (old new : List (Option Entry)) (c c' : Call) (ls : List Level) (b : Bool) → Closes old new c c' b → IsCall old c → is_empty (items_of old c) ≡ false → ((h : ℕ) → call_holds c h + held_in ls h ≤ holders_at old h) → IsClosed old new (level.Call c) (level.Call c') ls b
+call_closed : (old new : List (Option Entry)) (c c' : WholeCall) (ls : List WholeLevel) (b : Bool) → Closes old new c c' b → IsCall old c → is_empty (items_of old c) ≡ false → ((h : ℕ) → call_holds c h + held_in ls h ≤ holders_at old h) → IsClosed old new (level.Call c) (level.Call c') ls b
 call_closed old new c c' ls false h call some covers =
-    none_closed old new (level.Call c) (level.Call c') ls false h.0 (ap (λ (x : Call). level.Call x) h.1) refl call (open_settled old c.argument (arguments_in old c.args) (rest old c.body) some h.2) (λ k. omega (arith, covers k))
+    none_closed old new (level.Call c) (level.Call c') ls false h.0 (ap (λ (x : WholeCall). level.Call x) h.1) refl call (open_settled old c.argument (cells_in old c.args) (rest old c.body) some h.2) (λ k. omega (arith, covers k))
 call_closed old new c c' ls true h call some covers =
     let stays = leave old new (open_holds c.argument) none (held_in ls) (λ k. omega (arith, covers k)) h.3 h.4 in
     let q = pending_stays old new ls stays in
@@ -131,31 +129,30 @@ call_closed old new c c' ls true h call some covers =
       unfinished = closed_unfinished old new c (held_in ls) covers call some h.1 h.3 h.4;
       after = ap (in_front (put_of_call new (record { body = c.body; argument = None; args = c.args }))) q ∙ closed_pending old new c (held_in ls) covers call some h.1 h.3 h.4 (pending_in old ls);
       levels = omega (arith, h.2);
-      counts = refl;
       stays = stays;
       moves = λ k. omega (arith, h.3 k);
       kept = record { tokens = λ k less. h.4.tokens k (omega (arith, less)); places = λ k less. h.4.places k (omega (arith, less)) };
     } in
-    subst (λ (x : Call). IsClosed old new (level.Call c) (level.Call x) ls true) (sym h.0) k
+    subst (λ (x : WholeCall). IsClosed old new (level.Call c) (level.Call x) ls true) (sym h.0) k
 
-pub level_closed : (old new : List (Option Entry)) (l l' : Level) (ls : List Level) (b : Bool) → LevelCloses old new l l' b → AreRead old (l ∷ ls) → is_level_finished old l ≡ false → IsClosed old new l l' ls b
+pub level_closed : (old new : List (Option Entry)) (l l' : WholeLevel) (ls : List WholeLevel) (b : Bool) → LevelCloses old new l l' b → AreRead old (l ∷ ls) → is_level_finished old l ≡ false → IsClosed old new l l' ls b
 level_closed old new (level.List r) l' ls b h a some = none_closed old new (level.List r) l' ls b h.1 h.0 h.2 (All-head (IsLevel old) (level.List r) ls a.levels) (some_left (rest old r) some) (λ k. omega (arith, a.covers k, held_cons (level.List r) ls k))
 level_closed old new (level.Call c) l' ls b h a some =
     let k = call_closed old new c h.call ls b h.closes (All-head (IsLevel old) (level.Call c) ls a.levels) some (λ k. omega (arith, a.covers k, held_cons (level.Call c) ls k)) in
-    subst (λ (x : Level). IsClosed old new (level.Call c) x ls b) (sym h.is) k
+    subst (λ (x : WholeLevel). IsClosed old new (level.Call c) x ls b) (sym h.is) k
 level_closed old new (level.Source s) l' ls b h a some = none_closed old new (level.Source s) l' ls b h.1 h.0 h.2 tt tt (λ k. omega (arith, a.covers k, held_cons (level.Source s) ls k))
 
-level_unfinished : (table : List (Option Entry)) (l : Level) (ls : List Level) → is_finished (pending_in table (l ∷ ls)).puts ≡ false → is_level_finished table l ≡ false
+level_unfinished : (table : List (Option Entry)) (l : WholeLevel) (ls : List WholeLevel) → is_finished (pending_in table (l ∷ ls)).puts ≡ false → is_level_finished table l ≡ false
 level_unfinished table (level.List r) ls is = is
 level_unfinished table (level.Call c) ls is = is
 level_unfinished table (level.Source s) ls is = refl
 
-pub top_closed : (old new : List (Option Entry)) (l l' : Level) (xs ls : List Level) (b : Bool) → xs ≡ l ∷ ls → LevelCloses old new l l' b → AreRead old xs → is_finished (pending_in old xs).puts ≡ false → IsClosed old new l l' ls b
+pub top_closed : (old new : List (Option Entry)) (l l' : WholeLevel) (xs ls : List WholeLevel) (b : Bool) → xs ≡ l ∷ ls → LevelCloses old new l l' b → AreRead old xs → is_finished (pending_in old xs).puts ≡ false → IsClosed old new l l' ls b
 top_closed old new l l' xs ls b is h a some =
-    level_closed old new l l' ls b h (subst (AreRead old) is a) (level_unfinished old l ls (ap (λ (ys : List Level). is_finished (pending_in old ys).puts) (sym is) ∙ some))
+    level_closed old new l l' ls b h (subst (AreRead old) is a) (level_unfinished old l ls (ap (λ (ys : List WholeLevel). is_finished (pending_in old ys).puts) (sym is) ∙ some))
 
 -- all levels, once the one on top has closed
-module _ (old new : List (Option Entry)) (l l' : Level) (xs ys ls : List Level) (b : Bool) (is : xs ≡ l ∷ ls) (at : ys ≡ l' ∷ ls) (k : IsClosed old new l l' ls b) (a : AreRead old xs) where
+module _ (old new : List (Option Entry)) (l l' : WholeLevel) (xs ys ls : List WholeLevel) (b : Bool) (is : xs ≡ l ∷ ls) (at : ys ≡ l' ∷ ls) (k : IsClosed old new l l' ls b) (a : AreRead old xs) where
   whole : AreRead old (l ∷ ls)
   whole = subst (AreRead old) is a
 
@@ -175,13 +172,13 @@ module _ (old new : List (Option Entry)) (l l' : Level) (xs ys ls : List Level) 
   closed_all = subst (AreUnfinished new) (sym at) (All-cons (IsUnfinished new) l' ls k.unfinished below)
 
   pub closed_after : pending_in new ys ≡ end_token_lists (pending_in old xs)
-  closed_after = ap (pending_in new) at ∙ k.after ∙ ap (λ (zs : List Level). end_token_lists (pending_in old zs)) (sym is)
+  closed_after = ap (pending_in new) at ∙ k.after ∙ ap (λ (zs : List WholeLevel). end_token_lists (pending_in old zs)) (sym is)
 
   pub closed_held : Moves old new (held_in xs) (held_in ys)
-  closed_held h = omega (arith, k.moves h, held_cons l ls h, held_cons l' ls h, ap (λ (zs : List Level). held_in zs h) is, ap (λ (zs : List Level). held_in zs h) at)
+  closed_held h = omega (arith, k.moves h, held_cons l ls h, held_cons l' ls h, ap (λ (zs : List WholeLevel). held_in zs h) is, ap (λ (zs : List WholeLevel). held_in zs h) at)
 
   pub closed_kept : Keeps old new (held_in xs)
   closed_kept = record {
-    tokens = λ h less. k.kept.tokens h (omega (arith, less, held_cons l ls h, ap (λ (zs : List Level). held_in zs h) is));
-    places = λ h less. k.kept.places h (omega (arith, less, held_cons l ls h, ap (λ (zs : List Level). held_in zs h) is));
+    tokens = λ h less. k.kept.tokens h (omega (arith, less, held_cons l ls h, ap (λ (zs : List WholeLevel). held_in zs h) is));
+    places = λ h less. k.kept.places h (omega (arith, less, held_cons l ls h, ap (λ (zs : List WholeLevel). held_in zs h) is));
   }

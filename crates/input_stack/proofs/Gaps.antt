@@ -3,8 +3,8 @@ use Rattle.std.proofs.Common.{◌≡◌, ℕ, ◌<◌, List, [], ◌∷◌, ◌+
 use Rattle.input_stack.specs.Puts.{Item, Put, Text, First, Later, Gap, first, without_gaps, flat, next_item, pulled, pulled_top, is_empty, argument_of}
 use Rattle.tex_defs.specs.declared.Token.{Token}
 use Rattle.token_lists.specs.Table.{Entry}
-use Rattle.input_stack.specs.declared.level.Level.{Level}
-use Rattle.input_stack.specs.declared.level.Level.TheVariants as level
+use Rattle.input_stack.specs.WholeLevel.{WholeLevel}
+use Rattle.input_stack.specs.WholeLevel as level
 use Rattle.input_stack.specs.Rest.{number, rest}
 use Rattle.input_stack.specs.CallViews.{put_of_call, items_of}
 use Rattle.input_stack.specs.Levels.{level_item, is_level_passed, is_top_passed}
@@ -63,7 +63,7 @@ call_next : (p : Put) (xs : List Item) (ps : List Put) → without_gaps p.items 
 call_next p [] ps at is = cc
 call_next p (x ∷ xs) ps at is = next_top p ps x xs at
 
-level_passed : (table : List (Option Entry)) (l : Level) (ls : List Level) → is_level_passed table l ≡ true → Passes (pending_in table (l ∷ ls)) (pending_in table ls) × (0 < length (pending_in table (l ∷ ls)).puts)
+level_passed : (table : List (Option Entry)) (l : WholeLevel) (ls : List WholeLevel) → is_level_passed table l ≡ true → Passes (pending_in table (l ∷ ls)) (pending_in table ls) × (0 < length (pending_in table (l ∷ ls)).puts)
 level_passed table (level.List r) ls is =
     let p = put_of table r in
     let e = plain_passed (rest table r) is in
@@ -73,19 +73,19 @@ level_passed table (level.Call c) ls is =
     (record { next = sym (next_passed p (pending_in table ls).puts is); pulled = sym (pulled_passed p (pending_in table ls).puts is); sources = refl }, omega arith)
 level_passed table (level.Source s) ls is = cc
 
-level_next : (table : List (Option Entry)) (l : Level) (ls : List Level) → is_level_passed table l ≡ false → next_item (pending_in table (l ∷ ls)).puts ≡ level_item table l
+level_next : (table : List (Option Entry)) (l : WholeLevel) (ls : List WholeLevel) → is_level_passed table l ≡ false → next_item (pending_in table (l ∷ ls)).puts ≡ level_item table l
 level_next table (level.List r) ls is = plain_next (number r) (rest table r) (pending_in table ls).puts is
 level_next table (level.Call c) ls is = call_next (put_of_call table c) (without_gaps (items_of table c)) (pending_in table ls).puts refl is
 level_next table (level.Source s) ls is = refl
 
-pub top_gaps : (table : List (Option Entry)) (xs ls : List Level) (l : Level) → xs ≡ l ∷ ls → is_level_passed table l ≡ true → Passes (pending_in table xs) (pending_in table ls) × (0 < length (pending_in table xs).puts)
-top_gaps table xs ls l is passed = subst (λ (ys : List Level). Passes (pending_in table ys) (pending_in table ls) × (0 < length (pending_in table ys).puts)) (sym is) (level_passed table l ls passed)
+pub top_gaps : (table : List (Option Entry)) (xs ls : List WholeLevel) (l : WholeLevel) → xs ≡ l ∷ ls → is_level_passed table l ≡ true → Passes (pending_in table xs) (pending_in table ls) × (0 < length (pending_in table xs).puts)
+top_gaps table xs ls l is passed = subst (λ (ys : List WholeLevel). Passes (pending_in table ys) (pending_in table ls) × (0 < length (pending_in table ys).puts)) (sym is) (level_passed table l ls passed)
 
-pub top_next : (table : List (Option Entry)) (xs ls : List Level) (l : Level) → xs ≡ l ∷ ls → is_level_passed table l ≡ false → next_item (pending_in table xs).puts ≡ level_item table l
-top_next table xs ls l is passed = ap (λ (ys : List Level). next_item (pending_in table ys).puts) is ∙ level_next table l ls passed
+pub top_next : (table : List (Option Entry)) (xs ls : List WholeLevel) (l : WholeLevel) → xs ≡ l ∷ ls → is_level_passed table l ≡ false → next_item (pending_in table xs).puts ≡ level_item table l
+top_next table xs ls l is passed = ap (λ (ys : List WholeLevel). next_item (pending_in table ys).puts) is ∙ level_next table l ls passed
 
 -- a list or a call on top of which nothing is left but gaps
-pub passed_some : (table : List (Option Entry)) (xs : List Level) → is_top_passed table xs ≡ true → (0 < length (pending_in table xs).puts) × Passes (pending_in table xs) (without_top (pending_in table xs))
+pub passed_some : (table : List (Option Entry)) (xs : List WholeLevel) → is_top_passed table xs ≡ true → (0 < length (pending_in table xs).puts) × Passes (pending_in table xs) (without_top (pending_in table xs))
 passed_some table [] is = cc
 passed_some table (level.List r ∷ ls) is = ((level_passed table (level.List r) ls is).1, (level_passed table (level.List r) ls is).0)
 passed_some table (level.Call c ∷ ls) is = ((level_passed table (level.Call c) ls is).1, (level_passed table (level.Call c) ls is).0)

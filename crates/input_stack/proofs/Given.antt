@@ -7,11 +7,10 @@ use Rattle.tex_defs.specs.declared.Token.{Token}
 use Rattle.tex_defs.specs.declared.Full.{Full}
 use Rattle.token_lists.specs.Table.{Entry, tokens_at, holders_at}
 use Rattle.token_lists.specs.Accounts.{holds, Covers}
-use Rattle.macro_args.specs.declared.args.Args.{Args}
 use Rattle.input_stack.specs.Puts.{Put, Item, Text, First, Later, Gap, first, without_gaps, flat, next_item, later_of, argument_of, without_ended, settled_top, pulled, pulled_top}
 use Rattle.input_stack.specs.CallViews.{put_of_call, met, is_opening, opened, Shares, IsCountable}
-use Rattle.input_stack.specs.declared.level.Level.{Level}
-use Rattle.input_stack.specs.declared.level.Level.TheVariants as level
+use Rattle.input_stack.specs.WholeLevel.{WholeLevel}
+use Rattle.input_stack.specs.WholeLevel as level
 use Rattle.input_stack.specs.declared.level.Pulled.{Pulled}
 use Rattle.input_stack.specs.declared.level.Pulled.TheVariants as pulled_as
 use Rattle.input_stack.specs.Rest.{number, rest, IsAt}
@@ -19,7 +18,7 @@ use Rattle.input_stack.specs.Lasting.{LastsBut}
 use Rattle.input_stack.specs.Pending.{Pending, Below, with_puts, end_token_lists, plain_put, room, used_levels}
 use Rattle.input_stack.specs.Pulls.{Pulls, PullsTop, Passes, token_in, is_line_end, HandsOn, refused_at, PullsItem, PullsFrom, IsInBuffer}
 use Rattle.input_stack.specs.Levels.{LevelPulls, level_item, IsLevelInBuffer}
-use Rattle.input_stack.specs.View.{pending_in, in_front, over, level_holds, level_open, level_arguments, held_in, IsSourceOnTop}
+use Rattle.input_stack.specs.View.{pending_in, in_front, over, level_holds, level_open, held_in, IsSourceOnTop}
 use Rattle.input_stack.specs.Standing.{IsLevel, IsUnfinished, AreUnfinished, AreRead}
 use Rattle.input_stack.proofs.Kept.{Stay, held_cons, pending_stays, levels_stay, unfinished_stay}
 use Rattle.input_stack.proofs.ListsEnded.{used_settle}
@@ -84,25 +83,25 @@ call_gives c b d p p' q q' x left r is at stays bytes answer =
     let k : PullsTop c b d (in_front p q) (in_front p' q') (Some x) r = (answer, ap₂ in_front at stays ∙ ap (λ (ps : List Put). with_puts ps (in_front p q)) (sym (pulled_is p q.puts x left is)), bytes) in
     subst (λ (o : Option Item). PullsTop c b d (in_front p q) (in_front p' q') o r) (sym (next_top p q.puts x left is)) k
 
-level_gives : (old new : List (Option Entry)) (c b d : List ℕ) (l l' : Level) (ls : List Level) (r : Pulled) → pending_in new ls ≡ pending_in old ls → LevelPulls old new c b d l l' r → PullsTop c b d (pending_in old (l ∷ ls)) (pending_in new (l' ∷ ls)) (next_item (pending_in old (l ∷ ls)).puts) r
+level_gives : (old new : List (Option Entry)) (c b d : List ℕ) (l l' : WholeLevel) (ls : List WholeLevel) (r : Pulled) → pending_in new ls ≡ pending_in old ls → LevelPulls old new c b d l l' r → PullsTop c b d (pending_in old (l ∷ ls)) (pending_in new (l' ∷ ls)) (next_item (pending_in old (l ∷ ls)).puts) r
 level_gives old new c b d (level.List x) l' ls r stays h =
     let same : rest new h.reader ≡ rest old h.reader = ap (λ (t : List (Option Entry)). rest t h.reader) h.lists in
     let k = list_gives c b d (number x) (number h.reader) h.token (rest old x) (rest new h.reader) (pending_in old ls) (pending_in new ls) r (h.gives ∙ ap (λ (ts : List Token). h.token ∷ ts) (sym same)) h.same stays h.bytes h.answer in
-    subst (λ (y : Level). PullsTop c b d (pending_in old (level.List x ∷ ls)) (pending_in new (y ∷ ls)) (next_item (pending_in old (level.List x ∷ ls)).puts) r) (sym h.is) k
+    subst (λ (y : WholeLevel). PullsTop c b d (pending_in old (level.List x ∷ ls)) (pending_in new (y ∷ ls)) (next_item (pending_in old (level.List x ∷ ls)).puts) r) (sym h.is) k
 level_gives old new c b d (level.Call x) l' ls r stays h =
     let k = call_gives c b d (put_of_call old x) (put_of_call new h.call) (pending_in old ls) (pending_in new ls) h.item h.left r h.next h.gives.after stays h.bytes h.answer in
-    subst (λ (y : Level). PullsTop c b d (pending_in old (level.Call x ∷ ls)) (pending_in new (y ∷ ls)) (next_item (pending_in old (level.Call x ∷ ls)).puts) r) (sym h.is) k
+    subst (λ (y : WholeLevel). PullsTop c b d (pending_in old (level.Call x ∷ ls)) (pending_in new (y ∷ ls)) (next_item (pending_in old (level.Call x ∷ ls)).puts) r) (sym h.is) k
 level_gives old new c b d (level.Source x) l' ls r stays h =
     let q = pending_in old ls in
     let k : PullsTop c b d (over x q) (over h.source q) None r = (record { source = h.source; gives = h.gives; after = refl }, refl) in
     let m = subst (λ (z : Pending). PullsTop c b d (over x q) (over h.source z) None r) (sym stays) k in
-    subst (λ (y : Level). PullsTop c b d (over x q) (pending_in new (y ∷ ls)) None r) (sym h.is) m
+    subst (λ (y : WholeLevel). PullsTop c b d (over x q) (pending_in new (y ∷ ls)) None r) (sym h.is) m
 
-pub top_gives : (old new : List (Option Entry)) (c b d : List ℕ) (l l' : Level) (xs ys ls : List Level) (r : Pulled) → xs ≡ l ∷ ls → ys ≡ l' ∷ ls → pending_in new ls ≡ pending_in old ls → LevelPulls old new c b d l l' r → PullsTop c b d (pending_in old xs) (pending_in new ys) (next_item (pending_in old xs).puts) r
+pub top_gives : (old new : List (Option Entry)) (c b d : List ℕ) (l l' : WholeLevel) (xs ys ls : List WholeLevel) (r : Pulled) → xs ≡ l ∷ ls → ys ≡ l' ∷ ls → pending_in new ls ≡ pending_in old ls → LevelPulls old new c b d l l' r → PullsTop c b d (pending_in old xs) (pending_in new ys) (next_item (pending_in old xs).puts) r
 top_gives old new c b d l l' xs ys ls r is at stays h =
     let k = level_gives old new c b d l l' ls r stays h in
-    let m = subst (λ (zs : List Level). PullsTop c b d (pending_in old zs) (pending_in new (l' ∷ ls)) (next_item (pending_in old zs).puts) r) (sym is) k in
-    subst (λ (zs : List Level). PullsTop c b d (pending_in old xs) (pending_in new zs) (next_item (pending_in old xs).puts) r) (sym at) m
+    let m = subst (λ (zs : List WholeLevel). PullsTop c b d (pending_in old zs) (pending_in new (l' ∷ ls)) (next_item (pending_in old zs).puts) r) (sym is) k in
+    subst (λ (zs : List WholeLevel). PullsTop c b d (pending_in old xs) (pending_in new zs) (next_item (pending_in old xs).puts) r) (sym at) m
 
 -- HELD
 
@@ -123,27 +122,22 @@ same_shares old new more is zeros = subst (λ (t : List (Option Entry)). Shares 
   held = λ h some. absurd (omega (arith, some, zeros h));
 })
 
-pub level_shares : (old new : List (Option Entry)) (c b d : List ℕ) (l l' : Level) (r : Pulled) → LevelPulls old new c b d l l' r → Shares old new (opened (level_item old l))
+pub level_shares : (old new : List (Option Entry)) (c b d : List ℕ) (l l' : WholeLevel) (r : Pulled) → LevelPulls old new c b d l l' r → Shares old new (opened (level_item old l))
 level_shares old new c b d (level.List x) l' r h = same_shares old new (opened (first (map Text (rest old x)))) h.lists (plain_opened (rest old x))
 level_shares old new c b d (level.Call x) l' r h = subst (λ (xs : List Item). Shares old new (opened (first xs))) (sym h.next) h.gives.shares
 level_shares old new c b d (level.Source x) l' r h = same_shares old new (opened None) h.lists (λ k. refl)
 
-pub level_held : (old new : List (Option Entry)) (c b d : List ℕ) (l l' : Level) (r : Pulled) → LevelPulls old new c b d l l' r → (h : ℕ) → level_holds l' h ≡ level_holds l h + opened (level_item old l) h
-level_held old new c b d (level.List x) l' r g h = omega (arith, ap (λ (y : Level). level_holds y h) g.is, ap (λ (n : ℕ). holds n h) g.same, plain_opened (rest old x) h)
-level_held old new c b d (level.Call x) l' r g h = omega (arith, ap (λ (y : Level). level_holds y h) g.is, g.gives.held h, ap (λ (xs : List Item). opened (first xs) h) g.next)
-level_held old new c b d (level.Source x) l' r g h = omega (arith, ap (λ (y : Level). level_holds y h) g.is)
+pub level_held : (old new : List (Option Entry)) (c b d : List ℕ) (l l' : WholeLevel) (r : Pulled) → LevelPulls old new c b d l l' r → (h : ℕ) → level_holds l' h ≡ level_holds l h + opened (level_item old l) h
+level_held old new c b d (level.List x) l' r g h = omega (arith, ap (λ (y : WholeLevel). level_holds y h) g.is, ap (λ (n : ℕ). holds n h) g.same, plain_opened (rest old x) h)
+level_held old new c b d (level.Call x) l' r g h = omega (arith, ap (λ (y : WholeLevel). level_holds y h) g.is, g.gives.held h, ap (λ (xs : List Item). opened (first xs) h) g.next)
+level_held old new c b d (level.Source x) l' r g h = omega (arith, ap (λ (y : WholeLevel). level_holds y h) g.is)
 
-pub level_opens : (old new : List (Option Entry)) (c b d : List ℕ) (l l' : Level) (r : Pulled) → LevelPulls old new c b d l l' r → level_open l' ≡ level_open l + cond (is_opening (met (level_item old l))) 1 0
+pub level_opens : (old new : List (Option Entry)) (c b d : List ℕ) (l l' : WholeLevel) (r : Pulled) → LevelPulls old new c b d l l' r → level_open l' ≡ level_open l + cond (is_opening (met (level_item old l))) 1 0
 level_opens old new c b d (level.List x) l' r g = omega (arith, ap level_open g.is, ap {B = ℕ} (λ (t : Bool). cond t 1 0) (plain_opening (rest old x)))
 level_opens old new c b d (level.Call x) l' r g = omega (arith, ap level_open g.is, g.gives.levels, ap {B = ℕ} (λ (xs : List Item). cond (is_opening (met (first xs))) 1 0) g.next)
 level_opens old new c b d (level.Source x) l' r g = omega (arith, ap level_open g.is)
 
-pub level_counts : (old new : List (Option Entry)) (c b d : List ℕ) (l l' : Level) (r : Pulled) → LevelPulls old new c b d l l' r → level_arguments l' ≡ level_arguments l
-level_counts old new c b d (level.List x) l' r g = ap level_arguments g.is
-level_counts old new c b d (level.Call x) l' r g = ap level_arguments g.is ∙ ap (λ (a : Args). a.count) g.gives.args
-level_counts old new c b d (level.Source x) l' r g = ap level_arguments g.is
-
-level_stands : (old new : List (Option Entry)) (c b d : List ℕ) (l l' : Level) (r : Pulled) → LevelPulls old new c b d l l' r → IsLevel new l'
+level_stands : (old new : List (Option Entry)) (c b d : List ℕ) (l l' : WholeLevel) (r : Pulled) → LevelPulls old new c b d l l' r → IsLevel new l'
 level_stands old new c b d (level.List x) l' r g = subst (IsLevel new) (sym g.is) (subst (λ (t : List (Option Entry)). IsAt t g.reader) (sym g.lists) g.at_next)
 level_stands old new c b d (level.Call x) l' r g = subst (IsLevel new) (sym g.is) g.gives.stands
 level_stands old new c b d (level.Source x) l' r g = subst (IsLevel new) (sym g.is) tt
@@ -156,7 +150,7 @@ shares_stay old new more f covers s = record {
   held = λ h some. omega (arith, some, covers h, s.holders h);
 }
 
-module _ (old new : List (Option Entry)) (c b d : List ℕ) (l l' : Level) (xs ys ls : List Level) (r : Pulled) (is : xs ≡ l ∷ ls) (at : ys ≡ l' ∷ ls) (h : LevelPulls old new c b d l l' r) (a : AreRead old xs) where
+module _ (old new : List (Option Entry)) (c b d : List ℕ) (l l' : WholeLevel) (xs ys ls : List WholeLevel) (r : Pulled) (is : xs ≡ l ∷ ls) (at : ys ≡ l' ∷ ls) (h : LevelPulls old new c b d l l' r) (a : AreRead old xs) where
   whole : AreRead old (l ∷ ls)
   whole = subst (AreRead old) is a
 
@@ -170,7 +164,7 @@ module _ (old new : List (Option Entry)) (c b d : List ℕ) (l l' : Level) (xs y
   beneath_stays = pending_stays old new ls stays
 
   pub top_held : (k : ℕ) → held_in ys k ≡ held_in xs k + opened (level_item old l) k
-  top_held k = omega (arith, ap (λ (zs : List Level). held_in zs k) is, ap (λ (zs : List Level). held_in zs k) at, held_cons l ls k, held_cons l' ls k, level_held old new c b d l l' r h k)
+  top_held k = omega (arith, ap (λ (zs : List WholeLevel). held_in zs k) is, ap (λ (zs : List WholeLevel). held_in zs k) at, held_cons l ls k, held_cons l' ls k, level_held old new c b d l l' r h k)
 
   pub top_read : AreRead new ys
   top_read =
@@ -181,27 +175,27 @@ module _ (old new : List (Option Entry)) (c b d : List ℕ) (l l' : Level) (xs y
       } in
       subst (AreRead new) (sym at) m
 
-pub top_unfinished : (table : List (Option Entry)) (xs ls : List Level) (l : Level) → xs ≡ l ∷ ls → AreUnfinished table xs → IsUnfinished table l
-top_unfinished table xs ls l is a = All-head (IsUnfinished table) l ls (subst (λ (ys : List Level). AreUnfinished table ys) is a)
+pub top_unfinished : (table : List (Option Entry)) (xs ls : List WholeLevel) (l : WholeLevel) → xs ≡ l ∷ ls → AreUnfinished table xs → IsUnfinished table l
+top_unfinished table xs ls l is a = All-head (IsUnfinished table) l ls (subst (λ (ys : List WholeLevel). AreUnfinished table ys) is a)
 
-in_buffer : (table : List (Option Entry)) (l : Level) (ls : List Level) (n : ℕ) → IsInBuffer (pending_in table (l ∷ ls)).sources n → IsLevelInBuffer l n
+in_buffer : (table : List (Option Entry)) (l : WholeLevel) (ls : List WholeLevel) (n : ℕ) → IsInBuffer (pending_in table (l ∷ ls)).sources n → IsLevelInBuffer l n
 in_buffer table (level.List r) ls n h = tt
 in_buffer table (level.Call c) ls n h = tt
 in_buffer table (level.Source s) ls n h = h
 
-pub top_in_buffer : (table : List (Option Entry)) (l : Level) (xs ls : List Level) (n : ℕ) → xs ≡ l ∷ ls → IsInBuffer (pending_in table xs).sources n → IsLevelInBuffer l n
-top_in_buffer table l xs ls n is h = in_buffer table l ls n (subst (λ (ys : List Level). IsInBuffer (pending_in table ys).sources n) is h)
+pub top_in_buffer : (table : List (Option Entry)) (l : WholeLevel) (xs ls : List WholeLevel) (n : ℕ) → xs ≡ l ∷ ls → IsInBuffer (pending_in table xs).sources n → IsLevelInBuffer l n
+top_in_buffer table l xs ls n is h = in_buffer table l ls n (subst (λ (ys : List WholeLevel). IsInBuffer (pending_in table ys).sources n) is h)
 
-pub bottom_top : (old : List (Option Entry)) (c b : List ℕ) (xs : List Level) → length xs ≡ 0 → PullsTop c b b (pending_in old xs) (pending_in old xs) (next_item (pending_in old xs).puts) pulled_as.Bottom
+pub bottom_top : (old : List (Option Entry)) (c b : List ℕ) (xs : List WholeLevel) → length xs ≡ 0 → PullsTop c b b (pending_in old xs) (pending_in old xs) (next_item (pending_in old xs).puts) pulled_as.Bottom
 bottom_top old c b xs none =
     let nothing : Pending = record { puts = []; sources = [] } in
     let k : PullsTop c b b nothing nothing None pulled_as.Bottom = ((refl, refl, refl), refl) in
-    subst (λ (ys : List Level). PullsTop c b b (pending_in old ys) (pending_in old ys) (next_item (pending_in old ys).puts) pulled_as.Bottom) (sym (no_levels xs none)) k
+    subst (λ (ys : List WholeLevel). PullsTop c b b (pending_in old ys) (pending_in old ys) (next_item (pending_in old ys).puts) pulled_as.Bottom) (sym (no_levels xs none)) k
 
-pub bottom_opened : (old : List (Option Entry)) (xs : List Level) → length xs ≡ 0 → (h : ℕ) → opened (next_item (pending_in old xs).puts) h ≡ 0
-bottom_opened old xs none h = ap (λ (ys : List Level). opened (next_item (pending_in old ys).puts) h) (no_levels xs none)
+pub bottom_opened : (old : List (Option Entry)) (xs : List WholeLevel) → length xs ≡ 0 → (h : ℕ) → opened (next_item (pending_in old xs).puts) h ≡ 0
+bottom_opened old xs none h = ap (λ (ys : List WholeLevel). opened (next_item (pending_in old ys).puts) h) (no_levels xs none)
 
-pub none_shares : (old : List (Option Entry)) (xs : List Level) → length xs ≡ 0 → Shares old old (opened (next_item (pending_in old xs).puts))
+pub none_shares : (old : List (Option Entry)) (xs : List WholeLevel) → length xs ≡ 0 → Shares old old (opened (next_item (pending_in old xs).puts))
 none_shares old xs none = same_shares old old (opened (next_item (pending_in old xs).puts)) refl (bottom_opened old xs none)
 
 -- WHAT IS PULLED
@@ -317,13 +311,13 @@ item_line_end size c b d p q None (Ok r) is h = (h.0.1, from_line_end c b d p.so
 item_line_end size c b d p q None (Err f) is h = cc
 item_line_end size c b d p q (Some x) r is h = absurd (hands_line_end b d p q x (refused_at size x p) r is h)
 
-pub on_top : (table : List (Option Entry)) (ls : List Level) → (pending_in table ls).puts ≡ [] → 0 < length (pending_in table ls).sources → IsSourceOnTop ls
+pub on_top : (table : List (Option Entry)) (ls : List WholeLevel) → (pending_in table ls).puts ≡ [] → 0 < length (pending_in table ls).sources → IsSourceOnTop ls
 on_top table [] a b = absurd (omega (arith, b))
 on_top table (level.List r ∷ ls) a b = absurd (omega (arith, ap length a))
 on_top table (level.Call c ∷ ls) a b = absurd (omega (arith, ap length a))
 on_top table (level.Source s ∷ ls) a b = tt
 
-pub pulls_on_top : (table : List (Option Entry)) (size : ℕ) (c b d : List ℕ) (p : Pending) (ls : List Level) (r : Result Pulled Full) → is_line_end r ≡ true → Pulls size c b d p (pending_in table ls) r → IsSourceOnTop ls
+pub pulls_on_top : (table : List (Option Entry)) (size : ℕ) (c b d : List ℕ) (p : Pending) (ls : List WholeLevel) (r : Result Pulled Full) → is_line_end r ≡ true → Pulls size c b d p (pending_in table ls) r → IsSourceOnTop ls
 pulls_on_top table size c b d p ls r is h =
     let k = item_line_end size c b d p (pending_in table ls) (next_item p.puts) r is h in
     on_top table ls k.0 k.1

@@ -3,8 +3,8 @@ use Rattle.std.proofs.Common.{◌≡◌, ℕ, ◌+◌, List, [], ◌∷◌, Opti
 use Rattle.std.proofs.lemmas.List.Sums.{sum_by-cons, sum_by-append}
 use Rattle.token_lists.specs.Table.{Entry}
 use Rattle.token_lists.specs.Accounts.{holds, Moves, Keeps, Covers}
-use Rattle.input_stack.specs.declared.level.Level.{Level}
-use Rattle.input_stack.specs.declared.level.Level.TheVariants as level
+use Rattle.input_stack.specs.WholeLevel.{WholeLevel}
+use Rattle.input_stack.specs.WholeLevel as level
 use Rattle.input_stack.specs.declared.stack.InputStack.{InputStack}
 use Rattle.input_stack.specs.Rest.{number}
 use Rattle.input_stack.specs.Puts.{Put, lists_of}
@@ -18,7 +18,7 @@ use Rattle.input_stack.proofs.Kept.{held_cons, leave, pending_stays, read_stays}
 put_lists : (p : Put) (q : Pending) (h : ℕ) → times h (held_lists (in_front p q)) ≡ times h (lists_of p) + times h (held_lists q)
 put_lists p q h = ap (times h) (append_assoc (lists_of p) (lists_in q.puts) (lists_below q.sources)) ∙ sum_by-append (λ (n : ℕ). holds n h) (lists_of p) (held_lists q)
 
-pub held_puts : (table : List (Option Entry)) (ls : List Level) (h : ℕ) → held_in ls h ≡ times h (held_lists (pending_in table ls))
+pub held_puts : (table : List (Option Entry)) (ls : List WholeLevel) (h : ℕ) → held_in ls h ≡ times h (held_lists (pending_in table ls))
 held_puts table [] h = refl
 held_puts table (level.List r ∷ ls) h =
     let q = pending_in table ls in

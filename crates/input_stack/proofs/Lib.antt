@@ -20,3 +20,5 @@ pub mod Helds
 pub mod Lasting
 pub mod Bounds
 pub mod AtOnce
+pub mod Wholes
+pub mod Gone

@@ -1,21 +1,19 @@
 -- What is finished goes.
-use Rattle.std.proofs.Common.{zero, suc, ◌≡◌, ℕ, ◌+◌, ◌<◌, ◌≤◌, List, [], ◌∷◌, length, map, take, Option, None, Bool, true, false, refl, sym, ap, ap₂, ◌∙◌, arith}
-use Rattle.std.specs.Prelude.{All}
+use Rattle.std.proofs.Common.{◌≡◌, ℕ, ◌+◌, ◌<◌, List, [], ◌∷◌, length, map, Option, None, Bool, true, false, refl, sym, ap, ap₂, ◌∙◌, arith}
 use Rattle.std.proofs.lemmas.List.Elements.{All-head, All-tail}
 use Rattle.std.proofs.lemmas.List.Sums.{sum_by-cons}
 use Rattle.tex_defs.specs.declared.Token.{Token}
 use Rattle.token_lists.specs.Table.{Entry}
 use Rattle.input_stack.specs.Puts.{Put, Item, Text, is_empty, without_ended, settled_top, later_of, count_of, standing, standing_of, standing_arguments, used, used_of, used_arguments, when_some}
-use Rattle.input_stack.specs.declared.level.Level.{Level}
-use Rattle.input_stack.specs.declared.level.Level.TheVariants as level
+use Rattle.input_stack.specs.WholeLevel.{WholeLevel}
+use Rattle.input_stack.specs.WholeLevel as level
 use Rattle.input_stack.specs.Rest.{number, rest}
 use Rattle.input_stack.specs.Pending.{Pending, Below, with_puts, end_token_lists, levels, used_levels, arguments, used_parameters}
 use Rattle.token_lists.specs.declared.ListRef.{ListRef}
-use Rattle.input_stack.specs.declared.call.Call.{Call}
 use Rattle.input_stack.specs.Calls.{argument_list}
-use Rattle.input_stack.specs.CallViews.{argument_in, arguments_in, put_of_call, IsCall, IsSettled}
+use Rattle.input_stack.specs.CallViews.{cells_in, put_of_call, IsSettled}
 use Rattle.input_stack.specs.View.{pending_in, put_of, in_front, level_open, open_in, level_arguments, arguments_of}
-use Rattle.input_stack.specs.Standing.{IsLevel, IsUnfinished, AreUnfinished}
+use Rattle.input_stack.specs.Standing.{IsUnfinished, AreUnfinished}
 
 pub finished_goes : (p : Put) (xs : List Item) (below rest : List Put) → is_empty xs ≡ true → settled_top p xs below rest ≡ below
 finished_goes p [] below rest is = refl
@@ -33,7 +31,7 @@ settled_put : (p : Put) (q : Pending) → IsSettled p.reading p.items → end_to
 settled_put p q is = ap (λ (ps : List Put). with_puts ps q) (settled_same p p.items (without_ended q.puts) q.puts refl is)
 
 -- an unfinished level on top stays
-pub head_settle : (table : List (Option Entry)) (l : Level) (ls : List Level) → IsUnfinished table l → end_token_lists (pending_in table (l ∷ ls)) ≡ pending_in table (l ∷ ls)
+pub head_settle : (table : List (Option Entry)) (l : WholeLevel) (ls : List WholeLevel) → IsUnfinished table l → end_token_lists (pending_in table (l ∷ ls)) ≡ pending_in table (l ∷ ls)
 head_settle table (level.List r) ls some =
     let q = pending_in table ls in
     ap (λ (ps : List Put). with_puts ps q) (text_stays (number r) (rest table r) (without_ended q.puts) q.puts some)
@@ -52,18 +50,18 @@ pub closed_settle : (p p' : Put) (q : Pending) → p'.list ≡ p.list → p'.bod
 closed_settle p p' q a k b at is = ap (λ (ps : List Put). with_puts ps q) (settled_to p p' p.items (without_ended q.puts) q.puts a k b at is)
 
 -- where nothing is finished on top, settling changes nothing
-pub unfinished_settle : (table : List (Option Entry)) (ls : List Level) → AreUnfinished table ls → end_token_lists (pending_in table ls) ≡ pending_in table ls
+pub unfinished_settle : (table : List (Option Entry)) (ls : List WholeLevel) → AreUnfinished table ls → end_token_lists (pending_in table ls) ≡ pending_in table ls
 unfinished_settle table [] a = refl
 unfinished_settle table (l ∷ ls) a = head_settle table l ls (All-head (IsUnfinished table) l ls a)
 
-pub open_cons : (l : Level) (ls : List Level) → open_in (l ∷ ls) ≡ level_open l + open_in ls
+pub open_cons : (l : WholeLevel) (ls : List WholeLevel) → open_in (l ∷ ls) ≡ level_open l + open_in ls
 open_cons l ls = sum_by-cons level_open l ls
 
-pub arguments_cons : (l : Level) (ls : List Level) → arguments_of (l ∷ ls) ≡ level_arguments l + arguments_of ls
+pub arguments_cons : (l : WholeLevel) (ls : List WholeLevel) → arguments_of (l ∷ ls) ≡ level_arguments l + arguments_of ls
 arguments_cons l ls = sum_by-cons level_arguments l ls
 
 -- each level is one, and so is each argument's level on a call
-pub levels_are : (table : List (Option Entry)) (ls : List Level) → length ls + open_in ls ≡ levels (pending_in table ls)
+pub levels_are : (table : List (Option Entry)) (ls : List WholeLevel) → length ls + open_in ls ≡ levels (pending_in table ls)
 levels_are table [] = refl
 levels_are table (level.List r ∷ ls) =
     let q = pending_in table ls in
@@ -84,7 +82,7 @@ settled_used reading [] is = absurd is
 settled_used reading (x ∷ xs) is = omega (arith, ap count_of is)
 
 -- and is used where it isn't finished
-pub levels_used : (table : List (Option Entry)) (ls : List Level) → AreUnfinished table ls → length ls + open_in ls ≡ used_levels (pending_in table ls)
+pub levels_used : (table : List (Option Entry)) (ls : List WholeLevel) → AreUnfinished table ls → length ls + open_in ls ≡ used_levels (pending_in table ls)
 levels_used table [] a = refl
 levels_used table (level.List r ∷ ls) a =
     let q = pending_in table ls in
@@ -112,26 +110,22 @@ used_settle p = omega (arith, used_settled p.puts)
 
 -- ARGUMENTS
 
-count_length : (table : List (Option Entry)) (cells : List (Option ListRef)) (n : ℕ) → n ≤ length cells → length (map argument_list (map (argument_in table) (take n cells))) ≡ n
-count_length table cells zero l = refl
-count_length table [] (suc n) l = absurd (omega arith)
-count_length table (c ∷ cells) (suc n) l = omega (arith, count_length table cells n (omega arith))
-
-pub put_count : (table : List (Option Entry)) (c : Call) → IsCall table c → length (map argument_list (arguments_in table c.args)) ≡ c.args.count
-put_count table c a = count_length table c.args.lists c.args.count (omega (arith, a.filled.few, c.args.nine))
+pub put_count : (table : List (Option Entry)) (cells : List (Option ListRef)) → length (map argument_list (cells_in table cells)) ≡ length cells
+put_count table [] = refl
+put_count table (c ∷ cells) = omega (arith, put_count table cells)
 
 -- the arguments of all calls that stand
-pub arguments_are : (table : List (Option Entry)) (ls : List Level) → All (IsLevel table) ls → arguments_of ls ≡ arguments (pending_in table ls)
-arguments_are table [] a = refl
-arguments_are table (level.List r ∷ ls) a =
+pub arguments_are : (table : List (Option Entry)) (ls : List WholeLevel) → arguments_of ls ≡ arguments (pending_in table ls)
+arguments_are table [] = refl
+arguments_are table (level.List r ∷ ls) =
     let q = pending_in table ls in
-    omega (arith, arguments_are table ls (All-tail (IsLevel table) (level.List r) ls a), arguments_cons (level.List r) ls, sum_by-cons (λ (p : Put). length p.arguments) (put_of table r) q.puts)
-arguments_are table (level.Call c ∷ ls) a =
+    omega (arith, arguments_are table ls, arguments_cons (level.List r) ls, sum_by-cons (λ (p : Put). length p.arguments) (put_of table r) q.puts)
+arguments_are table (level.Call c ∷ ls) =
     let q = pending_in table ls in
-    omega (arith, arguments_are table ls (All-tail (IsLevel table) (level.Call c) ls a), arguments_cons (level.Call c) ls, put_count table c (All-head (IsLevel table) (level.Call c) ls a), sum_by-cons (λ (p : Put). length p.arguments) (put_of_call table c) q.puts)
-arguments_are table (level.Source s ∷ ls) a =
+    omega (arith, arguments_are table ls, arguments_cons (level.Call c) ls, put_count table c.args, sum_by-cons (λ (p : Put). length p.arguments) (put_of_call table c) q.puts)
+arguments_are table (level.Source s ∷ ls) =
     let q = pending_in table ls in
-    omega (arith, arguments_are table ls (All-tail (IsLevel table) (level.Source s) ls a), arguments_cons (level.Source s) ls, sum_by-cons (λ (b : Below). standing_arguments b.puts) (record { source = s; puts = q.puts }) q.sources)
+    omega (arith, arguments_are table ls, arguments_cons (level.Source s) ls, sum_by-cons (λ (b : Below). standing_arguments b.puts) (record { source = s; puts = q.puts }) q.sources)
 
 settled_some : (reading : Option ℕ) (xs : List Item) (n : ℕ) → IsSettled reading xs → when_some xs n ≡ n
 settled_some reading [] n is = absurd is
@@ -142,18 +136,18 @@ none_when [] = refl
 none_when (x ∷ xs) = refl
 
 -- they are used where nothing is finished
-pub arguments_used : (table : List (Option Entry)) (ls : List Level) → All (IsLevel table) ls → AreUnfinished table ls → arguments_of ls ≡ used_parameters (pending_in table ls)
-arguments_used table [] a u = refl
-arguments_used table (level.List r ∷ ls) a u =
+pub arguments_used : (table : List (Option Entry)) (ls : List WholeLevel) → AreUnfinished table ls → arguments_of ls ≡ used_parameters (pending_in table ls)
+arguments_used table [] u = refl
+arguments_used table (level.List r ∷ ls) u =
     let q = pending_in table ls in
-    omega (arith, arguments_used table ls (All-tail (IsLevel table) (level.List r) ls a) (All-tail (IsUnfinished table) (level.List r) ls u), arguments_cons (level.List r) ls, none_when (map Text (rest table r)), sum_by-cons (λ (p : Put). when_some p.items (length p.arguments)) (put_of table r) q.puts)
-arguments_used table (level.Call c ∷ ls) a u =
+    omega (arith, arguments_used table ls (All-tail (IsUnfinished table) (level.List r) ls u), arguments_cons (level.List r) ls, none_when (map Text (rest table r)), sum_by-cons (λ (p : Put). when_some p.items (length p.arguments)) (put_of table r) q.puts)
+arguments_used table (level.Call c ∷ ls) u =
     let q = pending_in table ls in
     let p = put_of_call table c in
-    omega (arith, arguments_used table ls (All-tail (IsLevel table) (level.Call c) ls a) (All-tail (IsUnfinished table) (level.Call c) ls u), arguments_cons (level.Call c) ls, put_count table c (All-head (IsLevel table) (level.Call c) ls a), settled_some p.reading p.items (length p.arguments) (All-head (IsUnfinished table) (level.Call c) ls u), sum_by-cons (λ (x : Put). when_some x.items (length x.arguments)) p q.puts)
-arguments_used table (level.Source s ∷ ls) a u =
+    omega (arith, arguments_used table ls (All-tail (IsUnfinished table) (level.Call c) ls u), arguments_cons (level.Call c) ls, put_count table c.args, settled_some p.reading p.items (length p.arguments) (All-head (IsUnfinished table) (level.Call c) ls u), sum_by-cons (λ (x : Put). when_some x.items (length x.arguments)) p q.puts)
+arguments_used table (level.Source s ∷ ls) u =
     let q = pending_in table ls in
-    omega (arith, arguments_used table ls (All-tail (IsLevel table) (level.Source s) ls a) (All-tail (IsUnfinished table) (level.Source s) ls u), arguments_cons (level.Source s) ls, sum_by-cons (λ (b : Below). used_arguments b.puts) (record { source = s; puts = q.puts }) q.sources)
+    omega (arith, arguments_used table ls (All-tail (IsUnfinished table) (level.Source s) ls u), arguments_cons (level.Source s) ls, sum_by-cons (λ (b : Below). used_arguments b.puts) (record { source = s; puts = q.puts }) q.sources)
 
 top_arguments : (p : Put) (xs : List Item) (below rest : List Put) → used_arguments below ≡ used_arguments rest → used_arguments (settled_top p xs below rest) ≡ when_some xs (length p.arguments) + used_arguments rest
 top_arguments p [] below rest is = omega (arith, is)

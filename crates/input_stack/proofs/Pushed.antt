@@ -1,27 +1,26 @@
 -- A list in front.
-use Rattle.std.proofs.Common.{◌≡◌, ℕ, ◌+◌, ◌<◌, ◌≤◌, List, [], ◌∷◌, length, map, take, Option, None, Some, Bool, true, false, not, refl, sym, ap, ap₂, ◌∙◌, subst, arith}
+use Rattle.std.proofs.Common.{◌≡◌, ℕ, ◌+◌, ◌<◌, ◌≤◌, List, [], ◌∷◌, length, map, Option, None, Some, Bool, true, false, not, refl, sym, ap, ap₂, ◌∙◌, subst, arith}
 use Rattle.std.specs.Prelude.{IsSome, ◌↔◌, is_some, nat_lt, nat_le}
 use Rattle.std.proofs.lemmas.Bool.Decides.{nat_tests}
-use Rattle.std.proofs.lemmas.List.{length-reverse}
 use Rattle.std.proofs.lemmas.List.Elements.{All-cons}
 use Rattle.std.proofs.lemmas.Option.{none-some}
 use Rattle.tex_defs.specs.declared.Token.{Token}
 use Rattle.tex_defs.specs.declared.Full.{Full}
 use Rattle.token_lists.specs.Table.{Entry, tokens_at}
 use Rattle.token_lists.specs.Accounts.{holds, none, Moves, Keeps, Covers}
-use Rattle.macro_args.specs.declared.args.Args.{Args}
-use Rattle.input_stack.specs.declared.call.Call.{Call}
+use Rattle.input_stack.specs.Whole.{WholeCall}
 use Rattle.input_stack.specs.Puts.{Item, Put, Text}
-use Rattle.input_stack.specs.Calls.{argument_list, substituted}
-use Rattle.input_stack.specs.CallViews.{argument_in, put_of_call}
+use Rattle.input_stack.specs.Calls.{substituted}
+use Rattle.input_stack.specs.CallViews.{put_of_call}
 use Rattle.input_stack.specs.declared.reader.Reader.{Reader}
-use Rattle.input_stack.specs.declared.level.Level.{Level}
+use Rattle.input_stack.specs.WholeLevel.{WholeLevel}
 use Rattle.input_stack.specs.declared.stack.InputStack.{InputStack}
 use Rattle.input_stack.specs.Rest.{number, rest}
 use Rattle.input_stack.specs.Pending.{Pending, end_token_lists, put, listed_put, shared_put, refusal, room, parameter_room, either, used_levels, used_parameters}
 use Rattle.input_stack.specs.View.{pending_in, in_front, innermost, level_holds, held_in}
 use Rattle.input_stack.specs.Standing.{IsLevel, AreUnfinished, AreRead, Fits}
 use Rattle.input_stack.proofs.Kept.{Stay, leaves, pending_stays, read_stays, held_cons, holds_itself}
+use Rattle.input_stack.proofs.Wholes.{levels_count, arguments_count}
 use Rattle.input_stack.proofs.CallItems.{without_arguments}
 use Rattle.input_stack.proofs.ListsEnded.{levels_used, used_settle, arguments_used, parameters_settle}
 
@@ -39,16 +38,16 @@ some_tokens None true ts k is ends = cc
 some_tokens None false ts k is ends = cc
 
 -- a list without tokens goes
-pub empty_stays : (old new : List (Option Entry)) (n : ℕ) (ls : List Level) → Covers old (λ h. holds n h + held_in ls h) → Moves old new (holds n) none → Keeps old new (holds n) → Stay old new (held_in ls)
+pub empty_stays : (old new : List (Option Entry)) (n : ℕ) (ls : List WholeLevel) → Covers old (λ h. holds n h + held_in ls h) → Moves old new (holds n) none → Keeps old new (holds n) → Stay old new (held_in ls)
 empty_stays old new n ls covers moves keeps = leaves old new (holds n) (held_in ls) covers moves keeps
 
 empty_put : (shared : Bool) (n : ℕ) (ts : List Token) (p : Pending) → ts ≡ [] → put (listed_put shared n ts) p ≡ p
 empty_put shared n ts p is = rw is refl
 
-pub empty_ok : (shared : Bool) (old new : List (Option Entry)) (n : ℕ) (ls : List Level) (ts : List Token) → Covers old (λ h. holds n h + held_in ls h) → Moves old new (holds n) none → Keeps old new (holds n) → ts ≡ [] → pending_in new ls ≡ put (listed_put shared n ts) (pending_in old ls)
+pub empty_ok : (shared : Bool) (old new : List (Option Entry)) (n : ℕ) (ls : List WholeLevel) (ts : List Token) → Covers old (λ h. holds n h + held_in ls h) → Moves old new (holds n) none → Keeps old new (holds n) → ts ≡ [] → pending_in new ls ≡ put (listed_put shared n ts) (pending_in old ls)
 empty_ok shared old new n ls ts covers moves keeps is = pending_stays old new ls (empty_stays old new n ls covers moves keeps) ∙ sym (empty_put shared n ts (pending_in old ls) is)
 
-pub empty_read : (old new : List (Option Entry)) (n : ℕ) (ls : List Level) → Covers old (λ h. holds n h + held_in ls h) → Moves old new (holds n) none → Keeps old new (holds n) → AreRead old ls → AreRead new ls
+pub empty_read : (old new : List (Option Entry)) (n : ℕ) (ls : List WholeLevel) → Covers old (λ h. holds n h + held_in ls h) → Moves old new (holds n) none → Keeps old new (holds n) → AreRead old ls → AreRead new ls
 empty_read old new n ls covers moves keeps a = read_stays old new ls (empty_stays old new n ls covers moves keeps) (λ h. omega (arith, covers h, moves h)) a
 
 -- what is refused
@@ -57,10 +56,10 @@ refused n size [] p some is = absurd (omega arith)
 refused n size (t ∷ ts) p some is = rw is refl
 
 pub used_is : (table : List (Option Entry)) (s : InputStack) (p : Pending) → Fits s → AreUnfinished table (innermost s) → pending_in table (innermost s) ≡ end_token_lists p → length s.levels.items + s.argument_levels ≡ used_levels p
-used_is table s p f a is = omega (arith, length-reverse s.levels.items, f.opens, levels_used table (innermost s) a, ap used_levels is, used_settle p)
+used_is table s p f a is = omega (arith, levels_count s, f.opens, levels_used table (innermost s) a, ap used_levels is, used_settle p)
 
-pub parameters_are : (table : List (Option Entry)) (s : InputStack) (p : Pending) → Fits s → AreRead table (innermost s) → AreUnfinished table (innermost s) → pending_in table (innermost s) ≡ end_token_lists p → s.arguments ≡ used_parameters p
-parameters_are table s p f a u is = omega (arith, f.counts, arguments_used table (innermost s) a.levels u, ap used_parameters is, parameters_settle p)
+pub parameters_are : (table : List (Option Entry)) (s : InputStack) (p : Pending) → Fits s → AreUnfinished table (innermost s) → pending_in table (innermost s) ≡ end_token_lists p → length s.arguments.items ≡ used_parameters p
+parameters_are table s p f u is = omega (arith, arguments_count s f, arguments_used table (innermost s) u, ap used_parameters is, parameters_settle p)
 
 room_test : (size used : ℕ) (b : Bool) → nat_lt used size ≡ b → room size used ≡ None → used < size
 room_test size used true k is = grind (arith, nat_tests)
@@ -93,27 +92,26 @@ put_is : (shared : Bool) (n : ℕ) (ts : List Token) (p : Pending) → 0 < lengt
 put_is shared n [] p some = absurd (omega arith)
 put_is shared n (t ∷ ts) p some = refl
 
-pub put_ok : (shared : Bool) (mid : List (Option Entry)) (l : Level) (n : ℕ) (us ts : List Token) (xs ls : List Level) (p : Pending) → xs ≡ l ∷ ls → pending_in mid (l ∷ ls) ≡ in_front (listed_put shared n us) (pending_in mid ls) → us ≡ ts → 0 < length ts → pending_in mid ls ≡ end_token_lists p → pending_in mid xs ≡ put (listed_put shared n ts) p
+pub put_ok : (shared : Bool) (mid : List (Option Entry)) (l : WholeLevel) (n : ℕ) (us ts : List Token) (xs ls : List WholeLevel) (p : Pending) → xs ≡ l ∷ ls → pending_in mid (l ∷ ls) ≡ in_front (listed_put shared n us) (pending_in mid ls) → us ≡ ts → 0 < length ts → pending_in mid ls ≡ end_token_lists p → pending_in mid xs ≡ put (listed_put shared n ts) p
 put_ok shared mid l n us ts xs ls p is at same some q =
     ap (pending_in mid) is ∙ at ∙ ap₂ (λ (vs : List Token) (r : Pending). in_front (listed_put shared n vs) r) same q ∙ put_is shared n ts p some
 
 -- a call without arguments whose reader is at the front of its list
-pub shared_is : (table : List (Option Entry)) (call : Call) (r : Reader) (args : Args) (n : ℕ) (ts : List Token) → call ≡ record { body = r; argument = None; args = args } → args.count ≡ 0 → number r ≡ n → rest table r ≡ ts → put_of_call table call ≡ shared_put n ts
-shared_is table call r args n ts is few a b =
+pub shared_is : (table : List (Option Entry)) (call : WholeCall) (r : Reader) (n : ℕ) (ts : List Token) → call ≡ record { body = r; argument = None; args = [] } → number r ≡ n → rest table r ≡ ts → put_of_call table call ≡ shared_put n ts
+shared_is table call r n ts is a b =
     ap (put_of_call table) is
-    ∙ ap (λ (k : ℕ). let xs = map (argument_in table) (take k args.lists) in let x : Put = record { list = number r; body = true; arguments = map argument_list xs; reading = None; items = substituted xs (rest table r) } in x) few
     ∙ ap₂ (λ (k : ℕ) (us : List Token). let x : Put = record { list = k; body = true; arguments = []; reading = None; items = substituted [] us } in x) a b
     ∙ ap (λ (xs : List Item). let x : Put = record { list = n; body = true; arguments = []; reading = None; items = xs } in x) (without_arguments ts)
 
 -- a level on top of others that aren't finished
-pub put_read : (old mid : List (Option Entry)) (l : Level) (xs ls : List Level) (f : ℕ → ℕ) → xs ≡ l ∷ ls → IsLevel mid l → AreRead mid ls → AreUnfinished mid ls → Covers old (λ h. level_holds l h + f h) → Moves old mid f (held_in ls) → AreRead mid xs
+pub put_read : (old mid : List (Option Entry)) (l : WholeLevel) (xs ls : List WholeLevel) (f : ℕ → ℕ) → xs ≡ l ∷ ls → IsLevel mid l → AreRead mid ls → AreUnfinished mid ls → Covers old (λ h. level_holds l h + f h) → Moves old mid f (held_in ls) → AreRead mid xs
 put_read old mid l xs ls f is at read unfinished covers moves =
     let k : AreRead mid (l ∷ ls) = record {
       levels = All-cons (IsLevel mid) l ls at read.levels;
       below = unfinished;
       covers = λ h. omega (arith, held_cons l ls h, covers h, moves h);
     } in
-    subst (λ (ys : List Level). AreRead mid ys) (sym is) k
+    subst (λ (ys : List WholeLevel). AreRead mid ys) (sym is) k
 
-pub put_moves : (old mid : List (Option Entry)) (l : Level) (xs ls : List Level) (f : ℕ → ℕ) → xs ≡ l ∷ ls → Moves old mid f (held_in ls) → Moves old mid (λ h. level_holds l h + f h) (held_in xs)
-put_moves old mid l xs ls f is moves h = omega (arith, held_cons l ls h, moves h, ap (λ (ys : List Level). held_in ys h) is)
+pub put_moves : (old mid : List (Option Entry)) (l : WholeLevel) (xs ls : List WholeLevel) (f : ℕ → ℕ) → xs ≡ l ∷ ls → Moves old mid f (held_in ls) → Moves old mid (λ h. level_holds l h + f h) (held_in xs)
+put_moves old mid l xs ls f is moves h = omega (arith, held_cons l ls h, moves h, ap (λ (ys : List WholeLevel). held_in ys h) is)

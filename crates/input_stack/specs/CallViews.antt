@@ -7,9 +7,8 @@ use Rattle.token_lists.specs.Ids.{id_of}
 use Rattle.token_lists.specs.Table.{Entry, tokens_at, places_at, holders_at, IsHeld}
 use Rattle.token_lists.specs.Accounts.{holds, cells_hold, none, Moves, Keeps}
 use Rattle.macro_args.specs.declared.args.Args.{Args}
-use Rattle.macro_args.specs.Args.{IsFilled}
 use Rattle.input_stack.specs.declared.reader.Reader.{Reader}
-use Rattle.input_stack.specs.declared.call.Call.{Call}
+use Rattle.input_stack.specs.Whole.{WholeCall}
 use Rattle.input_stack.specs.declared.met.Met.{Met}
 use Rattle.input_stack.specs.declared.met.Met.TheVariants as met_as
 use Rattle.input_stack.specs.Puts.{Item, Text, First, Later, Gap, Put, later_of, argument_of, count_of}
@@ -22,8 +21,11 @@ abbrev pub argument_in : List (Option Entry) → Option ListRef → Option Argum
 argument_in table None = None
 argument_in table (Some r) = Some (record { list = id_of r; tokens = tokens_at table (id_of r) })
 
+abbrev pub cells_in : List (Option Entry) → List (Option ListRef) → List (Option Argument)
+cells_in table cells = map (argument_in table) cells
+
 abbrev pub arguments_in : List (Option Entry) → Args → List (Option Argument)
-arguments_in table args = map (argument_in table) (take args.count args.lists)
+arguments_in table args = cells_in table (take args.count args.lists)
 
 -- the tokens that are left of the argument whose level is open
 abbrev pub open_tokens : List (Option Entry) → Option Reader → List Token
@@ -43,30 +45,42 @@ open_holds None h = 0
 open_holds (Some r) h = holds (number r) h
 
 -- the items that are left
-abbrev pub items_of : List (Option Entry) → Call → List Item
-items_of table c = open_items table c.argument ++ substituted (arguments_in table c.args) (rest table c.body)
+abbrev pub items_of : List (Option Entry) → WholeCall → List Item
+items_of table c = open_items table c.argument ++ substituted (cells_in table c.args) (rest table c.body)
 
-abbrev pub put_of_call : List (Option Entry) → Call → Put
-put_of_call table c = record { list = number c.body; body = true; arguments = map argument_list (arguments_in table c.args); reading = open_number c.argument; items = items_of table c }
+abbrev pub put_of_call : List (Option Entry) → WholeCall → Put
+put_of_call table c = record { list = number c.body; body = true; arguments = map argument_list (cells_in table c.args); reading = open_number c.argument; items = items_of table c }
 
 -- how often the arguments hold the list of a number
 abbrev pub arguments_hold : Args → ℕ → ℕ
 arguments_hold args h = cells_hold (take args.count args.lists) h
 
 -- a call holds the list that it reads, once more the argument whose level is open, and its arguments
-abbrev pub call_holds : Call → ℕ → ℕ
-call_holds c h = holds (number c.body) h + (open_holds c.argument h + arguments_hold c.args h)
+abbrev pub call_holds : WholeCall → ℕ → ℕ
+call_holds c h = holds (number c.body) h + (open_holds c.argument h + cells_hold c.args h)
+
+-- without its arguments
+abbrev pub readers_hold : Reader → Option Reader → ℕ → ℕ
+readers_hold body argument h = holds (number body) h + open_holds argument h
 
 -- how many of its levels are an argument's
-abbrev pub call_open : Call → ℕ
-call_open c = count_of (open_number c.argument)
+abbrev pub call_open : Option Reader → ℕ
+call_open argument = count_of (open_number argument)
 
--- the readers of a call are at the places of their next tokens, and its arguments are held
-pub record IsCall (table : List (Option Entry)) (c : Call) : Type 0 where
+-- the readers of a call are at the places of their next tokens
+pub record AreAt (table : List (Option Entry)) (r : Reader) (o : Option Reader) : Type 0 where
+  pub body : IsAt table r
+  pub argument : IfSome o (λ x. IsAt table x)
+
+-- each of these lists is held
+abbrev pub AreHeld : List (Option Entry) → List (Option ListRef) → Type 0
+AreHeld table cells = (h : ℕ) → 0 < cells_hold cells h → IsHeld table h
+
+-- the readers of a call are at their places, and its arguments are held
+pub record IsCall (table : List (Option Entry)) (c : WholeCall) : Type 0 where
   pub body : IsAt table c.body
   pub argument : IfSome c.argument (λ r. IsAt table r)
-  pub filled : IsFilled c.args
-  pub held : (h : ℕ) → 0 < arguments_hold c.args h → IsHeld table h
+  pub held : AreHeld table c.args
 
 -- an item is left, and an argument's level is open exactly where its further tokens are in front
 abbrev pub IsSettled : Option ℕ → List Item → Type 0
@@ -114,26 +128,21 @@ pub record Shares (old new : List (Option Entry)) (more : ℕ → ℕ) : Type 0 
   pub held : (h : ℕ) → 0 < more h → IsHeld old h
 
 -- the gaps in front are passed over and the item behind them is handed on
-pub record CallGives (old new : List (Option Entry)) (c c' : Call) (item : Item) (left : List Item) : Type 0 where
-  pub after : put_of_call new c' ≡ record { list = number c.body; body = true; arguments = map argument_list (arguments_in old c.args); reading = argument_of item; items = left }
+pub record CallGives (old new : List (Option Entry)) (c c' : WholeCall) (item : Item) (left : List Item) : Type 0 where
+  pub after : put_of_call new c' ≡ record { list = number c.body; body = true; arguments = map argument_list (cells_in old c.args); reading = argument_of item; items = left }
   pub stands : IsCall new c'
   pub shares : Shares old new (opened (Some item))
   pub held : (h : ℕ) → call_holds c' h ≡ call_holds c h + opened (Some item) h
-  pub levels : call_open c' ≡ call_open c + cond (opens (met_of item)) 1 0
-  pub args : c'.args ≡ c.args
+  pub levels : call_open c'.argument ≡ call_open c.argument + cond (opens (met_of item)) 1 0
 
-abbrev pub CallPulls : (old new : List (Option Entry)) → Call → Call → List Item → Option Token → Type 0
+abbrev pub CallPulls : (old new : List (Option Entry)) → WholeCall → WholeCall → List Item → Option Token → Type 0
 CallPulls old new c c' [] result = result ≡ None
 CallPulls old new c c' (x ∷ xs) result = (result ≡ Some (token_in x)) × CallGives old new c c' x xs
 
 -- An argument's level of which no token is left goes; where none goes, nothing changes.
-abbrev pub Closes : (old new : List (Option Entry)) → Call → Call → Bool → Type 0
-Closes old new c c' true = (c' ≡ record { body = c.body; argument = None; args = c.args }) × (open_tokens old c.argument ≡ []) × (call_open c ≡ 1) × Moves old new (open_holds c.argument) none × Keeps old new (open_holds c.argument)
+abbrev pub Closes : (old new : List (Option Entry)) → WholeCall → WholeCall → Bool → Type 0
+Closes old new c c' true = (c' ≡ record { body = c.body; argument = None; args = c.args }) × (open_tokens old c.argument ≡ []) × (call_open c.argument ≡ 1) × Moves old new (open_holds c.argument) none × Keeps old new (open_holds c.argument)
 Closes old new c c' false = (new ≡ old) × (c' ≡ c) × (open_tokens old c.argument ≡ [] → c.argument ≡ None)
-
--- each argument's list is held
-abbrev pub AreHeld : List (Option Entry) → Args → Type 0
-AreHeld table args = (h : ℕ) → 0 < arguments_hold args h → IsHeld table h
 
 -- an item is handed on, and the argument whose level stands then has the items behind it
 pub record Hands (old new : List (Option Entry)) (item : Item) (items : List Item) (handed : Token) (argument : Option Reader) : Type 0 where

@@ -12,3 +12,7 @@ pub mod Standing
 pub mod Lasting
 pub mod Pushes
 pub mod AtOnce
+pub mod Whole
+pub mod WholeLevel
+pub mod Wholes
+pub mod Reads

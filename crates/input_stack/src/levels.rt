@@ -1,20 +1,23 @@
 // What a level is and what is left of it.
-ghost use Rattle.std.specs.Prelude.{◌≡◌, ◌<◌, ◌^◌, length};
+ghost use Rattle.std.specs.Prelude.{◌≡◌, ◌-◌, ◌≤◌, List, Option, length, take, vec_capacity};
+ghost use Rattle.token_lists.specs.declared.ListRef.{ListRef};
 ghost use Rattle.token_lists.specs.Accounts.{Moves, Keeps, Covers, none};
 ghost use Rattle.input_stack.specs.Lasting.{Lasts};
 ghost use Rattle.input_stack.specs.CallViews.{met};
 ghost use Rattle.input_stack.specs.Levels.{level_item, is_level_finished, is_level_passed, LevelCloses};
 ghost use Rattle.input_stack.specs.Standing.{IsLevel};
-ghost use Rattle.input_stack.specs.View.{level_holds, level_open, level_arguments};
+ghost use Rattle.input_stack.specs.View.{level_holds, level_open};
+ghost use Rattle.input_stack.specs.Reads.{IsRead, read_holds};
+ghost use Rattle.input_stack.specs.Wholes.{whole, own, beneath, level_count};
 
 use crate::level::Level;
 use crate::met::Met;
-use crate::release::let_go;
-use token_lists::Lists;
+use crate::release::{let_cells_go, let_go};
+use token_lists::{ListRef, Lists};
 
 /// How many levels of arguments stand on it.
 pub fn argument_levels(level: &Level) -> u32
-    ensures { result ≡ level_open level.now }
+    ensures { (args : List (Option ListRef)) → result ≡ level_open (whole args level.now) }
 {
     match level {
         Level::Call(call) => call.argument_levels(),
@@ -22,10 +25,9 @@ pub fn argument_levels(level: &Level) -> u32
     }
 }
 
-/// How many arguments it has.
-pub fn arguments(level: &Level) -> u32
-    requires { level_arguments level.now < 2 ^ 32 }
-    ensures { result ≡ level_arguments level.now }
+// How many arguments its call has.
+fn arguments(level: &Level) -> u32
+    ensures { result ≡ level_count level.now }
 {
     match level {
         Level::Call(call) => call.arguments(),
@@ -33,10 +35,18 @@ pub fn arguments(level: &Level) -> u32
     }
 }
 
+/// Where its own arguments begin among so many, which are those of all levels up to it.
+pub fn first_own(level: &Level, count: usize) -> usize
+    requires { level_count level.now ≤ count }
+    ensures { result ≡ count - level_count level.now }
+{
+    count - arguments(level) as usize
+}
+
 /// Whether it is a list or a call of which nothing is left.
 pub fn is_finished(level: &Level, lists: &Lists) -> bool
-    requires { IsLevel lists.now level.now }
-    ensures { result ≡ is_level_finished lists.now level.now }
+    requires { IsRead lists.now level.now }
+    ensures { (args : List (Option ListRef)) → result ≡ is_level_finished lists.now (whole args level.now) }
 {
     match level {
         Level::List(reader) => reader.peek(lists).is_none(),
@@ -46,36 +56,37 @@ pub fn is_finished(level: &Level, lists: &Lists) -> bool
 }
 
 /// The next item of a list or a call that is no gap, if one is left.
-pub fn next_item(level: &Level, lists: &Lists) -> Option<Met>
-    requires { IsLevel lists.now level.now }
-    ensures { result ≡ met (level_item lists.now level.now) }
+pub fn next_item(level: &Level, args: &[Option<ListRef>], lists: &Lists) -> Option<Met>
+    requires { IsLevel lists.now (whole args.now level.now) }
+    ensures { result ≡ met (level_item lists.now (whole args.now level.now)) }
 {
     match level {
         Level::List(reader) => match reader.peek(lists) {
             Some(token) => Some(Met::Text(token)),
             None => None,
         },
-        Level::Call(call) => call.next(lists),
+        Level::Call(call) => call.next(lists, args),
         Level::Source(_) => None,
     }
 }
 
 /// Whether it is a list or a call of which nothing is left but gaps.
-pub fn is_passed(level: &Level, lists: &Lists) -> bool
-    requires { IsLevel lists.now level.now }
-    ensures { result ≡ is_level_passed lists.now level.now }
+pub fn is_passed(level: &Level, args: &[Option<ListRef>], lists: &Lists) -> bool
+    requires { IsLevel lists.now (whole args.now level.now) }
+    ensures { result ≡ is_level_passed lists.now (whole args.now level.now) }
 {
     match level {
         Level::Source(_) => false,
-        Level::List(_) | Level::Call(_) => next_item(level, lists).is_none(),
+        Level::List(_) | Level::Call(_) => next_item(level, args, lists).is_none(),
     }
 }
 
 /// The level of an argument of which no token is left goes. Whether one went.
 pub fn close_argument(level: &mut Level, lists: &mut Lists) -> bool
-    requires level { IsLevel lists.old level.old }
-    requires held { Covers lists.old (level_holds level.old) }
-    ensures closes { LevelCloses lists.old lists.new level.old level.new result }
+    requires level { IsRead lists.old level.old }
+    requires held { Covers lists.old (read_holds level.old) }
+    ensures closes { (args : List (Option ListRef)) → LevelCloses lists.old lists.new (whole args level.old) (whole args level.new) result }
+    ensures count { level_count level.new ≡ level_count level.old }
     ensures lasting { Lasts lists.old lists.new }
 {
     match level {
@@ -84,12 +95,11 @@ pub fn close_argument(level: &mut Level, lists: &mut Lists) -> bool
     }
 }
 
-/// Lets all that it holds go.
-pub fn release(level: Level, lists: &mut Lists)
-    requires level { IsLevel lists.old level }
-    requires held { Covers lists.old (level_holds level) }
-    ensures account { Moves lists.old lists.new (level_holds level) none }
-    ensures kept { Keeps lists.old lists.new (level_holds level) }
+// Lets all that it holds go but the arguments of its call.
+fn let_readers_go(level: Level, lists: &mut Lists)
+    requires { Covers lists.old (read_holds level) }
+    ensures account { Moves lists.old lists.new (read_holds level) none }
+    ensures kept { Keeps lists.old lists.new (read_holds level) }
     ensures lasting { Lasts lists.old lists.new }
 {
     match level {
@@ -97,4 +107,19 @@ pub fn release(level: Level, lists: &mut Lists)
         Level::Call(call) => call.release(lists),
         Level::Source(_) => {}
     }
+}
+
+/// Lets all that it holds go, with its own arguments, which are on top of those of all levels.
+pub fn release(level: Level, arguments: &mut Vec<Option<ListRef>>, lists: &mut Lists)
+    requires count { level_count level ≤ length arguments.old.items }
+    requires held { Covers lists.old (level_holds (whole (own arguments.old.items level) level)) }
+    ensures beneath { arguments.new.items ≡ beneath arguments.old.items level }
+    ensures capacity { vec_capacity arguments.new ≡ vec_capacity arguments.old }
+    ensures account { Moves lists.old lists.new (level_holds (whole (own arguments.old.items level) level)) none }
+    ensures kept { Keeps lists.old lists.new (level_holds (whole (own arguments.old.items level) level)) }
+    ensures lasting { Lasts lists.old lists.new }
+{
+    let first = first_own(&level, arguments.len());
+    let_readers_go(level, lists);
+    let_cells_go(arguments, first, lists);
 }

@@ -1,15 +1,18 @@
 // What one level gives.
-ghost use Rattle.std.specs.Prelude.{◌≡◌, length, false, None, Some, IfSome, IsSome, IsTrue, cond};
+ghost use Rattle.std.specs.Prelude.{◌≡◌, length, false, List, Option, None, Some, IfSome, IsSome, IsTrue, cond};
+ghost use Rattle.token_lists.specs.declared.ListRef.{ListRef};
 ghost use Rattle.line_lexer.specs.declared.Ahead.TheVariants as ahead;
 ghost use Rattle.input_stack.specs.Pulls.{answer_of};
 ghost use Rattle.input_stack.specs.Standing.{IsLevel, IsUnfinished};
 ghost use Rattle.input_stack.specs.CallViews.{IsCountable};
+ghost use Rattle.input_stack.specs.Reads.{IsRead};
+ghost use Rattle.input_stack.specs.Wholes.{whole, level_count};
 ghost use Rattle.input_stack.specs.Levels.{LevelPulls, HandsAtOnce, IsLevelInBuffer, level_item, is_level_passed, level_looks, is_ahead};
 
 use crate::level::{Level, Pulled};
 use line_lexer::{Ahead, Lexed, looks, next};
 use tex_defs::Token;
-use token_lists::Lists;
+use token_lists::{ListRef, Lists};
 use world_io::InId;
 
 fn line_answer(id: Option<InId>, lexed: Lexed) -> Pulled
@@ -26,8 +29,9 @@ fn line_answer(id: Option<InId>, lexed: Lexed) -> Pulled
 
 /// The next item of a list or a call, where it is a token at hand that opens no level.
 pub fn quick_level(level: &mut Level, lists: &Lists) -> Option<Token>
-    requires { IsLevel lists.now level.old }
-    ensures gives { IfSome result (λ t. HandsAtOnce lists.now level.old level.new t) }
+    requires { IsRead lists.now level.old }
+    ensures gives { (args : List (Option ListRef)) → IsLevel lists.now (whole args level.old) → IfSome result (λ t. HandsAtOnce lists.now (whole args level.old) (whole args level.new) t) }
+    ensures count { level_count level.new ≡ level_count level.old }
     ensures stays { result ≡ None → level.new ≡ level.old }
 {
     match level {
@@ -39,8 +43,8 @@ pub fn quick_level(level: &mut Level, lists: &Lists) -> Option<Token>
 
 /// Whether the next item of a list or a call is a token at hand.
 pub fn is_at_hand(level: &Level, lists: &Lists) -> bool
-    requires { IsLevel lists.now level.now }
-    ensures { IsTrue result → IsSome (level_item lists.now level.now) }
+    requires { IsRead lists.now level.now }
+    ensures { (args : List (Option ListRef)) → IsTrue result → IsSome (level_item lists.now (whole args level.now)) }
 {
     match level {
         Level::List(reader) => reader.is_left(lists),
@@ -52,24 +56,26 @@ pub fn is_at_hand(level: &Level, lists: &Lists) -> bool
 /// What an unfinished level gives, of which more is left than gaps.
 pub fn pull_level(
     level: &mut Level,
+    args: &[Option<ListRef>],
     lists: &mut Lists,
     bytes: &mut [u8],
     categories: &[u8; 256],
 ) -> Pulled
-    requires level { IsLevel lists.old level.old }
-    requires unfinished { IsUnfinished lists.old level.old }
-    requires more { is_level_passed lists.old level.old ≡ false }
-    requires countable { IsCountable lists.old (level_item lists.old level.old) }
-    requires in_buffer { IsLevelInBuffer level.old (length bytes.old) }
+    requires level { IsLevel lists.old (whole args.now level.old) }
+    requires unfinished { IsUnfinished lists.old (whole args.now level.old) }
+    requires more { is_level_passed lists.old (whole args.now level.old) ≡ false }
+    requires countable { IsCountable lists.old (level_item lists.old (whole args.now level.old)) }
+    requires in_buffer { IsLevelInBuffer (whole args.now level.old) (length bytes.old) }
     ensures size { length bytes.new ≡ length bytes.old }
-    ensures pulls { LevelPulls lists.old lists.new categories.now bytes.old bytes.new level.old level.new result }
+    ensures pulls { LevelPulls lists.old lists.new categories.now bytes.old bytes.new (whole args.now level.old) (whole args.now level.new) result }
+    ensures count { level_count level.new ≡ level_count level.old }
 {
     match level {
         Level::List(reader) => match reader.pull(lists) {
             Some(token) => Pulled::Token(token),
             None => Pulled::Bottom,
         },
-        Level::Call(call) => match call.pull(lists) {
+        Level::Call(call) => match call.pull(lists, args) {
             Some(token) => Pulled::Token(token),
             None => Pulled::Bottom,
         },
@@ -90,17 +96,18 @@ fn token_if(left: bool) -> Option<Ahead>
 /// What an unfinished level gives next, where it gives something.
 pub fn level_looks(
     level: &Level,
+    args: &[Option<ListRef>],
     lists: &Lists,
     bytes: &[u8],
     categories: &[u8; 256],
 ) -> Option<Ahead>
-    requires level { IsLevel lists.now level.now }
-    requires in_buffer { IsLevelInBuffer level.now (length bytes.now) }
-    ensures { result ≡ level_looks lists.now categories.now bytes.now level.now }
+    requires level { IsLevel lists.now (whole args.now level.now) }
+    requires in_buffer { IsLevelInBuffer (whole args.now level.now) (length bytes.now) }
+    ensures { result ≡ level_looks lists.now categories.now bytes.now (whole args.now level.now) }
 {
     match level {
         Level::List(reader) => token_if(reader.is_left(lists)),
-        Level::Call(call) => token_if(call.is_left(lists)),
+        Level::Call(call) => token_if(call.is_left(lists, args)),
         Level::Source(source) => Some(looks(bytes, &source.line, categories)),
     }
 }

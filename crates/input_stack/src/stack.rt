@@ -1,8 +1,13 @@
-ghost use Rattle.std.specs.Prelude.{◌≡◌, ℕ, ◌+◌, ◌≤◌, ◌<◌, List, Option, [], ◌∷◌, IfOk, IfErr, MatchOption, MatchResult, OnOk, OnErr, None, Some, map, false, cond, IfSome, IsSome, IsTrue, length, vec_capacity};
+ghost use Rattle.std.specs.Prelude.{◌≡◌, ℕ, ◌+◌, ◌-◌, ◌≤◌, ◌<◌, List, reverse, take, Option, [], ◌∷◌, IfOk, IfErr, MatchOption, MatchResult, OnOk, OnErr, None, Some, map, false, cond, IfSome, IsSome, IsTrue, length, vec_capacity};
 ghost use Rattle.token_lists.specs.Table.{Entry, IsHeld, tokens_at, entry_at};
+ghost use Rattle.token_lists.specs.declared.ListRef.{ListRef};
 ghost use Rattle.token_lists.specs.Ids.{id_of};
 ghost use Rattle.token_lists.specs.Accounts.{Moves, Keeps, Covers, none, holds};
 ghost use Rattle.macro_args.specs.Args.{IsFilled};
+ghost use Rattle.input_stack.specs.Whole.{WholeCall};
+ghost use Rattle.input_stack.specs.WholeLevel.{WholeLevel};
+ghost use Rattle.input_stack.specs.WholeLevel as whole_as;
+ghost use Rattle.input_stack.specs.Wholes.{whole, level_count, count_in};
 ghost use Rattle.input_stack.specs.Puts.{is_finished, next_item, Text};
 ghost use Rattle.input_stack.specs.Calls.{call_put};
 ghost use Rattle.input_stack.specs.CallViews.{arguments_in, met, is_opening, opened, Shares, IsCountable};
@@ -10,7 +15,7 @@ ghost use Rattle.input_stack.specs.Pushes.{pushed_holds, call_refused};
 ghost use Rattle.input_stack.specs.Levels.{is_top_passed};
 ghost use Rattle.input_stack.specs.Pending.{levels, arguments, used_parameters, without_top, either, parameter_room, end_token_lists, put, plain_put, shared_put, listed_put, refusal, room, used_levels, open_over, at_line, Ends};
 ghost use Rattle.input_stack.specs.Backs.{begun_holds, IsBegun, LacksMemory, PutsBack, Refuses};
-ghost use Rattle.input_stack.specs.View.{pending, pending_in, in_front, held, innermost, IsSourceOnTop, level_at, level_holds, level_open, level_arguments};
+ghost use Rattle.input_stack.specs.View.{pending, pending_in, in_front, held, innermost, IsSourceOnTop, level_at, level_holds, level_open};
 ghost use Rattle.input_stack.specs.Pulls.{Pulls, PullsTop, Passes, IsInBuffer, looks, is_ready, is_line_end};
 ghost use Rattle.input_stack.specs.Standing.{Stands, Fits, IsSized, IsLevel, AreUnfinished, AreRead};
 ghost use Rattle.input_stack.specs.Lasting.{Lasts, LastsBut};
@@ -19,7 +24,7 @@ ghost use Rattle.input_stack.specs.AtOnce.{PullsAtOnce};
 use crate::call::Call;
 use crate::level::{Begun, Level, Pulled, Source};
 use crate::levels::{
-    argument_levels, arguments, close_argument, is_finished, is_passed, next_item, release,
+    argument_levels, close_argument, first_own, is_finished, is_passed, next_item, release,
 };
 use crate::met::is_opening;
 use crate::pull::{is_at_hand, is_token, level_looks, pull_level, quick_level};
@@ -32,13 +37,14 @@ use tex_defs::{Full, Sizes, Table, Token};
 use token_lists::{ListRef, Lists};
 use world_io::InId;
 
-/// The levels of input, innermost last, with room for the size of the input stack.
+/// The levels of input, innermost last, with room for the size of the input stack, and the arguments of all calls.
 pub struct InputStack {
     levels: Vec<Level>,
+    // The arguments of all calls, a call's behind those of the calls beneath it, in their order, with room for the size of
+    // the parameter stack. An argument without tokens has no list.
+    arguments: Vec<Option<ListRef>>,
     // The levels of arguments, each on that of its call.
     argument_levels: u32,
-    // The arguments of all calls.
-    arguments: u32,
     size: u32,
     parameter_size: u32,
 }
@@ -65,18 +71,29 @@ fn begun(lists: &mut Lists, token: Token) -> Result<ListRef, (Full, Begun)>
 // A level that reads a list, as one of its own or as one that others may hold too.
 fn list_level(lists: &Lists, list: ListRef, shared: bool) -> Level
     requires { IsHeld lists.now (id_of list) }
-    ensures stands { IsLevel lists.now result }
-    ensures closed { level_open result ≡ 0 }
-    ensures no_arguments { level_arguments result ≡ 0 }
-    ensures held { (h : ℕ) → level_holds result h ≡ holds (id_of list) h }
-    ensures put { (levels : List Level) → pending_in lists.now (result ∷ levels) ≡ in_front (listed_put shared (id_of list) (tokens_at lists.now (id_of list))) (pending_in lists.now levels) }
+    ensures stands { IsLevel lists.now (whole [] result) }
+    ensures closed { level_open (whole [] result) ≡ 0 }
+    ensures no_arguments { level_count result ≡ 0 }
+    ensures held { (h : ℕ) → level_holds (whole [] result) h ≡ holds (id_of list) h }
+    ensures put { (levels : List WholeLevel) → pending_in lists.now (whole [] result ∷ levels) ≡ in_front (listed_put shared (id_of list) (tokens_at lists.now (id_of list))) (pending_in lists.now levels) }
 {
     let reader = Reader::new(lists, list);
     if shared {
-        Level::Call(Call::new(reader, Args::none()))
+        Level::Call(Call::new(reader, 0))
     } else {
         Level::List(reader)
     }
+}
+
+// Lets the macro's list and the arguments of a call go that has no body.
+fn let_unread_go(lists: &mut Lists, body: ListRef, args: Args)
+    requires { Covers lists.old (pushed_holds body args) }
+    ensures account { Moves lists.old lists.new (pushed_holds body args) none }
+    ensures kept { Keeps lists.old lists.new (pushed_holds body args) }
+    ensures lasting { Lasts lists.old lists.new }
+{
+    let_go(lists, body);
+    args.release(lists);
 }
 
 // How many levels go or come.
@@ -88,7 +105,8 @@ fn one_if(test: bool) -> u32
 
 // This file or line of `\read` goes on at a line.
 fn begin_at(level: &mut Level, line: Line)
-    ensures { level.new ≡ level_at line level.old }
+    ensures at { (args : List (Option ListRef)) → whole args level.new ≡ level_at line (whole args level.old) }
+    ensures count { level_count level.new ≡ level_count level.old }
 {
     if let Level::Source(source) = level {
         source.line = line;
@@ -96,7 +114,7 @@ fn begin_at(level: &mut Level, line: Line)
 }
 
 impl InputStack {
-    /// No level, and room for as many as the input stack's size.
+    /// No level, and room for as many as the input stack's size, and for as many arguments as the parameter stack's.
     ///
     /// # Errors
     /// There is no room for them. No other call takes memory.
@@ -107,14 +125,30 @@ impl InputStack {
         ensures parameter_size { IfOk result (λ s. s.parameter_size ≡ sizes.now.parameter_stack_size) }
     {
         let size = sizes.input_stack_size;
+        let parameter_size = sizes.parameter_stack_size;
         let levels = Vec::with_capacity(alloc, size as usize)?;
-        Ok(InputStack::without_levels(levels, size, sizes.parameter_stack_size))
+        match Vec::with_capacity(alloc, parameter_size as usize) {
+            Ok(arguments) => {
+                Ok(InputStack::without_levels(levels, arguments, size, parameter_size))
+            }
+            Err(error) => {
+                levels.destroy_empty();
+                Err(error)
+            }
+        }
     }
 
     // No level, in this room.
-    fn without_levels(levels: Vec<Level>, size: u32, parameter_size: u32) -> InputStack
+    fn without_levels(
+        levels: Vec<Level>,
+        arguments: Vec<Option<ListRef>>,
+        size: u32,
+        parameter_size: u32,
+    ) -> InputStack
         requires none { levels.items ≡ [] }
+        requires no_arguments { arguments.items ≡ [] }
         requires room { size ≤ vec_capacity levels }
+        requires parameter_room { parameter_size ≤ vec_capacity arguments }
         ensures stands { (table : List (Option Entry)) → Stands table result }
         ensures empty { innermost result ≡ [] }
         ensures size { result.size ≡ size }
@@ -122,8 +156,8 @@ impl InputStack {
     {
         InputStack {
             levels,
+            arguments,
             argument_levels: 0,
-            arguments: 0,
             size,
             parameter_size,
         }
@@ -144,7 +178,7 @@ impl InputStack {
         ensures standing { (table : List (Option Entry)) → Stands table self.now → result ≡ arguments (pending table self.now) }
         ensures used { (table : List (Option Entry)) → Stands table self.now → is_finished (pending table self.now).puts ≡ false → result ≡ used_parameters (pending table self.now) }
     {
-        self.arguments
+        self.arguments.len() as u32
     }
 
     // Whether nothing is left of the list on top.
@@ -162,24 +196,12 @@ impl InputStack {
         ensures { result ≡ is_top_passed lists.now (innermost self.now) }
     {
         let count = self.levels.len();
-        count > 0 && is_passed(&self.levels[count - 1], lists)
-    }
-
-    // Takes the level on top off.
-    fn take(&mut self) -> Option<Level>
-        requires { Fits self.old }
-        ensures top { MatchOption result (innermost self.old ≡ []) (λ l. innermost self.old ≡ l ∷ innermost self.new) }
-        ensures fits { Fits self.new }
-        ensures fewer { IfSome result (λ _. length self.new.levels.items < length self.old.levels.items) }
-        ensures open_fewer { self.new.argument_levels ≤ self.old.argument_levels }
-        ensures sizes { IsSized self.old self.new }
-    {
-        let Some(level) = self.levels.pop() else {
-            return None;
-        };
-        self.argument_levels -= argument_levels(&level);
-        self.arguments -= arguments(&level);
-        Some(level)
+        if count == 0 {
+            return false;
+        }
+        let level = &self.levels[count - 1];
+        let first = first_own(level, self.arguments.len());
+        is_passed(level, &self.arguments[first..], lists)
     }
 
     // The list or the call on top goes, with what is left of it.
@@ -196,8 +218,9 @@ impl InputStack {
         ensures lasting { Lasts lists.old lists.new }
         ensures sizes { IsSized self.old self.new }
     {
-        if let Some(level) = self.take() {
-            release(level, lists);
+        if let Some(level) = self.levels.pop() {
+            self.argument_levels -= argument_levels(&level);
+            release(level, &mut self.arguments, lists);
         }
     }
 
@@ -265,28 +288,47 @@ impl InputStack {
         ensures { result ≡ is_opening (met (next_item (pending lists.now self.now).puts)) }
     {
         let mut at = self.levels.len();
+        let mut count = self.arguments.len();
         while at > 0 {
             at -= 1;
             let level = &self.levels[at];
-            if !is_passed(level, lists) {
-                return is_opening(next_item(level, lists));
+            let first = first_own(level, count);
+            let args = &self.arguments[first..count];
+            if !is_passed(level, args, lists) {
+                return is_opening(next_item(level, args, lists));
             }
+            count = first;
         }
         false
     }
 
-    // Puts a level on top, on which no argument's level stands.
+    // Puts a level on top that has no arguments.
     fn put(&mut self, level: Level)
         requires fits { Fits self.old }
         requires room { length self.old.levels.items + self.old.argument_levels < self.old.size }
-        requires closed { level_open level ≡ 0 }
-        requires few { self.old.arguments + level_arguments level ≤ self.old.parameter_size }
-        ensures list { innermost self.new ≡ level ∷ innermost self.old }
+        requires closed { level_open (whole [] level) ≡ 0 }
+        requires no_arguments { level_count level ≡ 0 }
+        ensures list { innermost self.new ≡ whole [] level ∷ innermost self.old }
         ensures fits { Fits self.new }
         ensures sizes { IsSized self.old self.new }
     {
-        self.arguments += arguments(&level);
         self.levels.push_reserved(level);
+    }
+
+    // Puts a call on top, of which no argument's level is open.
+    fn put_call(&mut self, body: Reader, args: Args)
+        requires fits { Fits self.old }
+        requires filled { IsFilled args }
+        requires room { length self.old.levels.items + self.old.argument_levels < self.old.size }
+        requires few { length self.old.arguments.items + args.count ≤ self.old.parameter_size }
+        ensures list { let call : WholeCall = record { body = body; argument = None; args = take args.count args.lists } in innermost self.new ≡ whole_as.Call call ∷ innermost self.old }
+        ensures fits { Fits self.new }
+        ensures sizes { IsSized self.old self.new }
+    {
+        let count = args.count as u32;
+        args.push_onto(&mut self.arguments);
+        self.levels
+            .push_reserved(Level::Call(Call::new(body, count)));
     }
 
     // Why there is no room for one more level.
@@ -409,12 +451,13 @@ impl InputStack {
     fn call_full(&self, count: u32) -> Option<Full>
         requires fits { Fits self.now }
         requires few { count ≤ 9 }
-        ensures { result ≡ either (parameter_room self.now.parameter_size self.now.arguments count) (room self.now.size (length self.now.levels.items + self.now.argument_levels)) }
+        ensures { result ≡ either (parameter_room self.now.parameter_size (length self.now.arguments.items) count) (room self.now.size (length self.now.levels.items + self.now.argument_levels)) }
     {
-        if count > self.parameter_size - self.arguments {
+        let used = self.arguments.len() as u32;
+        if count > self.parameter_size - used {
             return Some(Full {
                 table: Table::ParameterStackSize,
-                used: self.arguments,
+                used,
                 size: self.parameter_size,
             });
         }
@@ -449,14 +492,14 @@ impl InputStack {
         let mut reader = Reader::new(lists, body);
         reader.skip_places(lists);
         if reader.peek(lists).is_none() {
-            release(Level::Call(Call::new(reader, args)), lists);
+            let_unread_go(lists, reader.into_list(), args);
             return Ok(());
         }
         self.drop_finished(lists);
         if let Some(full) = self.call_full(args.count as u32) {
             return Err((full, reader.into_list(), args));
         }
-        self.put(Level::Call(Call::new(reader, args)));
+        self.put_call(reader, args);
         Ok(())
     }
 
@@ -642,11 +685,16 @@ impl InputStack {
         ensures { result ≡ looks categories.now bytes.now (pending lists.now self.now) }
     {
         let mut at = self.levels.len();
+        let mut count = self.arguments.len();
         while at > 0 {
             at -= 1;
-            if let Some(ahead) = level_looks(&self.levels[at], lists, bytes, categories) {
+            let level = &self.levels[at];
+            let first = first_own(level, count);
+            let args = &self.arguments[first..count];
+            if let Some(ahead) = level_looks(level, args, lists, bytes, categories) {
                 return ahead;
             }
+            count = first;
         }
         Ahead::End
     }
@@ -687,13 +735,17 @@ impl InputStack {
             return Pulled::Bottom;
         }
         self.argument_levels += one_if(opening);
-        pull_level(&mut self.levels[count - 1], lists, bytes, categories)
+        let level = &mut self.levels[count - 1];
+        let first = first_own(level, self.arguments.len());
+        pull_level(level, &self.arguments[first..], lists, bytes, categories)
     }
 
     // The level on top goes, if there is one.
     fn drop_level(&mut self, lists: &mut Lists) -> bool
-        requires { AreRead lists.old (innermost self.old) }
+        requires read { AreRead lists.old (innermost self.old) }
+        requires counts { length self.old.arguments.items ≡ count_in (reverse self.old.levels.items) }
         ensures read { AreRead lists.new (innermost self.new) }
+        ensures counts { length self.new.arguments.items ≡ count_in (reverse self.new.levels.items) }
         ensures account { Moves lists.old lists.new (held self.old) (held self.new) }
         ensures kept { Keeps lists.old lists.new (held self.old) }
         ensures fewer { IsTrue result → length self.new.levels.items < length self.old.levels.items }
@@ -702,7 +754,7 @@ impl InputStack {
         let Some(level) = self.levels.pop() else {
             return false;
         };
-        release(level, lists);
+        release(level, &mut self.arguments, lists);
         true
     }
 
@@ -716,11 +768,12 @@ impl InputStack {
         while stack.drop_level(lists) {}
         let InputStack {
             levels,
+            arguments,
             argument_levels: _,
-            arguments: _,
             size: _,
             parameter_size: _,
         } = stack;
         levels.destroy_empty();
+        arguments.destroy_empty();
     }
 }

@@ -23,3 +23,7 @@ args_hold args h = cells_hold args.lists h
 pub record IsFilled (args : Args) : Type 0 where
   pub few : args.count ≤ 9
   pub free : (i : ℕ) → args.count ≤ i → slice_index_or args.lists i None ≡ None
+
+-- no cell has a list
+abbrev pub AreNone : List (Option ListRef) → Type 0
+AreNone cells = (i : ℕ) → slice_index_or cells i None ≡ None

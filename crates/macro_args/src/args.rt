@@ -1,7 +1,7 @@
 // The arguments of a call.
 ghost use Rattle.std.specs.Prelude.{◌≡◌, length};
 
-use crate::cells::release_cell;
+use crate::cells::{release_cell, spend_cells};
 use std::mem;
 use token_lists::{ListRef, Lists};
 
@@ -18,7 +18,7 @@ pub struct Args {
 }
 
 impl Args {
-    ghost use Rattle.std.specs.Prelude.{◌≡◌, ◌+◌, ◌<◌, ◌++◌, ◌∷◌, [], ℕ, slice_set};
+    ghost use Rattle.std.specs.Prelude.{◌≡◌, ◌+◌, ◌<◌, ◌≤◌, ◌++◌, ◌∷◌, [], ℕ, slice_set, take, vec_capacity};
     ghost use Rattle.token_lists.specs.Accounts.{Moves, Covers, Keeps, none, cell_holds};
     ghost use Rattle.macro_args.specs.Args.{args_hold, args_in, cell_tokens, IsFilled};
 
@@ -48,6 +48,23 @@ impl Args {
         let old = mem::replace(&mut self.lists[self.count], cell);
         release_cell(lists, old);
         self.count += 1;
+    }
+
+    /// Puts the arguments on a stack that has room for them, in their order.
+    pub fn push_onto(self, stack: &mut Vec<Option<ListRef>>)
+        requires filled { IsFilled self }
+        requires room { length stack.old.items + self.count ≤ vec_capacity stack.old }
+        ensures items { stack.new.items ≡ stack.old.items ++ take self.count self.lists }
+        ensures capacity { vec_capacity stack.new ≡ vec_capacity stack.old }
+    {
+        let Args { mut lists, count } = self;
+        let mut place = 0;
+        while place < count {
+            let cell = mem::replace(&mut lists[place], None);
+            stack.push_reserved(cell);
+            place += 1;
+        }
+        spend_cells(lists);
     }
 
     /// Lets all arguments go.

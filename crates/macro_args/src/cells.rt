@@ -3,6 +3,7 @@ ghost use Rattle.std.specs.Prelude.{◌≡◌, IfSome, None, length};
 ghost use Rattle.token_lists.specs.Table.{IsHeld};
 ghost use Rattle.token_lists.specs.Accounts.{Moves, Keeps, none, cell_holds};
 ghost use Rattle.token_lists.specs.Ids.{id_of};
+ghost use Rattle.macro_args.specs.Args.{AreNone};
 
 use token_lists::{ListRef, Lists};
 
@@ -17,4 +18,30 @@ pub fn release_cell(lists: &mut Lists, cell: Option<ListRef>)
     if let Some(list) = cell {
         lists.release(list);
     }
+}
+
+// A cell without a list goes.
+fn spend_cell(cell: Option<ListRef>)
+    requires { cell ≡ None }
+{
+    match cell {
+        None => {}
+        Some(_list) => unreachable!(),
+    }
+}
+
+// Cells without lists go.
+pub fn spend_cells(lists: [Option<ListRef>; 9])
+    requires { AreNone lists }
+{
+    let [a, b, c, d, e, f, g, h, i] = lists;
+    spend_cell(a);
+    spend_cell(b);
+    spend_cell(c);
+    spend_cell(d);
+    spend_cell(e);
+    spend_cell(f);
+    spend_cell(g);
+    spend_cell(h);
+    spend_cell(i);
 }

@@ -6,8 +6,8 @@ use Rattle.token_lists.specs.Table.{Entry, tokens_at}
 use Rattle.token_lists.specs.Accounts.{holds}
 use Rattle.input_stack.specs.Puts.{Item, Later, first}
 use Rattle.input_stack.specs.Calls.{Argument, token_items}
-use Rattle.input_stack.specs.CallViews.{HandsOn, IsCountable, arguments_in, is_gap}
-use Rattle.input_stack.proofs.CallItems.{argument_counts, item_is, item_past, first_met, empty_met}
+use Rattle.input_stack.specs.CallViews.{HandsOn, IsCountable, cells_in, is_gap}
+use Rattle.input_stack.proofs.CallItems.{cell_counts, item_is, item_past, first_met, empty_met}
 use Rattle.input_stack.proofs.CallPulled.{itself}
 use Rattle.input_stack.proofs.call.hand_on.Goals as goal
 
@@ -20,16 +20,16 @@ no_number table args (Number n) not = absurd (not n refl)
 no_number table args EndPlaces not = itself table EndPlaces
 
 pub first_of-requires : goal.first_of-requires
-first_of-requires c = c.requires.held (id_of c.in-Some.list) (argument_counts c.args.args.now c.saturating_sub-place.result c.in-Some.list c.requires.filled c.if-place-args.true c.in-Some.is)
+first_of-requires c = c.requires.held (id_of c.in-Some.list) (cell_counts c.args.args.now c.saturating_sub-place.result c.in-Some.list c.if-place-args.true c.in-Some.is)
 
 pub opened-requires-clause-held : goal.opened-requires-clause-held
-opened-requires-clause-held c = c.requires.held (id_of c.in-Some.list) (argument_counts c.args.args.now c.saturating_sub-place.result c.in-Some.list c.requires.filled c.if-place-args.true c.in-Some.is)
+opened-requires-clause-held c = c.requires.held (id_of c.in-Some.list) (cell_counts c.args.args.now c.saturating_sub-place.result c.in-Some.list c.if-place-args.true c.in-Some.is)
 
 pub opened-requires-clause-countable : goal.opened-requires-clause-countable
 opened-requires-clause-countable c =
     let t = c.args.lists.now in
     let n = id_of c.in-Some.list in
-    let e = item_is t c.args.args.now c.args.token c.in-Number.n c.saturating_sub-place.result (Some c.in-Some.list) c.requires.filled c.if-place-args.true c.saturating_sub-place.ensures c.in-Number.is c.in-Some.is in
+    let e = item_is t c.args.args.now c.args.token c.in-Number.n c.saturating_sub-place.result (Some c.in-Some.list) c.if-place-args.true c.saturating_sub-place.ensures c.in-Number.is c.in-Some.is in
     let f = first_met n (tokens_at t n) c.in-Some-first_of.first (sym c.in-Some-first_of.is ∙ c.first_of.ensures) in
     subst (λ (xs : List Item). IsCountable t (first xs)) (e ∙ f) c.requires.countable
 
@@ -37,7 +37,7 @@ pub returns-in-Some-first_of : goal.returns-in-Some-first_of
 returns-in-Some-first_of c =
     let t = c.args.lists.now in
     let n = id_of c.in-Some.list in
-    let e = item_is t c.args.args.now c.args.token c.in-Number.n c.saturating_sub-place.result (Some c.in-Some.list) c.requires.filled c.if-place-args.true c.saturating_sub-place.ensures c.in-Number.is c.in-Some.is in
+    let e = item_is t c.args.args.now c.args.token c.in-Number.n c.saturating_sub-place.result (Some c.in-Some.list) c.if-place-args.true c.saturating_sub-place.ensures c.in-Number.is c.in-Some.is in
     let f = first_met n (tokens_at t n) c.in-Some-first_of.first (sym c.in-Some-first_of.is ∙ c.first_of.ensures) in
     subst (λ (xs : List Item). HandsOn t c.opened.new.lists xs c.in-Some-first_of.first (Some c.opened.result)) (sym (e ∙ f)) (record {
       token = refl;
@@ -53,15 +53,15 @@ pub returns-in_default-first_of : goal.returns-in_default-first_of
 returns-in_default-first_of c =
     let t = c.args.lists.now in
     let n = id_of c.in-Some.list in
-    let e = item_is t c.args.args.now c.args.token c.in-Number.n c.saturating_sub-place.result (Some c.in-Some.list) c.requires.filled c.if-place-args.true c.saturating_sub-place.ensures c.in-Number.is c.in-Some.is in
+    let e = item_is t c.args.args.now c.args.token c.in-Number.n c.saturating_sub-place.result (Some c.in-Some.list) c.if-place-args.true c.saturating_sub-place.ensures c.in-Number.is c.in-Some.is in
     let f = empty_met n (tokens_at t n) (sym c.in_default-first_of.is ∙ c.first_of.ensures) in
     let g = ap (λ (xs : List Item). is_gap (first xs)) (sym (e ∙ f)) ∙ c.requires.some in
     absurd (true≢false g)
 
-pub returns-in_default-lists : goal.returns-in_default-lists
-returns-in_default-lists c =
+pub returns-in_default-args : goal.returns-in_default-args
+returns-in_default-args c =
     let t = c.args.lists.now in
-    let e = item_is t c.args.args.now c.args.token c.in-Number.n c.saturating_sub-place.result None c.requires.filled c.if-place-args.true c.saturating_sub-place.ensures c.in-Number.is c.in_default-lists.is in
+    let e = item_is t c.args.args.now c.args.token c.in-Number.n c.saturating_sub-place.result None c.if-place-args.true c.saturating_sub-place.ensures c.in-Number.is c.in_default-args.is in
     let g = ap (λ (xs : List Item). is_gap (first xs)) (sym e) ∙ c.requires.some in
     absurd (true≢false g)
 
@@ -72,4 +72,4 @@ returns-else-place-args c =
     subst (λ (xs : List Item). HandsOn t t xs (Number c.in-Number.n) None) (sym e) (itself t (Number c.in-Number.n))
 
 pub returns-in_default : goal.returns-in_default
-returns-in_default c = no_number c.args.lists.now (arguments_in c.args.lists.now c.args.args.now) c.args.token c.in_default.not-Number
+returns-in_default c = no_number c.args.lists.now (cells_in c.args.lists.now c.args.args.now) c.args.token c.in_default.not-Number

@@ -32,5 +32,6 @@ loop-self-preserved c =
         size = d.sizes.size ∙ i.sizes.size;
         parameter_size = d.sizes.parameter_size ∙ i.sizes.parameter_size;
         capacity = d.sizes.capacity ∙ i.sizes.capacity;
+        parameter_capacity = d.sizes.parameter_capacity ∙ i.sizes.parameter_capacity;
       };
     }

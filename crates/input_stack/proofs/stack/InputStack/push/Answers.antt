@@ -5,6 +5,7 @@ use Rattle.token_lists.specs.Table.{tokens_at}
 use Rattle.input_stack.specs.Pending.{room, refusal}
 use Rattle.input_stack.specs.Puts.{Text}
 use Rattle.input_stack.specs.View.{innermost, pending, held}
+use Rattle.input_stack.specs.Wholes.{whole}
 use Rattle.input_stack.proofs.Kept.{holds_itself}
 use Rattle.input_stack.proofs.Pushed.{no_tokens, some_tokens, empty_ok, empty_read, refused, used_is, room_left, put_tokens, put_ok, put_read, put_moves}
 use Rattle.input_stack.proofs.stack.InputStack.push.Goals as goal
@@ -68,8 +69,11 @@ list_level-level-requires c =
     let n = id_of c.args.list in
     omega (arith, c.requires.held n, holds_itself n, c.drop_finished.ensures.account n)
 
-pub put-requires-clause-few : goal.put-requires-clause-few
-put-requires-clause-few c = omega (arith, c.drop_finished.ensures.stands.fits.few, c.list_level-level.ensures.no_arguments)
+pub put-requires-clause-closed : goal.put-requires-clause-closed
+put-requires-clause-closed c = c.list_level-level.ensures.closed
+
+pub put-requires-clause-no_arguments : goal.put-requires-clause-no_arguments
+put-requires-clause-no_arguments c = c.list_level-level.ensures.no_arguments
 
 pub returns-then-is_none-clause-account : goal.returns-then-is_none-clause-account
 returns-then-is_none-clause-account c = λ h. omega (arith, c.let_go.ensures.account h)
@@ -155,7 +159,7 @@ returns-clause-stands c =
     let e = c.drop_finished.ensures in
     let l = c.list_level-level.ensures in
     record {
-      read = put_read c.args.lists.now c.drop_finished.new.lists c.list_level-level.result (innermost c.put.new.self) (innermost s) (held c.args.self.now) c.put.ensures.list l.stands e.stands.read e.unfinished (λ h. omega (arith, c.requires.held h, l.held h)) e.account;
+      read = put_read c.args.lists.now c.drop_finished.new.lists (whole [] c.list_level-level.result) (innermost c.put.new.self) (innermost s) (held c.args.self.now) c.put.ensures.list l.stands e.stands.read e.unfinished (λ h. omega (arith, c.requires.held h, l.held h)) e.account;
       fits = c.put.ensures.fits;
     }
 
@@ -166,11 +170,11 @@ returns-clause-ok c =
     let s = c.drop_finished.new.self in
     let e = c.drop_finished.ensures in
     let some : 0 < length (tokens_at t n) = some_tokens c.first.result c.is_none.result (tokens_at t n) c.is_none.ensures c.if-is_none.false c.first.ensures.ends in
-    put_ok c.args.shared c.drop_finished.new.lists c.list_level-level.result n (tokens_at c.drop_finished.new.lists n) (tokens_at t n) (innermost c.put.new.self) (innermost s) (pending t c.args.self.now) c.put.ensures.list (c.list_level-level.ensures.put (innermost s)) (put_tokens t c.drop_finished.new.lists n (held c.args.self.now) c.requires.held e.kept) some e.after
+    put_ok c.args.shared c.drop_finished.new.lists (whole [] c.list_level-level.result) n (tokens_at c.drop_finished.new.lists n) (tokens_at t n) (innermost c.put.new.self) (innermost s) (pending t c.args.self.now) c.put.ensures.list (c.list_level-level.ensures.put (innermost s)) (put_tokens t c.drop_finished.new.lists n (held c.args.self.now) c.requires.held e.kept) some e.after
 
 pub returns-clause-account : goal.returns-clause-account
 returns-clause-account c = λ h.
-    omega (arith, put_moves c.args.lists.now c.drop_finished.new.lists c.list_level-level.result (innermost c.put.new.self) (innermost c.drop_finished.new.self) (held c.args.self.now) c.put.ensures.list c.drop_finished.ensures.account h, c.list_level-level.ensures.held h)
+    omega (arith, put_moves c.args.lists.now c.drop_finished.new.lists (whole [] c.list_level-level.result) (innermost c.put.new.self) (innermost c.drop_finished.new.self) (held c.args.self.now) c.put.ensures.list c.drop_finished.ensures.account h, c.list_level-level.ensures.held h)
 
 pub returns-then-is_none-clause-tokens : goal.returns-then-is_none-clause-tokens
 returns-then-is_none-clause-tokens c = λ some.

@@ -1,4 +1,4 @@
-use Rattle.std.proofs.Common.{refl, arith, ◌+◌, ◌∙◌, sym, ap, length, ℕ}
+use Rattle.std.proofs.Common.{refl, ◌+◌, ◌∙◌, sym, ap, length, ℕ}
 use Rattle.input_stack.specs.Pending.{room}
 use Rattle.input_stack.specs.View.{pending}
 use Rattle.input_stack.proofs.Pushed.{used_is, room_left}
@@ -16,8 +16,8 @@ put-requires-clause-fits c = c.drop_finished.ensures.stands.fits
 pub put-requires-clause-closed : goal.put-requires-clause-closed
 put-requires-clause-closed c = refl
 
-pub put-requires-clause-few : goal.put-requires-clause-few
-put-requires-clause-few c = omega (arith, c.drop_finished.ensures.stands.fits.few)
+pub put-requires-clause-no_arguments : goal.put-requires-clause-no_arguments
+put-requires-clause-no_arguments c = refl
 
 pub returns-in-Some-clause-stands : goal.returns-in-Some-clause-stands
 returns-in-Some-clause-stands c = c.drop_finished.ensures.stands

@@ -1,16 +1,17 @@
-use Rattle.std.proofs.Common.{◌≡◌, ◌+◌, ◌∙◌, sym, ap, refl, arith, length, ℕ, None}
+use Rattle.std.proofs.Common.{◌≡◌, ◌+◌, ◌∙◌, sym, ap, refl, arith, length, take, ℕ, None}
 use Rattle.token_lists.specs.Ids.{id_of}
 use Rattle.token_lists.specs.Table.{tokens_at}
-use Rattle.input_stack.specs.declared.call.Call.{Call}
-use Rattle.input_stack.specs.declared.level.Level.TheVariants as level
+use Rattle.input_stack.specs.WholeLevel as level
+use Rattle.token_lists.specs.Accounts.{Moves, Keeps, holds, none}
+use Rattle.macro_args.specs.Args.{args_hold}
+use Rattle.input_stack.specs.Pushes.{pushed_holds}
 use Rattle.input_stack.specs.Calls.{body_of}
-use Rattle.input_stack.specs.CallViews.{call_open}
 use Rattle.input_stack.specs.Pending.{room, parameter_room}
 use Rattle.input_stack.specs.Rest.{number, rest}
 use Rattle.input_stack.specs.View.{innermost, pending, held}
 use Rattle.input_stack.proofs.Kept.{holds_itself}
 use Rattle.input_stack.proofs.Pushed.{used_is, parameters_are, room_left, parameters_left, neither, put_read, put_moves}
-use Rattle.input_stack.proofs.Called.{holds_are, stands_old, empty_read, empty_ok, empty_refused, empty_moves, empty_keeps, full_refused, call_level, call_pending}
+use Rattle.input_stack.proofs.Called.{holds_are, empty_read, empty_ok, empty_refused, empty_moves, empty_keeps, full_refused, call_level, call_pending, kept_as}
 use Rattle.input_stack.proofs.stack.InputStack.push_macro.Goals as goal
 
 pub new-reader-requires : goal.new-reader-requires
@@ -31,8 +32,8 @@ overflow_cast-args c = omega (arith, c.requires.filled.few, c.args.args.nine)
 pub call_full-requires-clause-fits : goal.call_full-requires-clause-fits
 call_full-requires-clause-fits c = c.drop_finished.ensures.stands.fits
 
-pub put-requires-clause-fits : goal.put-requires-clause-fits
-put-requires-clause-fits c = c.drop_finished.ensures.stands.fits
+pub put_call-requires-clause-fits : goal.put_call-requires-clause-fits
+put_call-requires-clause-fits c = c.drop_finished.ensures.stands.fits
 
 pub returns-then-is_none-clause-err : goal.returns-then-is_none-clause-err
 returns-then-is_none-clause-err c = tt
@@ -62,48 +63,33 @@ pub returns-clause-err : goal.returns-clause-err
 returns-clause-err c = tt
 
 pub returns-clause-size : goal.returns-clause-size
-returns-clause-size c = c.put.ensures.sizes.size ∙ c.drop_finished.ensures.size
+returns-clause-size c = c.put_call.ensures.sizes.size ∙ c.drop_finished.ensures.size
 
 pub returns-clause-parameter_size : goal.returns-clause-parameter_size
-returns-clause-parameter_size c = c.put.ensures.sizes.parameter_size ∙ c.drop_finished.ensures.parameter_size
+returns-clause-parameter_size c = c.put_call.ensures.sizes.parameter_size ∙ c.drop_finished.ensures.parameter_size
 
 pub call_full-requires-clause-few : goal.call_full-requires-clause-few
 call_full-requires-clause-few c = omega (arith, c.requires.filled.few, c.args.args.nine)
 
-pub release-requires-clause-level : goal.release-requires-clause-level
-release-requires-clause-level c =
-    let old = c.args.lists.now in
-    let s = c.args.self.now in
-    let f = held s in
-    let r = c.skip_places.new.self in
-    let same : number r ≡ id_of c.args.body = c.skip_places.ensures.same ∙ c.new-reader.ensures.same in
-    let left : rest old r ≡ body_of (tokens_at old (id_of c.args.body)) = c.skip_places.ensures.body ∙ ap body_of c.new-reader.ensures.whole in
-    stands_old old f c.args.body c.args.args r c.new.result c.new.ensures same left c.skip_places.ensures.at_next c.requires.filled c.requires.held
+pub let_unread_go-requires : goal.let_unread_go-requires
+let_unread_go-requires c = λ h.
+    let same : id_of c.into_list.result ≡ id_of c.args.body = c.into_list.ensures.same ∙ c.skip_places.ensures.same ∙ c.new-reader.ensures.same in
+    omega (arith, c.requires.held h, ap (λ (n : ℕ). holds n h) same)
 
-pub release-requires-clause-held : goal.release-requires-clause-held
-release-requires-clause-held c = λ h.
-    let old = c.args.lists.now in
-    let s = c.args.self.now in
-    let f = held s in
-    let r = c.skip_places.new.self in
-    let same : number r ≡ id_of c.args.body = c.skip_places.ensures.same ∙ c.new-reader.ensures.same in
-    let left : rest old r ≡ body_of (tokens_at old (id_of c.args.body)) = c.skip_places.ensures.body ∙ ap body_of c.new-reader.ensures.whole in
-    omega (arith, c.requires.held h, holds_are old f c.args.body c.args.args r c.new.result c.new.ensures same left c.skip_places.ensures.at_next c.requires.filled c.requires.held h)
-
-pub put-requires-clause-room : goal.put-requires-clause-room
-put-requires-clause-room c =
+pub put_call-requires-clause-room : goal.put_call-requires-clause-room
+put_call-requires-clause-room c =
     let s = c.drop_finished.new.self in
-    let n = neither (parameter_room s.parameter_size s.arguments c.args.args.count) (room s.size (length s.levels.items + s.argument_levels)) (sym c.call_full.ensures ∙ c.in_default.is) in
+    let n = neither (parameter_room s.parameter_size (length s.arguments.items) c.args.args.count) (room s.size (length s.levels.items + s.argument_levels)) (sym c.call_full.ensures ∙ c.in_default.is) in
     room_left s.size (length s.levels.items + s.argument_levels) n.1
 
-pub put-requires-clause-few : goal.put-requires-clause-few
-put-requires-clause-few c =
+pub put_call-requires-clause-few : goal.put_call-requires-clause-few
+put_call-requires-clause-few c =
     let s = c.drop_finished.new.self in
-    let n = neither (parameter_room s.parameter_size s.arguments c.args.args.count) (room s.size (length s.levels.items + s.argument_levels)) (sym c.call_full.ensures ∙ c.in_default.is) in
-    omega (arith, parameters_left s.parameter_size s.arguments c.args.args.count n.0, ap (λ (x : Call). x.args.count) c.new-2.ensures)
+    let n = neither (parameter_room s.parameter_size (length s.arguments.items) c.args.args.count) (room s.size (length s.levels.items + s.argument_levels)) (sym c.call_full.ensures ∙ c.in_default.is) in
+    parameters_left s.parameter_size (length s.arguments.items) c.args.args.count n.0
 
-pub put-requires-clause-closed : goal.put-requires-clause-closed
-put-requires-clause-closed c = ap call_open c.new-2.ensures
+pub put_call-requires-clause-filled : goal.put_call-requires-clause-filled
+put_call-requires-clause-filled c = c.requires.filled
 
 pub returns-then-is_none-clause-stands : goal.returns-then-is_none-clause-stands
 returns-then-is_none-clause-stands c =
@@ -111,10 +97,13 @@ returns-then-is_none-clause-stands c =
     let s = c.args.self.now in
     let f = held s in
     let r = c.skip_places.new.self in
+    let here : id_of c.into_list.result ≡ id_of c.args.body = c.into_list.ensures.same ∙ c.skip_places.ensures.same ∙ c.new-reader.ensures.same in
+    let moves : Moves old c.let_unread_go.new.lists (pushed_holds c.args.body c.args.args) none = λ h. omega (arith, c.let_unread_go.ensures.account h, ap (λ (n : ℕ). holds n h) here) in
+    let keeps : Keeps old c.let_unread_go.new.lists (pushed_holds c.args.body c.args.args) = kept_as old c.let_unread_go.new.lists (pushed_holds c.into_list.result c.args.args) (pushed_holds c.args.body c.args.args) (λ h. ap (λ (n : ℕ). holds n h + args_hold c.args.args h) here) c.let_unread_go.ensures.kept in
     let same : number r ≡ id_of c.args.body = c.skip_places.ensures.same ∙ c.new-reader.ensures.same in
     let left : rest old r ≡ body_of (tokens_at old (id_of c.args.body)) = c.skip_places.ensures.body ∙ ap body_of c.new-reader.ensures.whole in
     record {
-      read = empty_read old f c.args.body c.args.args r c.new.result c.new.ensures same left c.skip_places.ensures.at_next c.requires.filled c.requires.held c.release.new.lists (innermost s) c.peek.result c.is_none.result c.peek.ensures c.is_none.ensures c.if-is_none.true (λ h. refl) c.release.ensures.account c.release.ensures.kept c.requires.stands.read;
+      read = empty_read old f c.args.body c.args.args r (record { body = r; argument = None; args = take c.args.args.count c.args.args.lists }) refl same left c.skip_places.ensures.at_next c.requires.filled c.requires.held c.let_unread_go.new.lists (innermost s) c.peek.result c.is_none.result c.peek.ensures c.is_none.ensures c.if-is_none.true (λ h. refl) moves keeps c.requires.stands.read;
       fits = c.requires.stands.fits;
     }
 
@@ -124,9 +113,12 @@ returns-then-is_none-clause-ok c =
     let s = c.args.self.now in
     let f = held s in
     let r = c.skip_places.new.self in
+    let here : id_of c.into_list.result ≡ id_of c.args.body = c.into_list.ensures.same ∙ c.skip_places.ensures.same ∙ c.new-reader.ensures.same in
+    let moves : Moves old c.let_unread_go.new.lists (pushed_holds c.args.body c.args.args) none = λ h. omega (arith, c.let_unread_go.ensures.account h, ap (λ (n : ℕ). holds n h) here) in
+    let keeps : Keeps old c.let_unread_go.new.lists (pushed_holds c.args.body c.args.args) = kept_as old c.let_unread_go.new.lists (pushed_holds c.into_list.result c.args.args) (pushed_holds c.args.body c.args.args) (λ h. ap (λ (n : ℕ). holds n h + args_hold c.args.args h) here) c.let_unread_go.ensures.kept in
     let same : number r ≡ id_of c.args.body = c.skip_places.ensures.same ∙ c.new-reader.ensures.same in
     let left : rest old r ≡ body_of (tokens_at old (id_of c.args.body)) = c.skip_places.ensures.body ∙ ap body_of c.new-reader.ensures.whole in
-    empty_ok old f c.args.body c.args.args r c.new.result c.new.ensures same left c.skip_places.ensures.at_next c.requires.filled c.requires.held c.release.new.lists (innermost s) c.peek.result c.is_none.result c.peek.ensures c.is_none.ensures c.if-is_none.true (λ h. refl) c.release.ensures.account c.release.ensures.kept
+    empty_ok old f c.args.body c.args.args r (record { body = r; argument = None; args = take c.args.args.count c.args.args.lists }) refl same left c.skip_places.ensures.at_next c.requires.filled c.requires.held c.let_unread_go.new.lists (innermost s) c.peek.result c.is_none.result c.peek.ensures c.is_none.ensures c.if-is_none.true (λ h. refl) moves keeps
 
 pub returns-then-is_none-clause-refused : goal.returns-then-is_none-clause-refused
 returns-then-is_none-clause-refused c =
@@ -134,9 +126,12 @@ returns-then-is_none-clause-refused c =
     let s = c.args.self.now in
     let f = held s in
     let r = c.skip_places.new.self in
+    let here : id_of c.into_list.result ≡ id_of c.args.body = c.into_list.ensures.same ∙ c.skip_places.ensures.same ∙ c.new-reader.ensures.same in
+    let moves : Moves old c.let_unread_go.new.lists (pushed_holds c.args.body c.args.args) none = λ h. omega (arith, c.let_unread_go.ensures.account h, ap (λ (n : ℕ). holds n h) here) in
+    let keeps : Keeps old c.let_unread_go.new.lists (pushed_holds c.args.body c.args.args) = kept_as old c.let_unread_go.new.lists (pushed_holds c.into_list.result c.args.args) (pushed_holds c.args.body c.args.args) (λ h. ap (λ (n : ℕ). holds n h + args_hold c.args.args h) here) c.let_unread_go.ensures.kept in
     let same : number r ≡ id_of c.args.body = c.skip_places.ensures.same ∙ c.new-reader.ensures.same in
     let left : rest old r ≡ body_of (tokens_at old (id_of c.args.body)) = c.skip_places.ensures.body ∙ ap body_of c.new-reader.ensures.whole in
-    empty_refused old f c.args.body c.args.args r c.new.result c.new.ensures same left c.skip_places.ensures.at_next c.requires.filled c.requires.held c.release.new.lists (innermost s) c.peek.result c.is_none.result c.peek.ensures c.is_none.ensures c.if-is_none.true (λ h. refl) c.release.ensures.account c.release.ensures.kept s.size s.parameter_size c.args.args.count (pending old s)
+    empty_refused old f c.args.body c.args.args r (record { body = r; argument = None; args = take c.args.args.count c.args.args.lists }) refl same left c.skip_places.ensures.at_next c.requires.filled c.requires.held c.let_unread_go.new.lists (innermost s) c.peek.result c.is_none.result c.peek.ensures c.is_none.ensures c.if-is_none.true (λ h. refl) moves keeps s.size s.parameter_size c.args.args.count (pending old s)
 
 pub returns-then-is_none-clause-account : goal.returns-then-is_none-clause-account
 returns-then-is_none-clause-account c =
@@ -144,9 +139,12 @@ returns-then-is_none-clause-account c =
     let s = c.args.self.now in
     let f = held s in
     let r = c.skip_places.new.self in
+    let here : id_of c.into_list.result ≡ id_of c.args.body = c.into_list.ensures.same ∙ c.skip_places.ensures.same ∙ c.new-reader.ensures.same in
+    let moves : Moves old c.let_unread_go.new.lists (pushed_holds c.args.body c.args.args) none = λ h. omega (arith, c.let_unread_go.ensures.account h, ap (λ (n : ℕ). holds n h) here) in
+    let keeps : Keeps old c.let_unread_go.new.lists (pushed_holds c.args.body c.args.args) = kept_as old c.let_unread_go.new.lists (pushed_holds c.into_list.result c.args.args) (pushed_holds c.args.body c.args.args) (λ h. ap (λ (n : ℕ). holds n h + args_hold c.args.args h) here) c.let_unread_go.ensures.kept in
     let same : number r ≡ id_of c.args.body = c.skip_places.ensures.same ∙ c.new-reader.ensures.same in
     let left : rest old r ≡ body_of (tokens_at old (id_of c.args.body)) = c.skip_places.ensures.body ∙ ap body_of c.new-reader.ensures.whole in
-    empty_moves old f c.args.body c.args.args r c.new.result c.new.ensures same left c.skip_places.ensures.at_next c.requires.filled c.requires.held c.release.new.lists (innermost s) c.peek.result c.is_none.result c.peek.ensures c.is_none.ensures c.if-is_none.true (λ h. refl) c.release.ensures.account c.release.ensures.kept
+    empty_moves old f c.args.body c.args.args r (record { body = r; argument = None; args = take c.args.args.count c.args.args.lists }) refl same left c.skip_places.ensures.at_next c.requires.filled c.requires.held c.let_unread_go.new.lists (innermost s) c.peek.result c.is_none.result c.peek.ensures c.is_none.ensures c.if-is_none.true (λ h. refl) moves keeps
 
 pub returns-then-is_none-clause-kept : goal.returns-then-is_none-clause-kept
 returns-then-is_none-clause-kept c =
@@ -154,9 +152,12 @@ returns-then-is_none-clause-kept c =
     let s = c.args.self.now in
     let f = held s in
     let r = c.skip_places.new.self in
+    let here : id_of c.into_list.result ≡ id_of c.args.body = c.into_list.ensures.same ∙ c.skip_places.ensures.same ∙ c.new-reader.ensures.same in
+    let moves : Moves old c.let_unread_go.new.lists (pushed_holds c.args.body c.args.args) none = λ h. omega (arith, c.let_unread_go.ensures.account h, ap (λ (n : ℕ). holds n h) here) in
+    let keeps : Keeps old c.let_unread_go.new.lists (pushed_holds c.args.body c.args.args) = kept_as old c.let_unread_go.new.lists (pushed_holds c.into_list.result c.args.args) (pushed_holds c.args.body c.args.args) (λ h. ap (λ (n : ℕ). holds n h + args_hold c.args.args h) here) c.let_unread_go.ensures.kept in
     let same : number r ≡ id_of c.args.body = c.skip_places.ensures.same ∙ c.new-reader.ensures.same in
     let left : rest old r ≡ body_of (tokens_at old (id_of c.args.body)) = c.skip_places.ensures.body ∙ ap body_of c.new-reader.ensures.whole in
-    empty_keeps old f c.args.body c.args.args r c.new.result c.new.ensures same left c.skip_places.ensures.at_next c.requires.filled c.requires.held c.release.new.lists (innermost s) c.peek.result c.is_none.result c.peek.ensures c.is_none.ensures c.if-is_none.true (λ h. refl) c.release.ensures.account c.release.ensures.kept
+    empty_keeps old f c.args.body c.args.args r (record { body = r; argument = None; args = take c.args.args.count c.args.args.lists }) refl same left c.skip_places.ensures.at_next c.requires.filled c.requires.held c.let_unread_go.new.lists (innermost s) c.peek.result c.is_none.result c.peek.ensures c.is_none.ensures c.if-is_none.true (λ h. refl) moves keeps
 
 pub returns-in-Some-clause-refused : goal.returns-in-Some-clause-refused
 returns-in-Some-clause-refused c =
@@ -171,8 +172,8 @@ returns-in-Some-clause-refused c =
     let t = c.drop_finished.new.self in
     let p = pending old s in
     let n = length t.levels.items + t.argument_levels in
-    let k = full_refused old f c.args.body c.args.args r (record { body = r; argument = None; args = c.args.args }) refl same left c.skip_places.ensures.at_next c.requires.filled c.requires.held c.peek.result c.is_none.result c.peek.ensures c.is_none.ensures c.if-is_none.false s.size s.parameter_size t.arguments n t.size t.parameter_size p c.call_full.result e.size e.parameter_size (parameters_are mid t p e.stands.fits e.stands.read e.unfinished e.after) (used_is mid t p e.stands.fits e.unfinished e.after) c.call_full.ensures in
-    (k ∙ c.in-Some.is, c.into_list.ensures.list ∙ c.skip_places.ensures.list ∙ c.new-reader.ensures.list, refl)
+    let k = full_refused old f c.args.body c.args.args r (record { body = r; argument = None; args = take c.args.args.count c.args.args.lists }) refl same left c.skip_places.ensures.at_next c.requires.filled c.requires.held c.peek.result c.is_none.result c.peek.ensures c.is_none.ensures c.if-is_none.false s.size s.parameter_size (length t.arguments.items) n t.size t.parameter_size p c.call_full.result e.size e.parameter_size (parameters_are mid t p e.stands.fits e.unfinished e.after) (used_is mid t p e.stands.fits e.unfinished e.after) c.call_full.ensures in
+    (k ∙ c.in-Some.is, c.into_list-in-Some.ensures.list ∙ c.skip_places.ensures.list ∙ c.new-reader.ensures.list, refl)
 
 pub returns-clause-refused : goal.returns-clause-refused
 returns-clause-refused c =
@@ -187,7 +188,7 @@ returns-clause-refused c =
     let t = c.drop_finished.new.self in
     let p = pending old s in
     let n = length t.levels.items + t.argument_levels in
-    full_refused old f c.args.body c.args.args r (record { body = r; argument = None; args = c.args.args }) refl same left c.skip_places.ensures.at_next c.requires.filled c.requires.held c.peek.result c.is_none.result c.peek.ensures c.is_none.ensures c.if-is_none.false s.size s.parameter_size t.arguments n t.size t.parameter_size p c.call_full.result e.size e.parameter_size (parameters_are mid t p e.stands.fits e.stands.read e.unfinished e.after) (used_is mid t p e.stands.fits e.unfinished e.after) c.call_full.ensures ∙ c.in_default.is
+    full_refused old f c.args.body c.args.args r (record { body = r; argument = None; args = take c.args.args.count c.args.args.lists }) refl same left c.skip_places.ensures.at_next c.requires.filled c.requires.held c.peek.result c.is_none.result c.peek.ensures c.is_none.ensures c.if-is_none.false s.size s.parameter_size (length t.arguments.items) n t.size t.parameter_size p c.call_full.result e.size e.parameter_size (parameters_are mid t p e.stands.fits e.unfinished e.after) (used_is mid t p e.stands.fits e.unfinished e.after) c.call_full.ensures ∙ c.in_default.is
 
 pub returns-clause-stands : goal.returns-clause-stands
 returns-clause-stands c =
@@ -201,11 +202,11 @@ returns-clause-stands c =
     let mid = c.drop_finished.new.lists in
     let t = c.drop_finished.new.self in
     let p = pending old s in
-    let k = call_level old f c.args.body c.args.args r c.new-2.result c.new-2.ensures same left c.skip_places.ensures.at_next c.requires.filled c.requires.held c.peek.result c.is_none.result c.peek.ensures c.is_none.ensures c.if-is_none.false mid (held t) e.account e.kept in
-    let h = λ (h : ℕ). holds_are old f c.args.body c.args.args r c.new-2.result c.new-2.ensures same left c.skip_places.ensures.at_next c.requires.filled c.requires.held h in
+    let k = call_level old f c.args.body c.args.args r (record { body = r; argument = None; args = take c.args.args.count c.args.args.lists }) refl same left c.skip_places.ensures.at_next c.requires.filled c.requires.held c.peek.result c.is_none.result c.peek.ensures c.is_none.ensures c.if-is_none.false mid (held t) e.account e.kept in
+    let h = λ (h : ℕ). holds_are old f c.args.body c.args.args r (record { body = r; argument = None; args = take c.args.args.count c.args.args.lists }) refl same left c.skip_places.ensures.at_next c.requires.filled c.requires.held h in
     record {
-      read = put_read old mid (level.Call c.new-2.result) (innermost c.put.new.self) (innermost t) f c.put.ensures.list k e.stands.read e.unfinished (λ i. omega (arith, c.requires.held i, h i)) e.account;
-      fits = c.put.ensures.fits;
+      read = put_read old mid (level.Call (record { body = r; argument = None; args = take c.args.args.count c.args.args.lists })) (innermost c.put_call.new.self) (innermost t) f c.put_call.ensures.list k e.stands.read e.unfinished (λ i. omega (arith, c.requires.held i, h i)) e.account;
+      fits = c.put_call.ensures.fits;
     }
 
 pub returns-clause-ok : goal.returns-clause-ok
@@ -220,7 +221,7 @@ returns-clause-ok c =
     let mid = c.drop_finished.new.lists in
     let t = c.drop_finished.new.self in
     let p = pending old s in
-    call_pending old f c.args.body c.args.args r c.new-2.result c.new-2.ensures same left c.skip_places.ensures.at_next c.requires.filled c.requires.held c.peek.result c.is_none.result c.peek.ensures c.is_none.ensures c.if-is_none.false mid (held t) e.account e.kept (innermost c.put.new.self) (innermost t) p c.put.ensures.list e.after
+    call_pending old f c.args.body c.args.args r (record { body = r; argument = None; args = take c.args.args.count c.args.args.lists }) refl same left c.skip_places.ensures.at_next c.requires.filled c.requires.held c.peek.result c.is_none.result c.peek.ensures c.is_none.ensures c.if-is_none.false mid (held t) e.account e.kept (innermost c.put_call.new.self) (innermost t) p c.put_call.ensures.list e.after
 
 pub returns-clause-account : goal.returns-clause-account
 returns-clause-account c = λ h.
@@ -234,7 +235,7 @@ returns-clause-account c = λ h.
     let mid = c.drop_finished.new.lists in
     let t = c.drop_finished.new.self in
     let p = pending old s in
-    omega (arith, put_moves old mid (level.Call c.new-2.result) (innermost c.put.new.self) (innermost t) f c.put.ensures.list e.account h, holds_are old f c.args.body c.args.args r c.new-2.result c.new-2.ensures same left c.skip_places.ensures.at_next c.requires.filled c.requires.held h)
+    omega (arith, put_moves old mid (level.Call (record { body = r; argument = None; args = take c.args.args.count c.args.args.lists })) (innermost c.put_call.new.self) (innermost t) f c.put_call.ensures.list e.account h, holds_are old f c.args.body c.args.args r (record { body = r; argument = None; args = take c.args.args.count c.args.args.lists }) refl same left c.skip_places.ensures.at_next c.requires.filled c.requires.held h)
 
 pub returns-clause-kept : goal.returns-clause-kept
 returns-clause-kept c =
@@ -257,4 +258,4 @@ pub returns-in-Some-clause-kept : goal.returns-in-Some-clause-kept
 returns-in-Some-clause-kept c = c.drop_finished.ensures.kept
 
 pub returns-then-is_none-clause-lasting : goal.returns-then-is_none-clause-lasting
-returns-then-is_none-clause-lasting c = c.release.ensures.lasting
+returns-then-is_none-clause-lasting c = c.let_unread_go.ensures.lasting
