@@ -48,15 +48,15 @@ parts_at old_table table macro cursor mode x s r o n e h = subst (λ (t : Step).
 
 module _ (old_table table : List (Option Entry)) (macro : ℕ) (old : ArgScan) (x : Token) (n : Option Present) (sound : IsSound old_table macro old) (account : Moves old_table table none none) where
   pub going : Parts old_table table macro old.cursor old.mode x step.Going old.present n → Answers old_table table macro old (record { cursor = old.cursor; mode = old.mode; braced = false; present = n; args = old.args }) x ask.More
-  going t = goes old_table table macro old x t.p t.was sound t.took.2 account t.q n t.now t.took.0 t.took.1 old.mode false _ _ t.took.3.goes_on.2 t.took.3.goes_on.0 t.took.3.goes_on.1 ask.More (λ args ts. refl) (λ h. refl) (λ left. tt)
+  going t = goes old_table table macro old x t.p t.was sound t.took.2 account t.q n t.now t.took.0 t.took.1 old.mode false _ _ t.took.3.goes_on.2 t.took.3.goes_on.0 t.took.3.goes_on.1 t.took.4 ask.More (λ args ts. refl) (λ h. refl) (λ left. tt)
       (case_on old_table table macro old x t.p t.was sound t.took.2 account _ t.took.3.met)
 
   pub skipped : Parts old_table table macro old.cursor old.mode x step.Skipped old.present n → Answers old_table table macro old (record { cursor = old.cursor; mode = old.mode; braced = false; present = n; args = old.args }) x ask.More
-  skipped t = goes old_table table macro old x t.p t.was sound t.took.2 account t.q n t.now t.took.0 t.took.1 old.mode false _ _ t.took.3.goes_on.2 t.took.3.goes_on.0 t.took.3.goes_on.1 ask.More (λ args ts. refl) (λ h. refl) (λ left. tt)
+  skipped t = goes old_table table macro old x t.p t.was sound t.took.2 account t.q n t.now t.took.0 t.took.1 old.mode false _ _ t.took.3.goes_on.2 t.took.3.goes_on.0 t.took.3.goes_on.1 t.took.4 ask.More (λ args ts. refl) (λ h. refl) (λ left. tt)
       (case_on old_table table macro old x t.p t.was sound t.took.2 account _ t.took.3.met)
 
   pub braced : Parts old_table table macro old.cursor old.mode x step.ExtraBrace old.present n → Answers old_table table macro old (record { cursor = old.cursor; mode = Short; braced = true; present = n; args = old.args }) x ask.ExtraBrace
-  braced t = goes old_table table macro old x t.p t.was sound t.took.2 account t.q n t.now t.took.0 t.took.1 Short true _ _ t.took.3.goes_on.2 t.took.3.goes_on.0 t.took.3.goes_on.1 ask.ExtraBrace (λ args ts. refl) (λ h. refl) (λ left. tt)
+  braced t = goes old_table table macro old x t.p t.was sound t.took.2 account t.q n t.now t.took.0 t.took.1 Short true _ _ t.took.3.goes_on.2 t.took.3.goes_on.0 t.took.3.goes_on.1 t.took.4 ask.ExtraBrace (λ args ts. refl) (λ h. refl) (λ left. tt)
       (case_on old_table table macro old x t.p t.was sound t.took.2 account _ t.took.3.met)
 
   pub ended : (silent : Bool) → silent ≡ is_checked (par_mode old.mode) → Parts old_table table macro old.cursor old.mode x step.ParEnded old.present n → Answers old_table table macro old (record { cursor = old.cursor; mode = old.mode; braced = false; present = n; args = old.args }) x (ask.ParEnded silent)

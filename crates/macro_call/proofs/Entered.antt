@@ -18,7 +18,7 @@ use Rattle.macro_call.specs.declared.present.Present.{Present}
 use Rattle.macro_call.specs.declared.scan.ArgScan.{ArgScan}
 use Rattle.macro_call.specs.declared.scan.ArgAsk.TheVariants as ask
 use Rattle.macro_args.specs.Args.{cell_tokens, args_in, args_hold}
-use Rattle.macro_call.specs.Cursors.{rest_at, delimiter_at}
+use Rattle.macro_call.specs.Cursors.{IsOn, IsAhead, rest_at, delimiter_at}
 use Rattle.macro_call.specs.Holds.{present_holds}
 use Rattle.macro_call.specs.Modes.{par_mode}
 use Rattle.macro_call.specs.Stages.{Stands, stage_of, kept_in, read_in}
@@ -66,7 +66,7 @@ take_nothing n ds e = ap (λ (k : ℕ). take k ds) e
 module _ (old_table table : List (Option Entry)) (macro : ℕ) (old : ArgScan) (next : Cursor) (b : Build) (p : Present) (between : IsBetween old_table macro old)
     (left : NextPlace old_table macro old (Some next))
     (fresh : entry_at old_table (build_id b) ≡ None) (building : IsBuilding table b) (set : table ≡ slice_set old_table (build_id b) (Some empty)) (within : build_id b < length old_table)
-    (account : Moves old_table table none (holds (build_id b))) (is : p.build ≡ b) (zeros : (p.from ≡ 0) × (p.matched ≡ 0) × (p.depth ≡ 0)) where
+    (account : Moves old_table table none (holds (build_id b))) (is : p.build ≡ b) (zeros : (p.from ≡ 0) × (p.matched ≡ 0) × (p.depth ≡ 0)) (begins : p.next ≡ next) where
   only : IsOnly old_table table (build_id b)
   only = only_set old_table table (build_id b) (Some empty) set
 
@@ -113,14 +113,20 @@ module _ (old_table table : List (Option Entry)) (macro : ℕ) (old : ArgScan) (
   is_building : IsBuilding table p.build
   is_building = subst (IsBuilding table) (sym is) building
 
+  new_on : IsOn table macro next
+  new_on = on_kept old_table table (build_id b) macro only macro_apart next left.2
+
+  ahead : IsAhead table macro next p.matched p.next
+  ahead = (subst (IsOn table macro) (sym begins) new_on, omega (arith, ap (λ (c : Cursor). c.index) begins, zeros.1))
+
   is_sound : IsSound table macro (record { cursor = next; mode = old.mode; braced = old.braced; present = Some p; args = old.args })
   is_sound = record {
     owns = covers;
-    on = on_kept old_table table (build_id b) macro only macro_apart next left.2;
+    on = new_on;
     outside = omega (arith, account macro, between.outside, old_holds macro, new_holds macro);
     filled = between.filled;
     listed = listed_kept old_table table old.args (λ h l. only.apart h (held_apart h (omega (arith, old_holds h, between.owns h)))) between.listed;
-    in_place = (is_building, stands, left.0);
+    in_place = (is_building, stands, left.0, ahead);
   }
 
   kept_none : kept_in (stage_of table p) ≡ []

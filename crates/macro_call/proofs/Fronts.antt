@@ -5,6 +5,7 @@ use Rattle.std.proofs.lemmas.Bool.{eq-eqb, ne_eqb}
 use Rattle.std.proofs.lemmas.List.{append-nil}
 use Rattle.tex_defs.specs.declared.Token.{Token}
 use Rattle.plain_tokens.specs.Arguments.{same, is_begin, is_end, open_behind, is_prefix, partial, unmatched}
+use Rattle.macro_call.proofs.ArgumentTokens.{same_refl}
 
 -- one token more of a front that is compared with the delimiter
 pub prefix_step : (k n : ℕ) (ps qs met wanted : List Token) (a b x : Token) → k ≡ n + 1 → ps ≡ a ∷ met → qs ≡ b ∷ wanted →
@@ -24,6 +25,19 @@ pub prefix_goes_on : (k n : ℕ) (ps qs met wanted : List Token) (a b x : Token)
 prefix_goes_on k n ps qs met wanted a b x r e p q is holds =
     let f : same a b ≡ true = sym is ∙ holds in
     rw (prefix_step k n ps qs met wanted a b x e p q, f) refl
+
+-- behind m tokens of the delimiter x fits exactly where it is the next one
+pub prefix_next : (m : ℕ) (ds rest : List Token) (d x : Token) → drop m ds ≡ d ∷ rest → is_prefix (take m ds ++ x ∷ []) ds ≡ same x d
+prefix_next zero [] rest d x e = absurd (omega (arith, ap length e))
+prefix_next zero (y ∷ ys) rest d x e = ap (λ (l : List Token). is_prefix (x ∷ []) l) e ∙ alone (same x d)
+  where
+    alone : (b : Bool) → (b && true) ≡ b
+    alone true = refl
+    alone false = refl
+prefix_next (suc m) [] rest d x e = absurd (omega (arith, ap length e))
+prefix_next (suc m) (y ∷ ys) rest d x e =
+    let s : same y y ≡ true = same_refl y in
+    rw s (prefix_next m ys rest d x e)
 
 -- the first i tokens of a list are no part of its partial match, and `cur` is left, in front of which `groups` groups are groups
 pub record IsPast (ds whole : List Token) (depth i groups : ℕ) (cur : List Token) : Type 0 where

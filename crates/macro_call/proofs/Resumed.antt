@@ -15,7 +15,7 @@ use Rattle.macro_call.specs.declared.present.Present.{Present}
 use Rattle.macro_call.specs.declared.scan.ArgScan.{ArgScan}
 use Rattle.macro_call.specs.declared.scan.ArgAsk.{ArgAsk}
 use Rattle.macro_args.specs.Args.{cell_tokens, args_in, args_hold}
-use Rattle.macro_call.specs.Cursors.{rest_at, delimiter_at}
+use Rattle.macro_call.specs.Cursors.{IsAhead, rest_at, delimiter_at}
 use Rattle.macro_call.specs.Holds.{present_holds}
 use Rattle.macro_call.specs.Modes.{par_mode}
 use Rattle.macro_call.specs.Growths.{target_of, growth_of}
@@ -118,7 +118,7 @@ module _ (old_table table : List (Option Entry)) (macro : ℕ) (old : ArgScan) (
     pub now_moves : (mode : ParMode) (braced : Bool) → Moves old_table table (scan_holds old) (scan_holds (record { cursor = old.cursor; mode = mode; braced = braced; present = n; args = old.args }))
     now_moves mode braced = λ h. omega (arith, now_holds h, account h)
 
-    module _ (mode : ParMode) (braced : Bool) (kept t : List Token) (stands : Stands (delimiter_at old_table macro old.cursor) (stage_of table q)) (k : kept_in (stage_of table q) ≡ kept) (r : read_in (delimiter_at old_table macro old.cursor) (stage_of table q) ≡ t) where
+    module _ (mode : ParMode) (braced : Bool) (kept t : List Token) (stands : Stands (delimiter_at old_table macro old.cursor) (stage_of table q)) (k : kept_in (stage_of table q) ≡ kept) (r : read_in (delimiter_at old_table macro old.cursor) (stage_of table q) ≡ t) (ahead : IsAhead table macro old.cursor q.matched q.next) where
       resumed : (fed : List Fed) → resume_by table macro (record { cursor = old.cursor; mode = mode; braced = braced; present = n; args = old.args }) n fed
           ≡ behind (args_in old_table old.args) (behind_at old_table macro old) (search (delimiter_at old_table macro old.cursor) braced (par_mode mode) kept t fed)
       resumed fed =
@@ -131,6 +131,7 @@ module _ (old_table table : List (Option Entry)) (macro : ℕ) (old : ArgScan) (
         building,
         subst (λ (rest : List Token). Stands (start_of rest) (stage_of table q)) (sym old_rest) stands,
         here.2,
+        ahead,
       )
 
       now_sound : IsSound table macro (record { cursor = old.cursor; mode = mode; braced = braced; present = n; args = old.args })

@@ -11,7 +11,7 @@ use Rattle.token_lists.specs.Ids.{build_id, IsBuilding}
 use Rattle.token_lists.specs.Accounts.{Moves, none}
 use Rattle.token_lists.proofs.Builds.{sole_known}
 use Rattle.macro_call.specs.declared.cursor.Cursor.{Cursor}
-use Rattle.macro_call.specs.Cursors.{IsOn, rest_at}
+use Rattle.macro_call.specs.Cursors.{IsOn, IsAhead, rest_at}
 use Rattle.macro_call.specs.Tables.{IsOnly, IsGrownByPart}
 
 pub only_set : (old new : List (Option Entry)) (id : ℕ) (e : Option Entry) → new ≡ slice_set old id e → IsOnly old new id
@@ -54,6 +54,9 @@ module _ (old new : List (Option Entry)) (changed id : ℕ) (only : IsOnly old n
         place = on.place ∙ ap (λ (ps : List ℕ). slice_get ps cursor.index) (sym p);
         ends = subst (λ (ts : List Token). IsSome cursor.at ↔ (cursor.index < length ts)) (sym tokens_kept) on.ends;
       }
+
+  pub ahead_kept : (from : Cursor) (count n : ℕ) (next : Cursor) → n ≡ count → IsAhead old id from count next → IsAhead new id from n next
+  ahead_kept from count n next e ahead = (on_kept next ahead.0, omega (arith, ahead.1, e))
 
   pub rest_kept : (cursor : Cursor) → rest_at new id cursor ≡ rest_at old id cursor
   rest_kept cursor = ap (drop cursor.index) tokens_kept

@@ -164,3 +164,10 @@ not_whole ds m zero false fits iff f = by (cases_lt (m + 1) (length ds))
     by (inl h) = omega arith
     by (inr h) = absurd (true≢false (sym (iff.1 (refl, omega arith))))
 not_whole ds m (suc k) false fits iff f = omega arith
+
+-- a match that stays is whole where nothing of the delimiter is behind it
+pub whole_by : (ds rest : List Token) (m out : ℕ) (b : Bool) → m < length ds → rest ≡ drop (m + 1 - out) ds → IsTrue b ↔ ((out ≡ 0) × (rest ≡ [])) → IsTrue b ↔ ((out ≡ 0) × (m + 1 ≡ length ds))
+whole_by ds rest m out b fits behind iff = (
+  λ yes. let p = iff.0 yes in (p.0, omega (arith, p.0, ap length p.1, ap length behind, length-drop (m + 1 - out) ds, fits)),
+  λ both. iff.1 (both.0, behind ∙ drop_all (m + 1 - out) ds (omega (arith, both.0, both.1))),
+)

@@ -4,7 +4,7 @@ use Rattle.tex_defs.specs.declared.Token.{Token}
 use Rattle.tex_defs.specs.declared.Token.TheVariants.{Place, EndPlaces}
 use Rattle.token_lists.specs.Table.{Entry, tokens_at}
 use Rattle.token_lists.specs.Accounts.{IsReading}
-use Rattle.plain_tokens.specs.Arguments.{start_of, delimiters_of, begins_with_place}
+use Rattle.plain_tokens.specs.Arguments.{start_of, delimiters_of, begins_with_place, is_prefix}
 use Rattle.macro_call.specs.declared.cursor.Cursor.{Cursor}
 
 -- the cursor is at a token of the list, or behind the last
@@ -44,3 +44,12 @@ is_mark x = false
 abbrev pub StepsAlong : List (Option Entry) → ℕ → Cursor → Option (Token × Cursor) → Type 0
 StepsAlong table id cursor None = delimiter_at table id cursor ≡ []
 StepsAlong table id cursor (Some (token, next)) = (delimiter_at table id cursor ≡ token ∷ delimiter_at table id next) × IsOn table id next × (next.index ≡ cursor.index + 1) × (delimiters_of (rest_at table id cursor) ≡ delimiters_of (rest_at table id next))
+
+-- the cursor so many tokens further on
+abbrev pub IsAhead : List (Option Entry) → ℕ → (from : Cursor) → (count : ℕ) → Cursor → Type 0
+IsAhead table id from count next = IsOn table id next × (next.index ≡ from.index + count)
+
+-- the cursor behind so many tokens, where these begin the delimiter
+abbrev pub IsBehindFront : List (Option Entry) → ℕ → (delimiter : Cursor) → (tokens : List Token) → (count : ℕ) → Option Cursor → Type 0
+IsBehindFront table id delimiter tokens count None = is_prefix tokens (delimiter_at table id delimiter) ≡ false
+IsBehindFront table id delimiter tokens count (Some next) = (is_prefix tokens (delimiter_at table id delimiter) ≡ true) × IsAhead table id delimiter count next

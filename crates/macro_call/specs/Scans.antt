@@ -14,7 +14,7 @@ use Rattle.macro_call.specs.declared.scan.ArgScan.{ArgScan}
 use Rattle.macro_call.specs.declared.scan.ArgAsk.{ArgAsk}
 use Rattle.macro_call.specs.declared.scan.ArgAsk.TheVariants as ask
 use Rattle.macro_args.specs.Args.{args_in, args_hold, IsFilled}
-use Rattle.macro_call.specs.Cursors.{IsOn, rest_at, delimiter_at}
+use Rattle.macro_call.specs.Cursors.{IsOn, IsAhead, rest_at, delimiter_at}
 use Rattle.macro_call.specs.Holds.{present_holds}
 use Rattle.macro_call.specs.Listed.{AreListed}
 use Rattle.macro_call.specs.Modes.{par_mode}
@@ -52,10 +52,11 @@ work_tokens table scan = unwrap_or (work_of table scan) []
 abbrev pub scan_holds : ArgScan → ℕ → ℕ
 scan_holds scan h = present_holds scan.present h + args_hold scan.args h
 
--- in front of the first place a token is left to be matched; in a place the list in work stands for what was read
+-- In front of the first place a token is left to be matched. In a place the list in work stands for what was read, and the
+-- argument's cursor is in the delimiter, behind what was matched.
 abbrev pub IsInPlace : List (Option Entry) → (macro : ℕ) → ArgScan → Option Present → Type 0
 IsInPlace table macro scan None = (scan.args.count ≡ 0) × (scan.braced ≡ false) × (0 < length (delimiter_at table macro scan.cursor))
-IsInPlace table macro scan (Some p) = IsBuilding table p.build × Stands (delimiter_at table macro scan.cursor) (stage_of table p) × (scan.args.count < 9)
+IsInPlace table macro scan (Some p) = IsBuilding table p.build × Stands (delimiter_at table macro scan.cursor) (stage_of table p) × (scan.args.count < 9) × IsAhead table macro scan.cursor p.matched p.next
 
 -- what the scanner holds is counted, its lists may be released, and an argument without tokens has none
 pub record Owns (table : List (Option Entry)) (scan : ArgScan) : Type 0 where
@@ -212,10 +213,10 @@ pub record IsCutShort (old_table new_table : List (Option Entry)) (macro : ℕ) 
   pub kept : Keeps old_table new_table (scan_holds old)
   pub stage : IsCutInGrowth old_table new_table macro old new x ⊎ IsCutBetween old_table new_table macro old new x
 
--- an argument is being gathered, and its list isn't the macro's
+-- an argument is being gathered, its list isn't the macro's, and its cursor is behind what was matched
 abbrev pub IsReady : List (Option Entry) → (macro : ℕ) → Cursor → Option Present → Type 0
 IsReady table macro cursor None = ⊥
-IsReady table macro cursor (Some p) = IsBuilding table p.build × (macro ≢ build_id p.build) × Stands (delimiter_at table macro cursor) (stage_of table p)
+IsReady table macro cursor (Some p) = IsBuilding table p.build × (macro ≢ build_id p.build) × Stands (delimiter_at table macro cursor) (stage_of table p) × IsAhead table macro cursor p.matched p.next
 
 -- what a token comes to in a place
 abbrev pub TookIn : (old_table new_table : List (Option Entry)) → (macro : ℕ) → Cursor → ParMode → Token → Step → (old new : Option Present) → Type 0
@@ -224,6 +225,7 @@ TookIn old_table new_table macro cursor mode x taken (Some p) None = ⊥
 TookIn old_table new_table macro cursor mode x taken (Some p) (Some q) =
     (build_id q.build ≡ build_id p.build) × IsBuilding new_table q.build × IsOnly old_table new_table (build_id p.build)
     × Took (delimiter_at old_table macro cursor) (stage_of old_table p) x taken (stage_of new_table q) (case_at (delimiter_at old_table macro cursor) (par_mode mode) (kept_in (stage_of old_table p)) (read_in (delimiter_at old_table macro cursor) (stage_of old_table p)) x)
+    × IsAhead new_table macro cursor q.matched q.next
 
 -- the same where the memory is full
 abbrev pub CutIn : (old_table new_table : List (Option Entry)) → (macro : ℕ) → Cursor → ParMode → Token → (old new : Option Present) → Type 0

@@ -23,6 +23,7 @@ stage_of table present = record { list = tokens_at table (build_id present.build
 pub record IsSamePoint (old new : Present) : Type 0 where
   pub from : new.from ≡ old.from
   pub matched : new.matched ≡ old.matched
+  pub next : new.next ≡ old.next
   pub depth : new.depth ≡ old.depth
 
 -- what stood in front of the last extra brace

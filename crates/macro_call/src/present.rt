@@ -1,5 +1,5 @@
 // The present argument.
-ghost use Rattle.std.specs.Prelude.{◌≡◌, ◌≢◌, ◌<◌, ◌+◌, ◌++◌, ◌∷◌, [], ◌↔◌, ◌&&◌, ◌==◌, false, length, take, IfOk, IfErr, IfSome, OnErr, IsTrue, None, ℕ};
+ghost use Rattle.std.specs.Prelude.{◌≡◌, ◌≢◌, ◌<◌, ◌+◌, ◌-◌, ◌++◌, ◌∷◌, [], ◌↔◌, ◌&&◌, ◌==◌, false, length, take, IfOk, IfErr, IfSome, OnErr, IsTrue, None, ℕ};
 ghost use Rattle.std.specs.Option.{ForSome};
 ghost use Rattle.token_lists.specs.Table.{tokens_at, entry_at};
 ghost use Rattle.token_lists.specs.Accounts.{Moves, none, holds, cell_holds};
@@ -8,7 +8,7 @@ ghost use Rattle.macro_call.specs.Holds.{present_holds};
 ghost use Rattle.token_lists.specs.Ids.{id_of, build_id, IsBuilding};
 ghost use Rattle.token_lists.specs.Refusals.{IsFull};
 ghost use Rattle.plain_tokens.specs.Arguments.{is_end, delimited_case, undelimited_case, case_at};
-ghost use Rattle.macro_call.specs.Cursors.{IsOn, delimiter_at, rest_at};
+ghost use Rattle.macro_call.specs.Cursors.{IsOn, IsAhead, delimiter_at};
 ghost use Rattle.macro_call.specs.Modes.{par_mode};
 ghost use Rattle.macro_call.specs.Stages.{stage_of, kept_in, read_in, gained, IsSamePoint, Stands, StandsAt, StandsPlain, Releases, Took};
 ghost use Rattle.macro_call.specs.Tables.{IsOnly, IsGrownByPart};
@@ -16,7 +16,7 @@ ghost use Rattle.macro_call.specs.Tables.{IsOnly, IsGrownByPart};
 use crate::braces::without_braces;
 use crate::builds::{store, store_front};
 use crate::cursor::{Cursor, at_first_built};
-use crate::matches::{behind, released};
+use crate::matches::{behind, go_on};
 use crate::par_mode::ParMode;
 use crate::tokens::{is_begin, is_end, is_par, is_space};
 use tex_defs::{Full, Token};
@@ -29,6 +29,8 @@ pub struct Present {
     from: usize,
     // How many tokens of the delimiter were matched. They aren't in the list.
     matched: usize,
+    // The place behind these: the token that goes on with the match.
+    next: Cursor,
     // How many groups are open.
     depth: usize,
 }
@@ -60,35 +62,27 @@ fn built_len(lists: &Lists, build: &Build) -> usize
     from.index()
 }
 
-// Whether a delimiter has one token more than so many. The call walks along these, and looks at the next two.
-fn has_one_more(lists: &Lists, list: &ListRef, delimiter: Cursor, count: usize) -> bool
-    requires { IsOn lists.now (id_of list.now) delimiter }
-    ensures { IsTrue result ↔ (count + 1 ≡ length (delimiter_at lists.now (id_of list.now) delimiter)) }
+// Whether a match is whole: all of it stays, and nothing of the delimiter is behind it.
+fn is_whole(lists: &Lists, list: &ListRef, out: usize, next: Cursor) -> bool
+    requires { IsOn lists.now (id_of list.now) next }
+    ensures { IsTrue result ↔ ((out ≡ 0) × (delimiter_at lists.now (id_of list.now) next ≡ [])) }
 {
-    let mut from = delimiter;
-    for _i in 0..count {
-        let Some((_, next)) = from.next_along(lists) else {
-            return false;
-        };
-        from = next;
-    }
-    match from.next_along(lists) {
-        Some((_, next)) => next.next_along(lists).is_none(),
-        None => false,
-    }
+    out == 0 && next.next_along(lists).is_none()
 }
 
 impl Present {
-    /// An argument begins, whose list is this one.
-    pub fn new(build: Build) -> Present
+    /// An argument begins, whose list is this one, at a place with this delimiter.
+    pub fn new(build: Build, delimiter: Cursor) -> Present
         ensures same { build_id result.build ≡ build_id build }
         ensures building { result.build ≡ build }
         ensures fresh { (result.from ≡ 0) × (result.matched ≡ 0) × (result.depth ≡ 0) }
+        ensures next { result.next ≡ delimiter }
     {
         Present {
             build,
             from: 0,
             matched: 0,
+            next: delimiter,
             depth: 0,
         }
     }
@@ -111,6 +105,7 @@ impl Present {
         ensures others { IsOnly lists.old lists.new (build_id self.old.build) }
         ensures account { Moves lists.old lists.new none none }
         ensures kept { IfOk result (λ _. (tokens_at lists.new (build_id self.old.build) ≡ tokens_at lists.old (build_id self.old.build) ++ take self.old.matched (delimiter_at lists.old (id_of list.now) delimiter)) × (self.new.from ≡ length (tokens_at lists.new (build_id self.old.build))) × (self.new.matched ≡ 0) × (self.new.depth ≡ self.old.depth)) }
+        ensures next { IfOk result (λ _. self.new.next ≡ delimiter) }
         ensures full { IfErr result (λ f. IsFull f lists.new) }
         ensures cut_short { OnErr result (IsGrownByPart (tokens_at lists.old (build_id self.old.build)) (tokens_at lists.new (build_id self.old.build)) (take self.old.matched (delimiter_at lists.old (id_of list.now) delimiter))) }
         ensures stays { OnErr result (IsSamePoint self.old self.new) }
@@ -119,6 +114,7 @@ impl Present {
         store_front(lists, list, &mut self.build, delimiter, self.matched)?;
         self.from = built_len(lists, &self.build);
         self.matched = 0;
+        self.next = delimiter;
         Ok(())
     }
 
@@ -131,6 +127,7 @@ impl Present {
         ensures building { IsBuilding lists.new self.new.build }
         ensures others { IsOnly lists.old lists.new (build_id self.old.build) }
         ensures account { Moves lists.old lists.new none none }
+        ensures point { (self.new.matched ≡ self.old.matched) × (self.new.next ≡ self.old.next) }
         ensures took { IfOk result (λ step. Took [] (stage_of lists.old self.old) x step (stage_of lists.new self.new) (undelimited_case (par_mode mode) (tokens_at lists.old (build_id self.old.build)) x)) }
         ensures full { IfErr result (λ f. IsFull f lists.new) }
         ensures unchanged { OnErr result (tokens_at lists.new (build_id self.old.build) ≡ tokens_at lists.old (build_id self.old.build)) }
@@ -162,6 +159,7 @@ impl Present {
         ensures building { IsBuilding lists.new self.new.build }
         ensures others { IsOnly lists.old lists.new (build_id self.old.build) }
         ensures account { Moves lists.old lists.new none none }
+        ensures point { (self.new.matched ≡ self.old.matched) × (self.new.next ≡ self.old.next) }
         ensures took { IfOk result (λ step. Took [] (stage_of lists.old self.old) x step (stage_of lists.new self.new) (undelimited_case (par_mode mode) (tokens_at lists.old (build_id self.old.build)) x)) }
         ensures full { IfErr result (λ f. IsFull f lists.new) }
         ensures unchanged { OnErr result (tokens_at lists.new (build_id self.old.build) ≡ tokens_at lists.old (build_id self.old.build)) }
@@ -191,14 +189,6 @@ impl Present {
         Ok(Step::Argument)
     }
 
-    // Whether a token behind the matched ones, of which `out` can be in no match any more, makes the match whole.
-    fn completes(&self, lists: &Lists, list: &ListRef, delimiter: Cursor, out: usize) -> bool
-        requires { IsOn lists.now (id_of list.now) delimiter }
-        ensures { IsTrue result ↔ ((out ≡ 0) × (self.now.matched + 1 ≡ length (delimiter_at lists.now (id_of list.now) delimiter))) }
-    {
-        out == 0 && has_one_more(lists, list, delimiter, self.matched)
-    }
-
     // A token that is no part of a whole match and no extra brace.
     fn feed_on(
         &mut self,
@@ -208,18 +198,22 @@ impl Present {
         mode: ParMode,
         x: Token,
         out: usize,
+        next: Cursor,
     ) -> Result<Step, Full>
         requires building { IsBuilding lists.old self.old.build }
         requires on { IsOn lists.old (id_of list.now) delimiter }
         requires apart { id_of list.now ≢ build_id self.old.build }
         requires stands { StandsAt (delimiter_at lists.old (id_of list.now) delimiter) (stage_of lists.old self.old) }
+        requires follows { IsAhead lists.old (id_of list.now) delimiter self.old.matched self.old.next }
         requires releases { Releases (delimiter_at lists.old (id_of list.now) delimiter) (stage_of lists.old self.old) x out }
+        requires next { IsAhead lists.old (id_of list.now) delimiter (self.old.matched + 1 - out) next }
         requires open_yet { self.old.matched + 1 < length (delimiter_at lists.old (id_of list.now) delimiter) + out }
         requires inside { (is_end x && (self.old.depth == 0)) ≡ false }
         ensures same { build_id self.new.build ≡ build_id self.old.build }
         ensures building { IsBuilding lists.new self.new.build }
         ensures others { IsOnly lists.old lists.new (build_id self.old.build) }
         ensures account { Moves lists.old lists.new none none }
+        ensures follows { IfOk result (λ step. IsAhead lists.new (id_of list.now) delimiter self.new.matched self.new.next) }
         ensures took { IfOk result (λ step. Took (delimiter_at lists.old (id_of list.now) delimiter) (stage_of lists.old self.old) x step (stage_of lists.new self.new) (delimited_case (delimiter_at lists.old (id_of list.now) delimiter) (par_mode mode) (kept_in (stage_of lists.old self.old)) (read_in (delimiter_at lists.old (id_of list.now) delimiter) (stage_of lists.old self.old)) x)) }
         ensures full { IfErr result (λ f. IsFull f lists.new) }
         ensures cut_short { OnErr result (IsGrownByPart (tokens_at lists.old (build_id self.old.build)) (tokens_at lists.new (build_id self.old.build)) (gained (delimiter_at lists.old (id_of list.now) delimiter) (stage_of lists.old self.old) x (delimited_case (delimiter_at lists.old (id_of list.now) delimiter) (par_mode mode) (kept_in (stage_of lists.old self.old)) (read_in (delimiter_at lists.old (id_of list.now) delimiter) (stage_of lists.old self.old)) x))) }
@@ -233,6 +227,7 @@ impl Present {
                 return Err(full);
             }
             self.matched = self.matched - out + 1;
+            self.next = next;
             self.depth = depth;
             return Ok(Step::Going);
         }
@@ -246,6 +241,7 @@ impl Present {
             return Err(full);
         }
         self.matched = 0;
+        self.next = next;
         self.depth = depth;
         Ok(Step::Going)
     }
@@ -263,10 +259,12 @@ impl Present {
         requires on { IsOn lists.old (id_of list.now) delimiter }
         requires apart { id_of list.now ≢ build_id self.old.build }
         requires stands { StandsAt (delimiter_at lists.old (id_of list.now) delimiter) (stage_of lists.old self.old) }
+        requires follows { IsAhead lists.old (id_of list.now) delimiter self.old.matched self.old.next }
         ensures same { build_id self.new.build ≡ build_id self.old.build }
         ensures building { IsBuilding lists.new self.new.build }
         ensures others { IsOnly lists.old lists.new (build_id self.old.build) }
         ensures account { Moves lists.old lists.new none none }
+        ensures follows { IfOk result (λ step. IsAhead lists.new (id_of list.now) delimiter self.new.matched self.new.next) }
         ensures took { IfOk result (λ step. Took (delimiter_at lists.old (id_of list.now) delimiter) (stage_of lists.old self.old) x step (stage_of lists.new self.new) (delimited_case (delimiter_at lists.old (id_of list.now) delimiter) (par_mode mode) (kept_in (stage_of lists.old self.old)) (read_in (delimiter_at lists.old (id_of list.now) delimiter) (stage_of lists.old self.old)) x)) }
         ensures full { IfErr result (λ f. IsFull f lists.new) }
         ensures cut_short { OnErr result (IsGrownByPart (tokens_at lists.old (build_id self.old.build)) (tokens_at lists.new (build_id self.old.build)) (gained (delimiter_at lists.old (id_of list.now) delimiter) (stage_of lists.old self.old) x (delimited_case (delimiter_at lists.old (id_of list.now) delimiter) (par_mode mode) (kept_in (stage_of lists.old self.old)) (read_in (delimiter_at lists.old (id_of list.now) delimiter) (stage_of lists.old self.old)) x))) }
@@ -275,8 +273,8 @@ impl Present {
     {
         let _used = lists.used();
         let before = if self.matched > 0 { 0 } else { self.depth };
-        let out = released(lists, list, delimiter, self.matched, before, x);
-        if self.completes(lists, list, delimiter, out) {
+        let (out, next) = go_on(lists, list, delimiter, self.next, self.matched, before, x);
+        if is_whole(lists, list, out, next) {
             without_braces(lists, &mut self.build);
             return Ok(Step::Argument);
         }
@@ -286,7 +284,7 @@ impl Present {
             }
             return Ok(Step::ExtraBrace);
         }
-        self.feed_on(lists, list, delimiter, mode, x, out)
+        self.feed_on(lists, list, delimiter, mode, x, out, next)
     }
 
     /// Takes a token at a place with this delimiter, which is empty where there is none.
@@ -305,10 +303,12 @@ impl Present {
         requires on { IsOn lists.old (id_of list.now) delimiter }
         requires apart { id_of list.now ≢ build_id self.old.build }
         requires stands { Stands (delimiter_at lists.old (id_of list.now) delimiter) (stage_of lists.old self.old) }
+        requires follows { IsAhead lists.old (id_of list.now) delimiter self.old.matched self.old.next }
         ensures same { build_id self.new.build ≡ build_id self.old.build }
         ensures building { IsBuilding lists.new self.new.build }
         ensures others { IsOnly lists.old lists.new (build_id self.old.build) }
         ensures account { Moves lists.old lists.new none none }
+        ensures follows { IfOk result (λ step. IsAhead lists.new (id_of list.now) delimiter self.new.matched self.new.next) }
         ensures took { IfOk result (λ step. Took (delimiter_at lists.old (id_of list.now) delimiter) (stage_of lists.old self.old) x step (stage_of lists.new self.new) (case_at (delimiter_at lists.old (id_of list.now) delimiter) (par_mode mode) (kept_in (stage_of lists.old self.old)) (read_in (delimiter_at lists.old (id_of list.now) delimiter) (stage_of lists.old self.old)) x)) }
         ensures full { IfErr result (λ f. IsFull f lists.new) }
         ensures cut_short { OnErr result (IsGrownByPart (tokens_at lists.old (build_id self.old.build)) (tokens_at lists.new (build_id self.old.build)) (gained (delimiter_at lists.old (id_of list.now) delimiter) (stage_of lists.old self.old) x (case_at (delimiter_at lists.old (id_of list.now) delimiter) (par_mode mode) (kept_in (stage_of lists.old self.old)) (read_in (delimiter_at lists.old (id_of list.now) delimiter) (stage_of lists.old self.old)) x))) }
@@ -334,6 +334,7 @@ impl Present {
             build,
             from: _,
             matched: _,
+            next: _,
             depth: _,
         } = self;
         if lists.first_built(&build).is_none() {
@@ -357,6 +358,7 @@ pub fn abandon(lists: &mut Lists, present: Option<Present>)
             build,
             from: _,
             matched: _,
+            next: _,
             depth: _,
         },
     ) = present

@@ -18,7 +18,7 @@ use crate::present::{Present, Step, abandon};
 use crate::tokens::same;
 use macro_args::Args;
 use std::mem;
-use tex_defs::{Full, Seen, Token};
+use tex_defs::{Full, Token};
 use token_lists::{Build, ListRef, Lists};
 
 /// The scanner that gathers the arguments of a call.
@@ -105,7 +105,7 @@ impl ArgScan {
             Ok(build) => build,
             Err(full) => return Err(full),
         };
-        let none = mem::replace(&mut self.present, Some(Present::new(build)));
+        let none = mem::replace(&mut self.present, Some(Present::new(build, next)));
         abandon(lists, none);
         self.cursor = next;
         Ok(ArgAsk::More)
@@ -199,7 +199,7 @@ impl ArgScan {
         if let Some(next) = cursor.behind_place(lists) {
             match lists.begin() {
                 Ok(build) => {
-                    let none = mem::replace(&mut present, Some(Present::new(build)));
+                    let none = mem::replace(&mut present, Some(Present::new(build, next)));
                     abandon(lists, none);
                 }
                 Err(full) => {
@@ -224,17 +224,17 @@ impl ArgScan {
     /// # Errors
     /// All words are used: some of the tokens that go into the list in work are in it, from the first on, and not all, and
     /// nothing else has changed; or the argument is whole, and the next one's list isn't begun.
-    pub fn feed(&mut self, lists: &mut Lists, list: &ListRef, seen: Seen) -> Result<ArgAsk, Full>
+    pub fn feed(&mut self, lists: &mut Lists, list: &ListRef, token: Token) -> Result<ArgAsk, Full>
         requires { IsSound lists.old (id_of list.now) self.old }
-        ensures answers { IfOk result (λ answer. Answers lists.old lists.new (id_of list.now) self.old self.new seen.token answer) }
-        ensures cut_short { OnErr result (IsCutShort lists.old lists.new (id_of list.now) self.old self.new seen.token) }
+        ensures answers { IfOk result (λ answer. Answers lists.old lists.new (id_of list.now) self.old self.new token answer) }
+        ensures cut_short { OnErr result (IsCutShort lists.old lists.new (id_of list.now) self.old self.new token) }
         ensures full { IfErr result (λ f. IsFull f lists.new) }
         ensures length { length lists.new ≡ length lists.old }
     {
         if self.present.is_none() {
-            return self.feed_start(lists, list, seen.token);
+            return self.feed_start(lists, list, token);
         }
-        self.feed_place(lists, list, seen.token)
+        self.feed_place(lists, list, token)
     }
 
     /// A check came in the call, at a file's end or at an `\outer` name: from here the macro counts as not `\long`,

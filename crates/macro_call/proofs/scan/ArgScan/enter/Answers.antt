@@ -15,4 +15,4 @@ returns-clause-enters c =
     subst (λ (t : List (Option Entry)). Enters c.args.lists.now t macro old (record { cursor = c.in-Some.next; mode = old.mode; braced = old.braced; present = c.replace-none.new.dest; args = old.args }) ask.More) (sym same)
     (subst (λ (o : Option Present). Enters c.args.lists.now c.begin.new.self macro old (record { cursor = c.in-Some.next; mode = old.mode; braced = old.braced; present = o; args = old.args }) ask.More) (sym c.replace-none.ensures.after)
     (entered c.args.lists.now c.begin.new.self macro old c.in-Some.next c.in-Ok.build c.new.result c.requires c.in-Some.ensures
-    c.in-Ok.ensures.fresh c.in-Ok.ensures.building c.in-Ok.ensures.ok c.in-Ok.ensures.within c.in-Ok.ensures.account c.new.ensures.building c.new.ensures.fresh))
+    c.in-Ok.ensures.fresh c.in-Ok.ensures.building c.in-Ok.ensures.ok c.in-Ok.ensures.within c.in-Ok.ensures.account c.new.ensures.building c.new.ensures.fresh c.new.ensures.next))

@@ -1,11 +1,11 @@
-use Rattle.std.proofs.Common.{◌∙◌, ap, arith, length, ◌-◌, ◌+◌}
+use Rattle.std.proofs.Common.{sym, ◌∙◌, ap, arith, length, ◌-◌, ◌+◌}
 use Rattle.macro_call.proofs.Fronts.{prefix_fails, prefix_goes_on}
-use Rattle.macro_call.proofs.matches.fits.Goals as goal
+use Rattle.macro_call.proofs.matches.behind_front.Goals as goal
 
 pub returns-then-not-same : goal.returns-then-not-same
 returns-then-not-same c =
-    prefix_fails (c.args.count - c.loop-k._k) (c.args.count - (c.loop-k._k + 1)) _ _ _ _ c.delimiting-a.result.0 c.delimiting-b.result.0 c.args.x c.same.result (omega arith) c.delimiting-a.ensures.0 c.delimiting-b.ensures.0 c.same.ensures c.if-not-same.true
-    ∙ c.loop-k.invariant.4
+    sym (prefix_fails (c.args.count - c.loop-k._k) (c.args.count - (c.loop-k._k + 1)) _ _ _ _ c.delimiting-a.result.0 c.delimiting-b.result.0 c.args.x c.same.result (omega arith) c.delimiting-a.ensures.0 c.delimiting-b.ensures.0 c.same.ensures c.if-not-same.true
+    ∙ c.loop-k.invariant.4)
 
 pub loop-k-preserved : goal.loop-k-preserved
 loop-k-preserved c = (
@@ -15,4 +15,5 @@ loop-k-preserved c = (
   omega (arith, ap length c.delimiting-a.ensures.0),
   prefix_goes_on (c.args.count - c.loop-k._k) (c.args.count - (c.loop-k._k + 1)) _ _ _ _ c.delimiting-a.result.0 c.delimiting-b.result.0 c.args.x c.same.result (omega arith) c.delimiting-a.ensures.0 c.delimiting-b.ensures.0 c.same.ensures c.if-not-same.false
       ∙ c.loop-k.invariant.4,
+  omega (arith, c.loop-k.invariant.5, c.delimiting-b.ensures.2),
 )
