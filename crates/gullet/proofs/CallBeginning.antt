@@ -1,6 +1,6 @@
 -- The name of a macro is expanded: its body is put, or its arguments are gathered.
 use Rattle.std.proofs.Common.{◌≡◌, ℕ, List, [], ◌∷◌, ◌++◌, append-nil, refl, sym, ap, subst, ◌∙◌, Bool, true, false}
-use Rattle.std.specs.Prelude.{Option, Some, None, Result, Ok, Err, OnOk, OnErr, IfErr, MatchResult, ◌||◌, ◌&&◌, if◌then◌else◌, take}
+use Rattle.std.specs.Prelude.{Option, Some, None, Result, Ok, Err, OnOk, OnErr, IfErr, ◌||◌, ◌&&◌, if◌then◌else◌, take}
 use Rattle.tex_defs.specs.declared.Full.{Full}
 use Rattle.tex_defs.specs.declared.Meaning.{Meaning}
 use Rattle.tex_defs.specs.declared.Meaning.TheVariants as means
@@ -28,6 +28,7 @@ use Rattle.plain_machine.proofs.Renumbering.{name_meaning_of}
 use Rattle.macro_call.specs.Modes.{mode_of}
 use Rattle.macro_call.specs.PlainScans.{Scan, first_by, first_scan, scan_work}
 use Rattle.macro_call.proofs.PlainScans.{scans_gather}
+use Rattle.input_state.specs.declared.answer.CallKind.{CallKind}
 use Rattle.input_state.specs.declared.answer.CallKind.TheVariants as kind
 use Rattle.input_state.specs.Callings.{Calling, Gathering, call_lists, scan_lists}
 use Rattle.input_state.specs.Calls.{after_call, begun_lists, call_kind, called_put, macro_text, text_of}
@@ -53,17 +54,9 @@ fresh k = record { kind = k; fed = [] }
 
 -- WHERE SOMETHING CAME OUT WELL
 
-pub on_ok : {T E : Type 0} {P Q R : Type 0} → (S : E → Type 0) (r : Result T E) → (P → Q → R) → OnOk r P → MatchResult r (λ x. Q) S → OnOk r R
-on_ok S (Ok x) f a b = f a b
-on_ok S (Err x) f a b = tt
-
 pub on_both : {T E : Type 0} {P Q R : Type 0} → (r : Result T E) → (P → Q → R) → OnOk r P → OnOk r Q → OnOk r R
 on_both (Ok x) f a b = f a b
 on_both (Err x) f a b = tt
-
-pub if_err : {T E : Type 0} {P : Type 0} {Q R : E → Type 0} → (S : Type 0) (r : Result T E) → ((x : E) → P → Q x → R x) → OnErr r P → MatchResult r (λ x. S) Q → IfErr r R
-if_err S (Ok x) f a b = tt
-if_err S (Err x) f a b = f x a b
 
 pub if_both : {T E : Type 0} {P : Type 0} {Q R : E → Type 0} → (r : Result T E) → ((x : E) → P → Q x → R x) → OnErr r P → IfErr r Q → IfErr r R
 if_both (Ok x) f a b = tt
@@ -88,6 +81,13 @@ at_once_has lists m is = has_list lists m (λ none. (let no : kind.None ≡ kind
 
 pub gathers_has : (lists : List (List Token)) (m : Meaning (Option ℕ)) → call_kind lists m ≡ kind.Gathers → HasList m
 gathers_has lists m is = has_list lists m (λ none. (let no : kind.None ≡ kind.Gathers = sym none ∙ is in cc))
+
+-- a name whose body isn't put changes nothing
+pub none_stays : (k : CallKind) → k ≡ kind.None → k ≡ kind.AtOnce → ⊥
+none_stays k is at_once = let no : kind.None ≡ kind.AtOnce = sym is ∙ at_once in cc
+
+pub gathers_stays : (k : CallKind) → k ≡ kind.Gathers → k ≡ kind.AtOnce → ⊥
+gathers_stays k is at_once = let no : kind.Gathers ≡ kind.AtOnce = sym is ∙ at_once in cc
 
 gathers_some : (b : Bool) → (if b then kind.Gathers else kind.AtOnce) ≡ kind.Gathers → b ≡ true
 gathers_some true is = refl

@@ -48,9 +48,9 @@ pub(crate) fn call_name(engine: &mut Engine, token: Token) -> Result<(), Full>
         return Ok(());
     }
     let name = name_of(token);
-    match engine.input.call_kind(name) {
+    match engine.input.call_at_once(name)? {
         CallKind::None => Ok(()),
-        CallKind::AtOnce => engine.input.call_macro(name),
+        CallKind::AtOnce => Ok(()),
         CallKind::Gathers => {
             let long = is_long(engine.input.seen(Token::Named(name)));
             begin_call(engine, name, long)
@@ -69,6 +69,8 @@ fn begin_call(engine: &mut Engine, name: Name, long: bool) -> Result<(), Full>
     ensures fits { OnOk result ((sizes : Sizes) (book : Book) (number : ℕ) → Counts sizes engine.old book → refusal sizes (Begun (Arguments name long number (text_of engine.old.input.lists engine.old.input.groups.now.meanings name))) (state_of engine.old book) ≡ None) }
     ensures refused { IfErr result (λ full. (sizes : Sizes) (book : Book) (number : ℕ) → Counts sizes engine.old book → refusal sizes (Begun (Arguments name long number (text_of engine.old.input.lists engine.old.input.groups.now.meanings name))) (state_of engine.old book) ≡ Some full) }
     ensures err { OnErr result (engine.new ≡ engine.old) }
+    ensures column { engine.new.in_line ≡ engine.old.in_line }
+    ensures idle { engine.new.input.making ≡ engine.old.input.making }
     ensures all_lists { KeepsShared engine.old.input engine.new.input }
 {
     if let Some(full) = engine.depth_refusal() {

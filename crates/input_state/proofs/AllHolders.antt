@@ -14,12 +14,12 @@ use Rattle.equivalents.specs.Holding.{lists_held}
 use Rattle.input_stack.specs.Puts.{Put, Item, Text, First, Later, Gap, numbers, count_of, used_of}
 use Rattle.input_stack.specs.Pending.{times}
 use Rattle.input_stack.specs.Calls.{Argument, substituted}
-use Rattle.input_stack.specs.CallViews.{IsSettled, arguments_in, open_items, open_number, put_of_call}
+use Rattle.input_stack.specs.CallViews.{IsSettled, cells_in, open_items, open_number, put_of_call}
 use Rattle.input_stack.specs.Rest.{rest}
 use Rattle.input_stack.specs.View.{pending, pending_in, innermost, put_of}
 use Rattle.input_stack.specs.Standing.{AreUnfinished, AreUnfinishedBelow, IsUnfinished}
-use Rattle.input_stack.specs.declared.level.Level.{Level}
-use Rattle.input_stack.specs.declared.level.Level.TheVariants as level
+use Rattle.input_stack.specs.WholeLevel.{WholeLevel}
+use Rattle.input_stack.specs.WholeLevel as level
 use Rattle.input_stack.specs.declared.reader.Reader.{Reader}
 use Rattle.input_stack.specs.declared.stack.InputStack.{InputStack}
 use Rattle.input_stack.proofs.CallPulled.{body_closed}
@@ -98,21 +98,21 @@ settled_used reading (x ∷ xs) is = omega (arith, ap count_of is)
 
 module _ (table : List (Option Entry)) where
   -- all lists in front, where these levels stand
-  abbrev puts_of : List Level → List Put
+  abbrev puts_of : List WholeLevel → List Put
   puts_of ls = puts_in (pending_in table ls)
 
-  shown : (ls : List Level) → AreFronts (puts_of ls) → ((h : ℕ) → 0 < times h (cells_of (puts_of ls)) → 0 < length (tokens_at table h)) → AllZip (AreListsOf table) (fronts table (puts_of ls)) (map numbers_of (puts_of ls))
+  shown : (ls : List WholeLevel) → AreFronts (puts_of ls) → ((h : ℕ) → 0 < times h (cells_of (puts_of ls)) → 0 < length (tokens_at table h)) → AllZip (AreListsOf table) (fronts table (puts_of ls)) (map numbers_of (puts_of ls))
   shown [] is listed = tt
   shown (level.List r ∷ ls) is listed = (put_shown table (put_of table r) is.0 (λ h some. listed h (omega (arith, some))) (text_used (rest table r)), shown ls is.1 listed)
   shown (level.Call c ∷ ls) is listed =
       let p = put_of_call table c in
       let parts = λ (h : ℕ). times_append h (numbers p.arguments) (cells_of (puts_of ls)) in (
-        put_shown table p is.0 (λ h some. listed h (omega (arith, some, parts h))) (call_used table (arguments_in table c.args) (rest table c.body) c.argument),
+        put_shown table p is.0 (λ h some. listed h (omega (arith, some, parts h))) (call_used table (cells_in table c.args) (rest table c.body) c.argument),
         shown ls is.1 (λ h some. listed h (omega (arith, some, parts h))),
       )
   shown (level.Source s ∷ ls) is listed = shown ls is listed
 
-  unfinished : (ls : List Level) → AreUnfinished table ls → AllZip HasNoMoreLevels (fronts table (puts_of ls)) (map numbers_of (puts_of ls))
+  unfinished : (ls : List WholeLevel) → AreUnfinished table ls → AllZip HasNoMoreLevels (fronts table (puts_of ls)) (map numbers_of (puts_of ls))
   unfinished [] all = tt
   unfinished (level.List r ∷ ls) all =
       let some : 0 < length (rest table r) = All-head (IsUnfinished table) (level.List r) ls all in
@@ -128,7 +128,7 @@ module _ (table : List (Option Entry)) where
   behind_first [] (n ∷ ns) all = absurd all
   behind_first (p ∷ ps) [] all = absurd all
 
-  beneath : (ls : List Level) → AreUnfinishedBelow table ls → AllZip HasNoMoreLevels (drop 1 (fronts table (puts_of ls))) (drop 1 (map numbers_of (puts_of ls)))
+  beneath : (ls : List WholeLevel) → AreUnfinishedBelow table ls → AllZip HasNoMoreLevels (drop 1 (fronts table (puts_of ls))) (drop 1 (map numbers_of (puts_of ls)))
   beneath [] below = tt
   beneath (level.List r ∷ ls) below = unfinished ls below
   beneath (level.Call c ∷ ls) below = unfinished ls below

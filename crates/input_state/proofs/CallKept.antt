@@ -25,6 +25,7 @@ use Rattle.input_stack.specs.Pending as stack
 use Rattle.input_stack.specs.Pending.{Pending, Below, end_token_lists, put, listed_put, used_parameters, used_levels, parameters_full, either, room}
 use Rattle.input_stack.specs.View.{pending, held, innermost}
 use Rattle.input_stack.proofs.ListsEnded.{arguments_are}
+use Rattle.input_stack.proofs.Wholes.{arguments_count}
 use Rattle.input_stack.specs.Standing.{Stands}
 use Rattle.input_stack.specs.Lasting.{Lasts}
 use Rattle.input_stack.specs.declared.stack.InputStack.{InputStack}
@@ -67,7 +68,7 @@ below_within (b ∷ bs) = omega (arith, below_within bs, front_within b.puts, su
 
 pub parameters_within : (table : List (Option Entry)) (s : InputStack) → Stands table s → used_parameters (pending table s) ≤ s.parameter_size
 parameters_within table s stands =
-    omega (arith, front_within (pending table s).puts, below_within (pending table s).sources, arguments_are table (innermost s) stands.read.levels, stands.fits.counts, stands.fits.few)
+    omega (arith, front_within (pending table s).puts, below_within (pending table s).sources, arguments_are table (innermost s), arguments_count s stands.fits, stands.fits.few)
 
 -- THE SHARE
 

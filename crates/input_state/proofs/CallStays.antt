@@ -14,6 +14,7 @@ use Rattle.plain_tokens.specs.Arguments.{start_of}
 use Rattle.macro_args.specs.declared.args.Args.{Args}
 use Rattle.macro_args.specs.Args.{args_in, args_hold, cell_tokens}
 use Rattle.macro_args.proofs.Releases.{holds_own}
+use Rattle.macro_call.specs.declared.cursor.Cursor.{Cursor}
 use Rattle.macro_call.specs.declared.present.Present.{Present}
 use Rattle.macro_call.specs.declared.scan.ArgScan.{ArgScan}
 use Rattle.macro_call.specs.Cursors.{IsOn, delimiter_at}
@@ -99,11 +100,11 @@ module _ (old new : List (Option Entry)) (scan : ArgScan) (s : Stay old new (sca
   }
 
   module _ (id : ℕ) (tokens : tokens_at new id ≡ tokens_at old id) (places : places_at new id ≡ places_at old id) (outside : scans.scan_holds scan id < holders_at new id) where
-    on_stays : IsOn old id scan.cursor → IsOn new id scan.cursor
-    on_stays on = record {
+    on_stays : (cursor : Cursor) → IsOn old id cursor → IsOn new id cursor
+    on_stays cursor on = record {
       held = omega (arith, outside);
-      place = on.place ∙ ap (λ (ps : List ℕ). slice_get ps scan.cursor.index) (sym places);
-      ends = subst (λ (ts : List Token). IsSome scan.cursor.at ↔ (scan.cursor.index < length ts)) (sym tokens) on.ends;
+      place = on.place ∙ ap (λ (ps : List ℕ). slice_get ps cursor.index) (sym places);
+      ends = subst (λ (ts : List Token). IsSome cursor.at ↔ (cursor.index < length ts)) (sym tokens) on.ends;
     }
 
     same_delimiter : delimiter_at new id scan.cursor ≡ delimiter_at old id scan.cursor
@@ -115,12 +116,13 @@ module _ (old new : List (Option Entry)) (scan : ArgScan) (s : Stay old new (sca
       building_stays p is h.0,
       subst (λ (ds : List Token). Stands ds (stage_of new p)) (sym same_delimiter) (subst (λ (st : Stage). Stands (delimiter_at old id scan.cursor) st) (sym (same_text p is)) h.1),
       h.2,
+      (on_stays p.next h.3.0, h.3.1),
     )
 
     pub sound_stays : ((h : ℕ) → scans.scan_holds scan h ≤ holders_at new h) → scans.IsSound old id scan → scans.IsSound new id scan
     sound_stays covers sound = record {
       owns = covers;
-      on = on_stays sound.on;
+      on = on_stays scan.cursor sound.on;
       outside = outside;
       filled = sound.filled;
       listed = listed_stay old new scan.args args_part sound.listed;

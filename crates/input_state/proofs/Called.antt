@@ -156,12 +156,12 @@ pub same_sound : (table : List (Option Entry)) (m : Table) (name : Name) (id : �
 same_sound table m name id scan list is = subst (λ (k : ℕ). IsStanding table k scan) (same_Some is.id id (sym is.list ∙ list)) is.sound
 
 -- What the scanner of a call answers is what the call comes to.
-module _ (table after : List (Option Entry)) (m : Table) (k : code.Gathering) (id : ℕ) (name : Name) (scan next : ArgScan) (x t : Token) (is : IsCall table m k) (was : k ≡ call.Gathers name scan) (list : list_of (name_meaning m.groups.now.meanings name) ≡ Some id) (same : x ≡ t) where
+module _ (table after : List (Option Entry)) (m : Table) (k : code.Gathering) (id : ℕ) (name : Name) (scan next : ArgScan) (t : Token) (is : IsCall table m k) (was : k ≡ call.Gathers name scan) (list : list_of (name_meaning m.groups.now.meanings name) ≡ Some id) where
   standing : IsStanding table id scan
   standing = same_sound table m name id scan list (subst (IsCall table m) was is)
 
-  said : (a b : ArgAsk) → a ≡ b → Answers table after id scan next x a → Answers table after id scan next t b
-  said a b says answers = subst (λ (c : ArgAsk). Answers table after id scan next t c) says (subst (λ (y : Token). Answers table after id scan next y a) same answers)
+  said : (a b : ArgAsk) → a ≡ b → Answers table after id scan next t a → Answers table after id scan next t b
+  said a b says answers = subst (λ (c : ArgAsk). Answers table after id scan next t c) says answers
 
   feeds : (told : CallTold) (l n : code.Gathering) → l ≡ n → Comes (tokens_at table id) t told name (scan_of table scan) (calling_of after n) → Feeds (text_of (texts table) m.groups.now.meanings) t told (calling_of table k) (calling_of after l)
   feeds told l n now comes =
@@ -169,27 +169,27 @@ module _ (table after : List (Option Entry)) (m : Table) (k : code.Gathering) (i
       (subst (λ (g : code.Gathering). Comes (text_of (texts table) m.groups.now.meanings name) t told name (scan_of table scan) (calling_of after g)) (sym now)
       (subst (λ (ts : List Token). Comes ts t told name (scan_of table scan) (calling_of after n)) (own_text table m name id list) comes))
 
-  pub more_feeds : (a : ArgAsk) → a ≡ ask.More → Answers table after id scan next x a → Feeds (text_of (texts table) m.groups.now.meanings) t tell.More (calling_of table k) (calling_of after (call.Gathers name next))
+  pub more_feeds : (a : ArgAsk) → a ≡ ask.More → Answers table after id scan next t a → Feeds (text_of (texts table) m.groups.now.meanings) t tell.More (calling_of table k) (calling_of after (call.Gathers name next))
   more_feeds a says answers = feeds tell.More (call.Gathers name next) (call.Gathers name next) refl (more_comes table after id name scan next t standing (said a ask.More says answers))
 
-  pub brace_feeds : (a : ArgAsk) → a ≡ ask.ExtraBrace → Answers table after id scan next x a → Feeds (text_of (texts table) m.groups.now.meanings) t tell.ExtraBrace (calling_of table k) (calling_of after (call.Gathers name next))
+  pub brace_feeds : (a : ArgAsk) → a ≡ ask.ExtraBrace → Answers table after id scan next t a → Feeds (text_of (texts table) m.groups.now.meanings) t tell.ExtraBrace (calling_of table k) (calling_of after (call.Gathers name next))
   brace_feeds a says answers = feeds tell.ExtraBrace (call.Gathers name next) (call.Gathers name next) refl (brace_comes table after id name scan next t standing (said a ask.ExtraBrace says answers))
 
   module _ (l : code.Gathering) (stops : l ≡ call.Stopped name next) where
-    pub mismatch_feeds : (a : ArgAsk) → a ≡ ask.Mismatch → Answers table after id scan next x a → Feeds (text_of (texts table) m.groups.now.meanings) t tell.Mismatch (calling_of table k) (calling_of after l)
+    pub mismatch_feeds : (a : ArgAsk) → a ≡ ask.Mismatch → Answers table after id scan next t a → Feeds (text_of (texts table) m.groups.now.meanings) t tell.Mismatch (calling_of table k) (calling_of after l)
     mismatch_feeds a says answers = feeds tell.Mismatch l (call.Stopped name next) stops (mismatch_comes table after id name scan next t standing (said a ask.Mismatch says answers))
 
-    pub ended_feeds : (silent : Bool) → (a : ArgAsk) → a ≡ ask.ParEnded silent → Answers table after id scan next x a → Feeds (text_of (texts table) m.groups.now.meanings) t (tell.ParEnded silent) (calling_of table k) (calling_of after l)
+    pub ended_feeds : (silent : Bool) → (a : ArgAsk) → a ≡ ask.ParEnded silent → Answers table after id scan next t a → Feeds (text_of (texts table) m.groups.now.meanings) t (tell.ParEnded silent) (calling_of table k) (calling_of after l)
     ended_feeds silent a says answers = feeds (tell.ParEnded silent) l (call.Stopped name next) stops (ended_comes table after id name scan next t standing silent (said a (ask.ParEnded silent) says answers))
 
-    pub cut_feeds : IsCutShort table after id scan next x → CutShort (text_of (texts table) m.groups.now.meanings) t (calling_of table k) (calling_of after l)
+    pub cut_feeds : IsCutShort table after id scan next t → CutShort (text_of (texts table) m.groups.now.meanings) t (calling_of table k) (calling_of after l)
     cut_feeds cut =
         subst (λ (g : code.Gathering). CutShort (text_of (texts table) m.groups.now.meanings) t (calling_of table g) (calling_of after l)) (sym was)
         (subst (λ (g : code.Gathering). CutTo (text_of (texts table) m.groups.now.meanings name) t name (scan_of table scan) (calling_of after g)) (sym stops)
         (subst (λ (ts : List Token). CutTo ts t name (scan_of table scan) (Stopped name (scan_of after next))) (own_text table m name id list)
-        (cut_comes table after id name scan next t standing (subst (λ (y : Token). IsCutShort table after id scan next y) same cut))))
+        (cut_comes table after id name scan next t standing cut)))
 
-  pub called_feeds : (args : Args) (last : List (Option Entry)) (l : code.Gathering) → l ≡ call.Gathered name args → Moves after last (scan_holds next) none → Keeps after last (scan_holds next) → (a : ArgAsk) → a ≡ ask.Called args → Answers table after id scan next x a →
+  pub called_feeds : (args : Args) (last : List (Option Entry)) (l : code.Gathering) → l ≡ call.Gathered name args → Moves after last (scan_holds next) none → Keeps after last (scan_holds next) → (a : ArgAsk) → a ≡ ask.Called args → Answers table after id scan next t a →
       Feeds (text_of (texts table) m.groups.now.meanings) t tell.Gathered (calling_of table k) (calling_of last l)
   called_feeds args last l has moves kept a says answers =
       subst (λ (g : code.Gathering). Feeds (text_of (texts table) m.groups.now.meanings) t tell.Gathered (calling_of table g) (calling_of last l)) (sym was)

@@ -1,5 +1,5 @@
 -- What a call puts.
-use Rattle.std.proofs.Common.{◌≡◌, ℕ, List, [], ◌∷◌, map, Option, None, Some, Bool, true, false, not, refl, sym, ap, ◌∙◌}
+use Rattle.std.proofs.Common.{◌≡◌, ◌<◌, ℕ, length, arith, List, [], ◌∷◌, map, Option, None, Some, Bool, true, false, not, refl, sym, ap, ◌∙◌}
 use Rattle.std.specs.Prelude.{slice_get, if◌then◌else◌}
 use Rattle.std.proofs.lemmas.Option.{none-some, same_Some}
 use Rattle.tex_defs.specs.declared.Token.{Token}
@@ -8,6 +8,7 @@ use Rattle.tex_defs.specs.declared.Meaning.{Meaning}
 use Rattle.tex_defs.specs.declared.Meaning.TheVariants as means
 use Rattle.plain_tokens.specs.Arguments.{has_parameters}
 use Rattle.plain_tokens.specs.Puts as plain
+use Rattle.token_lists.specs.Codes.{is_end_token}
 use Rattle.token_lists.specs.Table.{Entry}
 use Rattle.equivalents.specs.Holding.{list_of}
 use Rattle.input_stack.specs.Puts.{Put, Item}
@@ -16,13 +17,13 @@ use Rattle.input_stack.specs.Pending.{listed_put}
 use Rattle.input_stack.proofs.CallItems.{without_arguments}
 use Rattle.input_state.specs.Macros.{list_at}
 use Rattle.input_state.specs.declared.answer.CallKind.TheVariants as kind
-use Rattle.input_state.specs.Calls.{is_end_mark, call_kind, called_put}
+use Rattle.input_state.specs.Calls.{call_kind, called_put}
 use Rattle.input_state.specs.HeldViews.{front}
 use Rattle.input_state.proofs.Fronts.{texts_are}
 
 -- the first token decides whether there is a parameter text
 
-begins : (t : Token) (ts : List Token) → not (is_end_mark t) ≡ has_parameters (t ∷ ts)
+begins : (t : Token) (ts : List Token) → not (is_end_token t) ≡ has_parameters (t ∷ ts)
 begins (token.Char category code) ts = refl
 begins (token.Named name) ts = refl
 begins (token.Marked name) ts = refl
@@ -30,9 +31,9 @@ begins (token.Place c) ts = refl
 begins (token.Number n) ts = refl
 begins token.EndPlaces ts = refl
 
-pub first_decides : (ts : List Token) (t : Token) → slice_get ts 0 ≡ Some t → not (is_end_mark t) ≡ has_parameters ts
-first_decides [] t is = absurd (none-some t is)
-first_decides (u ∷ us) t is = sym (ap (λ (x : Token). not (is_end_mark x)) (same_Some u t is)) ∙ begins u us
+pub first_decides : (ts : List Token) (b : Bool) → 0 < length ts → ((t : Token) → slice_get ts 0 ≡ Some t → b ≡ is_end_token t) → not b ≡ has_parameters ts
+first_decides [] b some is = absurd (omega (arith, some))
+first_decides (t ∷ ts) b some is = ap (λ (x : Bool). not x) (is t refl) ∙ begins t ts
 
 -- HOW A NAME IS CALLED
 
@@ -47,12 +48,6 @@ kind_none lists (means.Prim number) is = refl
 kind_none lists (means.Macro long outer None) is = refl
 kind_none lists (means.Macro long outer (Some id)) is = absurd (none-some id (sym is))
 
--- a name without a list is not called
-pub not_called : (lists : List (List Token)) (m : Meaning (Option ℕ)) → list_of m ≡ None → call_kind lists m ≡ kind.AtOnce → ⊥
-not_called lists m none at_once =
-    let e : kind.None ≡ kind.AtOnce = sym (kind_none lists m none) ∙ at_once in
-    cc
-
 pub kind_some : (lists : List (List Token)) (m : Meaning (Option ℕ)) (id : ℕ) (b : Bool) → list_of m ≡ Some id → b ≡ has_parameters (list_at lists id) → (if b then kind.Gathers else kind.AtOnce) ≡ call_kind lists m
 kind_some lists means.Undefined id b is same = absurd (none-some id is)
 kind_some lists means.RelaxMarked id b is same = absurd (none-some id is)
@@ -65,7 +60,7 @@ kind_some lists (means.Macro long outer None) id b is same = absurd (none-some i
 kind_some lists (means.Macro long outer (Some i)) id b is same =
     ap (λ (x : Bool). if x then kind.Gathers else kind.AtOnce) (same ∙ ap (λ (k : ℕ). has_parameters (list_at lists k)) (sym (same_Some i id is)))
 
--- nor are its arguments gathered
+-- where there is no list, no arguments are gathered
 pub not_gathered : (lists : List (List Token)) (m : Meaning (Option ℕ)) → list_of m ≡ None → call_kind lists m ≡ kind.Gathers → ⊥
 not_gathered lists m none gathers =
     let e : kind.None ≡ kind.Gathers = sym (kind_none lists m none) ∙ gathers in

@@ -9,8 +9,8 @@ use Rattle.input_stack.specs.Puts.{Put}
 use Rattle.input_stack.specs.Pending as stack
 use Rattle.input_stack.specs.Pending.{Pending, Below, sources_at, Ends, EndsIn}
 use Rattle.input_stack.specs.View.{pending, pending_in, innermost, IsSourceOnTop}
-use Rattle.input_stack.specs.declared.level.Level.{Level}
-use Rattle.input_stack.specs.declared.level.Level.TheVariants as level
+use Rattle.input_stack.specs.WholeLevel.{WholeLevel}
+use Rattle.input_stack.specs.WholeLevel as level
 use Rattle.input_stack.specs.declared.stack.InputStack.{InputStack}
 use Rattle.input_stack.specs.Pulls.{IsInBuffer}
 use Rattle.input_state.specs.HeldLists.{HeldLists, Covered, AreInBuffer, at_line, over_held}
@@ -19,7 +19,7 @@ use Rattle.input_state.specs.HeldViews.{Named, fronts, covers, lists_of}
 not_empty : {A : Type 0} (x : A) (xs : List A) → x ∷ xs ≡ [] → ⊥
 not_empty x xs is = cc
 
-top_is : (table : List (Option Entry)) (ls : List Level) → fronts table (pending_in table ls).puts ≡ [] → 0 < length (covers table (pending_in table ls).sources) → IsSourceOnTop ls
+top_is : (table : List (Option Entry)) (ls : List WholeLevel) → fronts table (pending_in table ls).puts ≡ [] → 0 < length (covers table (pending_in table ls).sources) → IsSourceOnTop ls
 top_is table [] none some = absurd (omega (arith, some))
 top_is table (level.List r ∷ ls) none some = not_empty _ _ none
 top_is table (level.Call c ∷ ls) none some = not_empty _ _ none

@@ -21,7 +21,7 @@ use Rattle.input_stack.specs.Pulls.{Pulls, PullsItem, PullsFrom, HandsOn, refuse
 use Rattle.input_stack.specs.View.{pending_in}
 use Rattle.world_io.specs.declared.traits.InId.{InId}
 use Rattle.input_stack.specs.declared.level.Source.{Source}
-use Rattle.input_stack.specs.declared.level.Level.{Level}
+use Rattle.input_stack.specs.WholeLevel.{WholeLevel}
 use Rattle.input_stack.specs.declared.level.Pulled.{Pulled as Given}
 use Rattle.input_stack.specs.declared.level.Pulled.TheVariants as given_as
 use Rattle.input_state.specs.FileLeft.{FileLeft, innermost, progress_of}
@@ -49,7 +49,7 @@ line_ahead : (t : List (Option Entry)) (c b : List ℕ) (bs : List Below) → li
 line_ahead t c b [] = sym (ap looks_of (nothing_left c lex.NewLine))
 line_ahead t c b (x ∷ xs) = refl
 
-module _ (t s : List (Option Entry)) (c b : List ℕ) (ls : List Level) (p : plain.Pending) (puts : p.puts ≡ fronts t (pending_in s ls).puts) (line : p.line ≡ line_rest b (covers t (pending_in s ls).sources)) (state : p.lex ≡ line_state (covers t (pending_in s ls).sources)) where
+module _ (t s : List (Option Entry)) (c b : List ℕ) (ls : List WholeLevel) (p : plain.Pending) (puts : p.puts ≡ fronts t (pending_in s ls).puts) (line : p.line ≡ line_rest b (covers t (pending_in s ls).sources)) (state : p.lex ≡ line_state (covers t (pending_in s ls).sources)) where
   front_is : (ps : List lists.Put) → lists.passed (fronts t (pending_in s ls).puts) ≡ ps → ahead_of c p ≡ front_ahead c p ps
   front_is ps e = ap (λ (qs : List lists.Put). front_ahead c p (lists.passed qs)) puts ∙ ap (front_ahead c p) e
 
@@ -175,7 +175,7 @@ item_outer t size c b d p q None (Err f) n fs h inside =
 pub pull_outer : (t : List (Option Entry)) (size : ℕ) (c b d : List ℕ) (p q : Pending) (r : Result Given Full) (n : ℕ) (fs : List FileLeft) → Pulls size c b d p q r → AreInBuffer (covers t p.sources) n → outer_in d (covers t q.sources) fs ≡ outer_in b (covers t p.sources) fs
 pull_outer t size c b d p q r n fs h inside = item_outer t size c b d p q (next_item p.puts) r n fs h inside
 
-module _ (t s : List (Option Entry)) (c b d : List ℕ) (ls : List Level) (q : Pending) (sizes : Sizes) (files : List FileLeft) (opened : Option (List ℕ)) (more : ahead_of c (seen t (pending_in s ls) b files opened) ≢ ahead.End) (same : length d ≡ length b) where
+module _ (t s : List (Option Entry)) (c b d : List ℕ) (ls : List WholeLevel) (q : Pending) (sizes : Sizes) (files : List FileLeft) (opened : Option (List ℕ)) (more : ahead_of c (seen t (pending_in s ls) b files opened) ≢ ahead.End) (same : length d ≡ length b) where
   -- an item is handed on that has room
   pub item_seen : (x : Item) (r : Result Given Full) → next_item (pending_in s ls).puts ≡ Some x → r ≡ Ok (given_as.Token (token_in x)) → q ≡ with_puts (pulled (pending_in s ls).puts) (pending_in s ls) → d ≡ b → IsRead c d sizes (seen t (pending_in s ls) b files opened) (seen t q d files opened) r
   item_seen x r next answer_is after bytes =
@@ -294,7 +294,7 @@ same_gives c b d files opened old v now n a is new_is gives =
     subst (λ (w : HeldLists). Gives (plain.pulled c (pending_of v b files opened)) a (pending_of v b files opened) (pending_of w d files opened) d) (sym new_is)
     (subst (λ (w : HeldLists). Gives (plain.pulled c (pending_of w b files opened)) a (pending_of w b files opened) (pending_of now d files opened) d) is gives)
 
-module _ (t s : List (Option Entry)) (c b d : List ℕ) (ls : List Level) (q : Pending) (sizes : Sizes) (files : List FileLeft) (opened : Option (List ℕ)) (more : ahead_of c (seen t (pending_in s ls) b files opened) ≢ ahead.End) (same : length d ≡ length b) where
+module _ (t s : List (Option Entry)) (c b d : List ℕ) (ls : List WholeLevel) (q : Pending) (sizes : Sizes) (files : List FileLeft) (opened : Option (List ℕ)) (more : ahead_of c (seen t (pending_in s ls) b files opened) ≢ ahead.End) (same : length d ≡ length b) where
   pub told_more : (r : Result Given Full) → IsPulled t s c b d ls q sizes files opened more same r → answers.GivesOrRefuses r
   told_more (Ok g) is = is.more
   told_more (Err f) is = tt

@@ -26,7 +26,7 @@ use Rattle.input_stack.specs.View.{pending, pending_in, held, held_in, innermost
 use Rattle.input_stack.specs.Standing.{Stands}
 use Rattle.input_stack.specs.Lasting.{Lasts, LastsBut}
 use Rattle.input_stack.specs.declared.stack.InputStack.{InputStack}
-use Rattle.input_stack.specs.declared.level.Level.{Level}
+use Rattle.input_stack.specs.WholeLevel.{WholeLevel}
 use Rattle.input_stack.proofs.Kept.{holds_itself}
 use Rattle.input_state.specs.Changes.{IsOnly}
 use Rattle.input_state.specs.HeldLists.{HeldLists, words_held}
@@ -233,13 +233,13 @@ new_sound knows table stack items m sizes capacity is empty stands size paramete
     let zero_at : (h : ℕ) → holders_at table h ≡ 0 = λ h. ap (λ (t : List (Option Entry)). holders_at t h) is ∙ ap holders_of (none_at sizes.main_memory_size h) in
     let s : IsShared table stack [] (named m call.None) = record {
       stands = stands;
-      fronts = subst (λ (ls : List Level). AreFronts (puts_in (pending_in table ls))) (sym empty) tt;
+      fronts = subst (λ (ls : List WholeLevel). AreFronts (puts_in (pending_in table ls))) (sym empty) tt;
       building = All-nil (IsBuilding table);
-      counted = λ h. omega (arith, zero_at h, ap (λ (ls : List Level). held_in ls h) empty, free h);
-      apart = subst (λ (ls : List Level). IsApart (puts_in (pending_in table ls)) [] (named m call.None)) (sym empty) (record { sole = λ h. omega arith; apart = λ h some. omega (arith, some) });
+      counted = λ h. omega (arith, zero_at h, ap (λ (ls : List WholeLevel). held_in ls h) empty, free h);
+      apart = subst (λ (ls : List WholeLevel). IsApart (puts_in (pending_in table ls)) [] (named m call.None)) (sym empty) (record { sole = λ h. omega arith; apart = λ h some. omega (arith, some) });
       all_lists = λ h some. absurd (omega (arith, some, free h));
       listed = λ h some.
-          let here : 0 < times h (cells_of (puts_in (pending_in table []))) = subst (λ (ls : List Level). 0 < times h (cells_of (puts_in (pending_in table ls)))) empty some in
+          let here : 0 < times h (cells_of (puts_in (pending_in table []))) = subst (λ (ls : List WholeLevel). 0 < times h (cells_of (puts_in (pending_in table ls)))) empty some in
           absurd (omega (arith, here));
     } in
     record {
@@ -261,7 +261,7 @@ first_lists knows sizes = record { puts = []; making = None; call = NotCalling; 
 
 pub new_view : (knows : ℕ → Bool) (table : List (Option Entry)) (stack : InputStack) (items : List Build) (m : Table) (sizes : Sizes) → table ≡ replicate sizes.main_memory_size None → innermost stack ≡ [] → items ≡ [] → m ≡ first_table knows sizes → lists_of table (pending table stack) None items (named m call.None) sizes ≡ first_lists knows sizes
 new_view knows table stack items m sizes is empty none first =
-    ap (λ (ls : List Level). lists_of table (pending_in table ls) None items (named m call.None) sizes) empty
+    ap (λ (ls : List WholeLevel). lists_of table (pending_in table ls) None items (named m call.None) sizes) empty
     ∙ ap (λ (bs : List Build). held_lists [] None NotCalling (map (text table) (reverse bs)) [] m sizes (texts table)) none
     ∙ ap (λ (k : Table). held_lists [] None NotCalling [] [] k sizes (texts table)) first
     ∙ ap (λ (ts : List (List Token)). held_lists [] None NotCalling [] [] (first_table knows sizes) sizes ts) (ap texts is ∙ texts_none sizes.main_memory_size)

@@ -1,7 +1,6 @@
 -- Macros that are defined and called (The TeXbook, chapter 20).
-use Rattle.std.specs.Prelude.{◌≡◌, ℕ, Bool, true, false, List, [], ◌∷◌, Option, Some, if◌then◌else◌}
+use Rattle.std.specs.Prelude.{◌≡◌, ℕ, Bool, false, List, [], ◌∷◌, Option, Some, if◌then◌else◌}
 use Rattle.tex_defs.specs.declared.Token.{Token}
-use Rattle.tex_defs.specs.declared.Token.TheVariants.{EndPlaces}
 use Rattle.tex_defs.specs.declared.Name.{Name}
 use Rattle.tex_defs.specs.declared.Meaning.{Meaning}
 use Rattle.tex_defs.specs.declared.Meaning.TheVariants as means
@@ -17,11 +16,6 @@ use Rattle.input_state.specs.declared.answer.CallKind.{CallKind}
 use Rattle.input_state.specs.declared.answer.CallKind.TheVariants as kind
 use Rattle.input_state.specs.Macros.{list_at, is_shared}
 use Rattle.input_state.specs.Callings.{Calling, NotCalling, Gathering, Stopped, Gathered}
-
--- the mark between a macro's parameter text and its body
-abbrev pub is_end_mark : Token → Bool
-is_end_mark EndPlaces = true
-is_end_mark t = false
 
 -- THE CALL OF A NAME. Only a macro with a list is called; where it has no parameter text, nothing is gathered.
 

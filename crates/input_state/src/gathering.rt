@@ -135,7 +135,7 @@ pub fn feed(
     let Some(list) = table.list(*name) else {
         unreachable!()
     };
-    match scan.feed(lists, list, table.seen(token)) {
+    match scan.feed(lists, list, token) {
         Ok(ArgAsk::More) => Ok(CallTold::More),
         Ok(ArgAsk::ExtraBrace) => Ok(CallTold::ExtraBrace),
         Ok(ArgAsk::Called(args)) => {

@@ -8,7 +8,6 @@ ghost use Rattle.token_lists.specs.Accounts.{Moves, Keeps, holds, none};
 ghost use Rattle.macro_args.specs.Args.{args_hold};
 ghost use Rattle.input_stack.specs.CallViews.{Shares};
 ghost use Rattle.input_stack.specs.Lasting.{Lasts};
-ghost use Rattle.input_state.specs.Calls.{is_end_mark};
 ghost use Rattle.input_state.specs.Standing.{list_number};
 ghost use Rattle.equivalents.specs.Groups.{IsLocation};
 ghost use Rattle.equivalents.specs.Holding.{list_of};
@@ -21,20 +20,13 @@ use macro_args::Args;
 use tex_defs::{Meaning, Seen, Token};
 use token_lists::{ListRef, Lists};
 
-// The mark between a macro's parameter text and its body.
-fn is_end_mark(token: Token) -> bool
-    ensures { result ≡ is_end_mark token }
-{
-    matches!(token, Token::EndPlaces)
-}
-
 /// Whether a macro's list has a parameter text.
 pub fn has_parameters(lists: &Lists, list: &ListRef) -> bool
     requires { IsHeld lists.now (id_of list.now) }
     ensures { result ≡ has_parameters (tokens_at lists.now (id_of list.now)) }
 {
     match lists.first(list) {
-        Some(place) => !is_end_mark(lists.token(place)),
+        Some(place) => !lists.is_end(place),
         None => false,
     }
 }

@@ -981,39 +981,29 @@ impl Held {
         self.table.recall();
     }
 
-    /// How a name is called.
-    pub fn call_kind(&self, name: Name) -> CallKind
-        ensures { result ≡ call_kind self.now.lists (name_meaning self.now.groups.now.meanings name) }
-    {
-        let Some(list) = self.table.list(name) else {
-            return CallKind::None;
-        };
-        if has_parameters(&self.lists, list) {
-            CallKind::Gathers
-        } else {
-            CallKind::AtOnce
-        }
-    }
-
-    /// Puts the body of a macro that has no parameter text in front; one without a body changes nothing. The list is
-    /// shared, not copied.
+    /// Calls a name, and tells how it is called. The body of a macro that has no parameter text is put in front: its list is
+    /// shared, not copied. One without a body changes nothing, nor does a name that is called otherwise.
     ///
     /// # Errors
     /// The input stack is full, once the finished lists in front have gone; nothing else has changed.
-    pub fn call_macro(&mut self, name: Name) -> Result<(), Full>
-        requires { call_kind self.old.lists (name_meaning self.old.groups.now.meanings name) ≡ AtOnce }
-        ensures refused { MatchResult result (λ _. call_refusal (called_put self.old.lists (name_meaning self.old.groups.now.meanings name)) self.old ≡ None) (λ full. call_refusal (called_put self.old.lists (name_meaning self.old.groups.now.meanings name)) self.old ≡ Some full) }
-        ensures ok { OnOk result (self.new ≡ record self.old { puts = called (called_put self.old.lists (name_meaning self.old.groups.now.meanings name)) self.old.puts; lists = self.new.lists }) }
+    pub fn call_at_once(&mut self, name: Name) -> Result<CallKind, Full>
+        ensures kind { MatchResult result (λ kind. kind ≡ call_kind self.old.lists (name_meaning self.old.groups.now.meanings name)) (λ _. call_kind self.old.lists (name_meaning self.old.groups.now.meanings name) ≡ AtOnce) }
+        ensures refused { MatchResult result (λ kind. kind ≡ AtOnce → call_refusal (called_put self.old.lists (name_meaning self.old.groups.now.meanings name)) self.old ≡ None) (λ full. call_refusal (called_put self.old.lists (name_meaning self.old.groups.now.meanings name)) self.old ≡ Some full) }
+        ensures ok { IfOk result (λ kind. kind ≡ AtOnce → self.new ≡ record self.old { puts = called (called_put self.old.lists (name_meaning self.old.groups.now.meanings name)) self.old.puts; lists = self.new.lists }) }
+        ensures others { IfOk result (λ kind. kind ≢ AtOnce → self.new ≡ self.old) }
         ensures err { OnErr result (self.new ≡ record self.old { puts = without_ended self.old.puts; lists = self.new.lists }) }
         ensures all_lists { KeepsHeld self.old self.new }
     {
         let Some(list) = self.table.list(name) else {
-            unreachable!()
+            return Ok(CallKind::None);
         };
+        if has_parameters(&self.lists, list) {
+            return Ok(CallKind::Gathers);
+        }
         self.table.recall();
         let body = share(&mut self.lists, list);
         match self.stack.push_macro(&mut self.lists, body, Args::none()) {
-            Ok(()) => Ok(()),
+            Ok(()) => Ok(CallKind::AtOnce),
             Err((full, body, args)) => {
                 give_back(&mut self.lists, body, args);
                 Err(full)

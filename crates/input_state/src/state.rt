@@ -980,26 +980,21 @@ impl Input {
         self.held.recall_groups();
     }
 
-    /// How a name is called.
-    pub fn call_kind(&self, name: Name) -> CallKind
-        ensures { result ≡ call_kind self.now.lists (name_meaning self.now.groups.now.meanings name) }
-    {
-        self.held.call_kind(name)
-    }
-
-    /// Puts the body of a macro that has no parameter text in front of all that is pending; one without a body changes
-    /// nothing. The list is shared, not copied. *TeX: The Program*, part 25 (`macro_call`).
+    /// Calls a name, and tells how it is called. The body of a macro that has no parameter text is put in front of all that is
+    /// pending: its list is shared, not copied. One without a body changes nothing, nor does a name that is called otherwise.
+    /// *TeX: The Program*, part 25 (`macro_call`).
     ///
     /// # Errors
     /// The input stack is full, once the finished lists in front have gone; nothing else has changed.
-    pub fn call_macro(&mut self, name: Name) -> Result<(), Full>
-        requires { call_kind self.old.lists (name_meaning self.old.groups.now.meanings name) ≡ AtOnce }
-        ensures refused { MatchResult result (λ _. call_refusal (called_put self.old.lists (name_meaning self.old.groups.now.meanings name)) self.old ≡ None) (λ full. call_refusal (called_put self.old.lists (name_meaning self.old.groups.now.meanings name)) self.old ≡ Some full) }
-        ensures ok { OnOk result (self.new ≡ record self.old { pending = after_call (called_put self.old.lists (name_meaning self.old.groups.now.meanings name)) self.old.pending; lists = self.new.lists }) }
+    pub fn call_at_once(&mut self, name: Name) -> Result<CallKind, Full>
+        ensures kind { MatchResult result (λ kind. kind ≡ call_kind self.old.lists (name_meaning self.old.groups.now.meanings name)) (λ _. call_kind self.old.lists (name_meaning self.old.groups.now.meanings name) ≡ AtOnce) }
+        ensures refused { MatchResult result (λ kind. kind ≡ AtOnce → call_refusal (called_put self.old.lists (name_meaning self.old.groups.now.meanings name)) self.old ≡ None) (λ full. call_refusal (called_put self.old.lists (name_meaning self.old.groups.now.meanings name)) self.old ≡ Some full) }
+        ensures ok { IfOk result (λ kind. kind ≡ AtOnce → self.new ≡ record self.old { pending = after_call (called_put self.old.lists (name_meaning self.old.groups.now.meanings name)) self.old.pending; lists = self.new.lists }) }
+        ensures others { IfOk result (λ kind. kind ≢ AtOnce → self.new ≡ self.old) }
         ensures err { OnErr result (self.new ≡ record self.old { pending = end_token_lists self.old.pending; lists = self.new.lists }) }
         ensures all_lists { KeepsShared self.old self.new }
     {
-        self.held.call_macro(name)
+        self.held.call_at_once(name)
     }
 
     /// Puts the list that stands at a location in front of all that is pending; where none stands, nothing changes. The

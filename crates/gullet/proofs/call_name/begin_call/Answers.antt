@@ -1,6 +1,8 @@
+use Rattle.std.proofs.Common.{ap}
 use Rattle.std.specs.Prelude.{Some, None}
 use Rattle.plain_readings.specs.Readings.{Arguments}
 use Rattle.input_state.specs.Calls.{text_of}
+use Rattle.input_state.specs.Stored.{Stored}
 use Rattle.engine_state.proofs.Counting.{none_of, begun_refusal}
 use Rattle.gullet.proofs.CallBeginning.{begun_words}
 use Rattle.engine_state.proofs.Joining.{same_err}
@@ -14,3 +16,9 @@ returns-in_err-begin_call-clause-refused c = let e = c.args.engine.now in let i 
 pub returns-clause-fits : goal.returns-clause-fits
 returns-clause-fits c = let e = c.args.engine.now in
     λ sizes book number counts. begun_refusal sizes e book (Arguments c.args.name c.args.long number (text_of e.input.lists e.input.groups.now.meanings c.args.name)) None counts (c.depth_refusal.ensures.room (none_of c.depth_refusal.result c.in_default.not-Some)) (begun_words e c.args.name c.args.long number None c.in_ok-begin_call.ensures.refused)
+
+pub returns-in_err-begin_call-clause-idle : goal.returns-in_err-begin_call-clause-idle
+returns-in_err-begin_call-clause-idle c = ap (λ (i : Stored). i.making) c.in_err-begin_call.ensures.err
+
+pub returns-clause-idle : goal.returns-clause-idle
+returns-clause-idle c = ap (λ (i : Stored). i.making) c.in_ok-begin_call.ensures.ok

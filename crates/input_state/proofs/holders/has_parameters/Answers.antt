@@ -1,4 +1,4 @@
-use Rattle.std.proofs.Common.{◌∙◌, ap, sym, Bool, not}
+use Rattle.std.proofs.Common.{refl, sym}
 use Rattle.token_lists.specs.Table.{tokens_at}
 use Rattle.token_lists.specs.Ids.{id_of}
 use Rattle.input_state.proofs.Calling.{first_decides}
@@ -7,4 +7,5 @@ use Rattle.input_state.proofs.holders.has_parameters.Goals as goal
 pub returns-in-Some : goal.returns-in-Some
 returns-in-Some c =
     let id = id_of c.args.list.now in
-    ap (λ (b : Bool). not b) c.is_end_mark.ensures ∙ first_decides (tokens_at c.args.lists.now id) c.token.result (c.token.ensures id 0 (sym c.in-Some.ensures.place))
+    let first = c.in-Some.ensures in
+    first_decides (tokens_at c.args.lists.now id) c.is_end.result (first.ends.0 refl) (λ t at. c.is_end.ensures id 0 t (sym first.place) at)
