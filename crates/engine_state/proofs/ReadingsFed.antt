@@ -165,6 +165,15 @@ module _ (sizes : Sizes) (e : Engine) (stack : Stack) (g : Grown) (y : Fed)
         (did_one sizes (Feeds y) (state_of (listed e (with_tokens g e.input.builds) e'.input.lists) (with_work (r ∷ rs) book)) (state_of e' (with_work (fed_with y (r ∷ rs)) book)) w w refl
         (ap (λ (x : Engine). state_of x (with_work (fed_with y (r ∷ rs)) book)) (sym is)) (quiet_here (Feeds y) w tt)))
 
+    -- with room for two tokens none is cut off
+    pub feeds_fit : {A : Type 0} → (e2 : Engine) (full : Full) → stored_words e.input + 2 ≤ e.sizes.main_memory_size → KeepsShared e.input e2.input → TokensCut g full (record e { readings = stack }) e2 → A
+    feeds_fit e2 full room all_lists cut = absurd (no_cut sizes (with_work (r ∷ rs) book) g full (record e { readings = stack }) e2 (by_stack sizes e (with_work (r ∷ rs) book) stack size st.sound) all_lists cut (omega (arith, room, few g.first g.second))) where
+      few : (a b : Option Token) → cell_count a + cell_count b ≤ 2
+      few None None = omega arith
+      few None (Some t) = omega arith
+      few (Some t) None = omega arith
+      few (Some t) (Some u) = omega arith
+
     lead_by : (full : Full) (o : Option Token) → MayLead (broken.Full full) o
     lead_by full None = tt
     lead_by full (Some t) = tt
@@ -191,12 +200,7 @@ module _ (sizes : Sizes) (e : Engine) (stack : Stack) (g : Grown) (y : Fed)
 
       full_kept : (p : Option Frame) → IsKept p e → p ≡ innermost_of e.readings.frames
       full_kept (Some f) h = sym h
-      full_kept None (inl room) = absurd (no_cut sizes (with_work (r ∷ rs) book) g full (record e { readings = stack }) e2 (by_stack sizes e (with_work (r ∷ rs) book) stack size st.sound) all_lists cut (omega (arith, room, few g.first g.second))) where
-        few : (a b : Option Token) → cell_count a + cell_count b ≤ 2
-        few None None = omega arith
-        few None (Some t) = omega arith
-        few (Some t) None = omega arith
-        few (Some t) (Some u) = omega arith
+      full_kept None (inl room) = feeds_fit e2 full room all_lists cut
       full_kept None (inr none) = sym none
 
       back_is : (restored o e2).readings ≡ e.readings

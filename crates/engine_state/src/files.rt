@@ -18,32 +18,16 @@ ghost use Rattle.engine_state.specs.Calls.{AllStand};
 ghost use Rattle.engine_state.specs.Clauses.{Still};
 ghost use Rattle.engine_state.specs.Stands.{IsSound, SameFrames, state_of, page_of};
 ghost use Rattle.engine_state.specs.Rules.{world_of, counted, Cuts, Halts};
-ghost use Rattle.engine_state.specs.Steps.{all_start, asked};
 
 use crate::broken::Broken;
 use crate::engine::Engine;
 use crate::views::view_of;
-use reading_frames::Ask;
-use rows::Effect;
 use tex_defs::{Fatal, Sizes};
 use tex_syntax::Outcome;
 use transcript::{no_file_lines, write_missing_file};
 use world_io::Sink;
 
 impl Engine {
-    /// Whether the next rule opens a file: `\\input` has read its name.
-    pub fn asks_input(&self) -> bool
-        ensures { result ≡ all_start self.now.call (asked self.now) }
-    {
-        if self.call.is_some() {
-            return false;
-        }
-        matches!(
-            self.readings.ask(),
-            Some(Ask::ActsOn(_, Effect::StartInput(_), _))
-        )
-    }
-
     /// The file that was opened is begun with its first line, a step. *TeX: The Program*, part 29 (`start_input`).
     ///
     /// # Errors

@@ -1,5 +1,5 @@
 // The open readings: frames, and the lists that they hold.
-ghost use Rattle.std.specs.Prelude.{◌≡◌, ◌<◌, ◌≤◌, ◌+◌, ◌-◌, List, [], ◌∷◌, length, drop, IfErr, OnOk, OnErr, Some, None, IsSome};
+ghost use Rattle.std.specs.Prelude.{◌≡◌, ◌<◌, ◌≤◌, ◌+◌, ◌-◌, ◌^◌, List, [], ◌∷◌, length, drop, IfErr, OnOk, OnErr, Some, None, IsSome, MatchBool};
 ghost use Rattle.tex_defs.specs.Places.{World};
 ghost use Rattle.tex_defs.specs.declared.Sizes.{Sizes};
 ghost use Rattle.equivalents.specs.Groups.{IsLocation};
@@ -15,7 +15,7 @@ ghost use Rattle.reading_frames.specs.Stands.{opened_lists};
 ghost use Rattle.input_state.specs.Callings.{NotCalling};
 ghost use Rattle.input_state.specs.Stored.{KeepsShared, words as stored_words};
 ghost use Rattle.reading_frames.specs.Weights.{frames_weight, opening_frame, innermost_weight, begun_weight, begun_with_weight, IsReported};
-ghost use Rattle.reading_frames.specs.Stack.{asks_in};
+ghost use Rattle.reading_frames.specs.Stack.{asks_in, innermost_groups};
 ghost use Rattle.plain_machine.specs.States.{Begun, BegunWith, Closed, Ended, Feeds, made};
 ghost use Rattle.plain_machine.specs.Demands.{refusal};
 ghost use Rattle.plain_machine.specs.Plan.{noting, value_tokens, feeding};
@@ -158,6 +158,33 @@ impl Engine {
         if !self.readings.has_few_groups() {
             return Ok(());
         }
+        if !self.has_room() {
+            return self.feed_at_risk(x);
+        }
+        // A token brings at most two into the list, so none is refused here.
+        let grown = self.readings.feed(x);
+        if let Err(full) = self.take(grown) {
+            return Err(full);
+        }
+        self.last = x;
+        Ok(())
+    }
+
+    /// As [`Engine::feed`], where the main memory may be full: the frame is kept meanwhile.
+    ///
+    /// # Errors
+    /// As [`Engine::feed`].
+    #[cold]
+    #[inline(never)]
+    fn feed_at_risk(&mut self, x: Seen) -> Result<(), Full>
+        requires { innermost_groups self.old.readings.frames + 1 < 2 ^ 64 }
+        ensures stands { OnOk result ((sizes : Sizes) (book : Book) → Stands sizes self.old book → Stands sizes self.new (with_work (fed_with (Tok x) book.work) book)) }
+        ensures did { OnOk result ((sizes : Sizes) (w : World) (book : Book) (r : Reading) (rs : List Reading) → Stands sizes self.old (with_work (r ∷ rs) book) → Did sizes (state_of self.old (with_work (r ∷ rs) book)) (state_of self.new (with_work (fed_with (Tok x) (r ∷ rs)) book)) w w (feeds_of (r ∷ rs) x)) }
+        ensures refused { IfErr result (λ full. CutsAtReading self.old self.new (λ _ r. feeding r x) (broken.Full full)) }
+        ensures column { self.new.in_line ≡ self.old.in_line }
+        ensures idle { self.new.input.making ≡ self.old.input.making }
+        ensures call { self.new.call ≡ self.old.call }
+    {
         let kept = self.frame_at_risk();
         let grown = self.readings.feed(x);
         if let Err(full) = self.take(grown) {
@@ -289,12 +316,19 @@ impl Engine {
         let _grown = self.take(grown);
     }
 
-    /// The innermost frame, where the main memory may be full before it is fed: it has room for less than two tokens.
+    /// Whether the main memory has room for two tokens, the most that a frame gives at once.
+    fn has_room(&self) -> bool
+        ensures { MatchBool result (stored_words self.now.input + 2 ≤ self.now.sizes.main_memory_size) (self.now.sizes.main_memory_size < stored_words self.now.input + 2) }
+    {
+        let used = self.input.words();
+        u64::from(used) + 2 <= u64::from(self.sizes.main_memory_size)
+    }
+
+    /// The innermost frame, where the main memory may be full before it is fed.
     fn frame_at_risk(&self) -> Option<Frame>
         ensures { IsKept result self.now }
     {
-        let used = self.input.words();
-        if u64::from(used) + 2 <= u64::from(self.sizes.main_memory_size) {
+        if self.has_room() {
             return None;
         }
         self.readings.innermost()

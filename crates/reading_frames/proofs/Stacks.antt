@@ -1,8 +1,15 @@
 -- The stack with its innermost frame first.
-use Rattle.std.proofs.Common.{◌≡◌, List, [], ◌∷◌, ◌++◌, Option, Some, reverse, length, sym}
-use Rattle.std.proofs.lemmas.List.{length-reverse, reverse-append}
-use Rattle.reading_frames.specs.Stack.{frames_of}
+use Rattle.std.proofs.Common.{◌≡◌, ◌∙◌, List, [], ◌∷◌, ◌++◌, Option, Some, reverse, length, refl, sym, ap}
+use Rattle.std.proofs.lemmas.List.{append-nil, length-reverse, reverse-append}
+use Rattle.plain_readings.specs.Readings.{Reading, ask}
+use Rattle.reading_frames.specs.Views.{Lists, ask_of}
+use Rattle.reading_frames.specs.Resumes.{resume}
+use Rattle.reading_frames.specs.Stands.{FramesStand}
+use Rattle.reading_frames.specs.Stack.{frames_of, asks_in, asked_in}
+use Rattle.reading_frames.specs.declared.ask.Ask.{Ask}
+use Rattle.reading_frames.specs.declared.text.BuildScan.{BuildScan}
 use Rattle.reading_frames.specs.declared.frame.Frame.{Frame}
+use Rattle.reading_frames.specs.declared.frame.Frame.TheVariants.{Build}
 
 pub count_reversed : (fs : List Frame) → length (reverse fs) ≡ length fs
 count_reversed fs = length-reverse fs
@@ -10,3 +17,15 @@ count_reversed fs = length-reverse fs
 -- the innermost goes beneath the one that begins
 pub pushed : (o : Option Frame) (fs gs : List Frame) (f : Frame) → o ≡ Some f → gs ≡ fs ++ f ∷ [] → frames_of o (reverse fs) ≡ reverse gs
 pushed o fs gs f e h = rw e (rw h (sym (reverse-append fs (f ∷ []))))
+
+-- the innermost asks for what the reading asks for which it stands
+asks_stand : (fs : List Frame) (held : Lists) (work : List Reading) → FramesStand fs held work → asks_in fs held ≡ asked_in work
+asks_stand [] held [] st = refl
+asks_stand [] held (r ∷ rs) st = absurd st
+asks_stand (f ∷ fs) held [] st = absurd st
+asks_stand (f ∷ fs) held (r ∷ rs) st = ap Some (sym (st.0.goes_on []) ∙ ap (ask r.kind) (append-nil r.fed))
+
+pub build_stands : (fs beneath : List Frame) (f : Frame) (scan : BuildScan) (a : Ask) → fs ≡ f ∷ beneath → f ≡ Build scan → ((held : Lists) → ask_of held a ≡ resume (Build scan) held []) →
+    (held : Lists) (work : List Reading) → FramesStand fs held work → Some (ask_of held a) ≡ asked_in work
+build_stands fs beneath f scan a is at asks held work st =
+    ap Some (asks held) ∙ (sym (ap (λ (x : List Frame). asks_in x held) (is ∙ ap (λ (x : Frame). x ∷ beneath) at)) ∙ asks_stand fs held work st)

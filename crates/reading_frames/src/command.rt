@@ -121,6 +121,8 @@ impl CommandScan {
     }
 
     /// What it asks for where it stands.
+    // Not inlined, as `Frame::ask`.
+    #[inline(never)]
     pub fn ask(&self) -> Ask
         ensures is { (held : Lists) → ask_of held result ≡ resume_command self.now held [] }
         ensures owns { Owns result (command_count self.now) }

@@ -184,19 +184,21 @@ impl Frame {
     }
 
     /// What it asks for where it stands.
+    // Not inlined: the temporaries of all cases cost more than most of the cases.
+    #[inline(never)]
     pub fn ask(&self) -> Ask
         ensures is { (held : Lists) → ask_of held result ≡ resume self.now held [] }
         ensures owns { Owns result (list_count self.now) }
         ensures found { IsFetchedAt result }
     {
         match self {
-            Frame::Command(scan, _) => scan.ask(),
+            Frame::Build(scan) => scan.ask(),
             Frame::Integer(scan) => of_number(scan.ask()),
+            Frame::Command(scan, _) => scan.ask(),
             Frame::Factor(scan) => of_factor(scan.ask()),
             Frame::Dimension(scan) => of_dimension(scan.ask()),
             Frame::Glue(scan) => of_glue(scan.ask()),
             Frame::Keyword(scan) => of_keyword(scan.ask()),
-            Frame::Build(scan) => scan.ask(),
             Frame::Spelling(scan) => scan.ask(),
             Frame::FileName(scan) => scan.ask(),
             Frame::Behind(call, x) => Ask::Acts(*call, Effect::PutBack(*x)),

@@ -138,10 +138,14 @@ impl Readings {
         ensures owns { IfSome result (λ a. Owns a (innermost_count self.now.frames)) }
         ensures found { IfSome result (λ a. IsFetchedAt a) }
     {
-        match &self.innermost {
-            None => None,
-            Some(frame) => Some(frame.ask()),
+        let Some(frame) = &self.innermost else {
+            return None;
+        };
+        // Each token of a text comes here.
+        if let Frame::Build(scan) = frame {
+            return Some(scan.ask());
         }
+        Some(frame.ask())
     }
 
     /// One more begins; one that builds a list has one of no token on top.

@@ -1,13 +1,9 @@
-use Rattle.std.proofs.Common.{◌∷◌, ap, sym, subst}
+use Rattle.std.proofs.Common.{◌∷◌, ◌≤◌, ◌+◌, ap}
 use Rattle.rows.specs.Readings.{Tok}
-use Rattle.reading_frames.specs.Stack.{Stack}
-use Rattle.plain_machine.specs.Plan.{feeding}
+use Rattle.input_state.specs.Stored.{words}
 use Rattle.engine_state.specs.Book.{with_work}
-use Rattle.engine_state.specs.CutReadings.{CutsIn}
-use Rattle.engine_state.specs.Stands.{state_of}
 use Rattle.engine_state.specs.declared.engine.Engine.{Engine}
-use Rattle.engine_state.specs.declared.broken.Broken.TheVariants as broken
-use Rattle.engine_state.proofs.ReadingsFed.{feeds_stands, feeds_did, feeds_cut, feeding_moves, moves_did, moves_in, many_groups}
+use Rattle.engine_state.proofs.ReadingsFed.{feeds_stands, feeds_did, feeds_fit, feeding_moves, moves_did, many_groups}
 use Rattle.engine_state.proofs.engine.Engine.feed.Goals as goal
 
 pub returns-then-not-has_few_groups-clause-stands : goal.returns-then-not-has_few_groups-clause-stands
@@ -31,6 +27,5 @@ returns-clause-did c = λ sizes w book r rs st. let e = c.args.self.now in let t
 
 pub returns-in-Err-clause-refused : goal.returns-in-Err-clause-refused
 returns-in-Err-clause-refused c = λ sizes w book r rs st. let e = c.args.self.now in let t = c.feed-grown.ensures in
-    subst (λ (x : Stack). CutsIn sizes (state_of e (with_work (r ∷ rs) book)) (record c.take.new.self { readings = x }) w w (feeding r c.args.x) (broken.Full c.in-Err.full)) (sym c.restore.ensures)
-    (moves_in sizes _ _ w _ _ _ (feeding_moves e.readings.frames e.input.builds r rs c.args.x st.readings.frames)
-    (feeds_cut sizes e c.feed-grown.new.self c.feed-grown.result (Tok c.args.x) t.stands t.shallow t.beneath t.listed t.size book r rs st c.frame_at_risk-kept.result c.take.new.self c.in-Err.full w c.frame_at_risk-kept.ensures t.rest t.count c.take.ensures.all_lists c.in-Err.ensures.err))
+    let room : words e.input + 2 ≤ e.sizes.main_memory_size = c.if-not-has_room.ensures in
+    feeds_fit sizes e c.feed-grown.new.self c.feed-grown.result (Tok c.args.x) t.stands t.shallow t.beneath t.listed t.size book r rs st c.take.new.self c.in-Err.full room c.take.ensures.all_lists c.in-Err.ensures.err
