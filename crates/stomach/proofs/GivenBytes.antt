@@ -1,7 +1,7 @@
 -- Bytes of the files that are given to the engine.
 use Rattle.std.proofs.Common.{◌≡◌, ℕ, List, [], ◌∷◌, ◌++◌, refl, sym, ap, ap₂, ◌∙◌, subst, append_assoc}
 use Rattle.std.proofs.lemmas.List.{append-nil}
-use Rattle.std.specs.Prelude.{◌≢◌, Option, None, Some}
+use Rattle.std.specs.Prelude.{◌≢◌, Bool, Option, None, Some}
 use Rattle.tex_defs.specs.Places.{World}
 use Rattle.tex_defs.specs.declared.Sizes.{Sizes}
 use Rattle.plain_tokens.specs.Pending.{Pending, Progress, Begun, Closed}
@@ -11,14 +11,18 @@ use Rattle.plain_machine.specs.Extended.{Rests, extended, extended_pending}
 use Rattle.plain_machine.specs.Numbers.{pending_of}
 use Rattle.input_state.specs.NextBytes.{with_bytes, with_first_bytes}
 use Rattle.line_reader.specs.Readers as readers
-use Rattle.line_reader.specs.Readers.{OpenReader, came_first}
+use Rattle.line_reader.specs.Readers.{came_first}
 use Rattle.engine_state.specs.declared.engine.Engine.{Engine}
 use Rattle.engine_state.specs.Book.{Book}
 use Rattle.engine_state.specs.Calls.{AllStand}
 use Rattle.engine_state.specs.Stands.{SameFrames, SameStore, state_of}
+use Rattle.engine_state.specs.Steps.{all_want, asked}
 use Rattle.engine_state.proofs.CallKept.{all_still}
 use Rattle.engine_state.proofs.Storing.{sound_still}
 use Rattle.stomach.specs.Ahead.{came_in, given, IsGiven, Lacks, LacksLine, LacksFirst}
+use Rattle.stomach.specs.declared.innermost.Innermost.{Innermost}
+use Rattle.stomach.specs.declared.innermost.Innermost.TheVariants as innermost
+use Rattle.stomach.specs.Innermost.{IsInnermost}
 use Rattle.stomach.specs.Ran.{Came, whole_state}
 
 -- WHAT WAS PENDING
@@ -143,3 +147,19 @@ module _ (sizes : Sizes) (all left : Rests) (e e' : Engine) (is : IsGiven all le
     count = came.count;
     written = came.written;
   }
+
+-- WHAT THE INNERMOST READING ASKS FOR is as before
+
+innermost_now : (bytes : List ℕ) (e : Engine) (i : Innermost) → IsInnermost e i → IsInnermost (given bytes e) i
+innermost_now bytes e (innermost.Call c) h = h
+innermost_now bytes e (innermost.Frame a) h = (h.0, record { asks = h.1.asks; stands = h.1.stands; found = h.1.found })
+
+pub innermost_given : (all left : Rests) (e e' : Engine) → IsGiven all left e e' → (i : Innermost) → IsInnermost e i → IsInnermost e' i
+innermost_given all left e e' is i h = subst (λ (x : Engine). IsInnermost x i) (sym is.after) (innermost_now is.bytes e i h)
+
+wants_now : (bytes : List ℕ) (e : Engine) (b : Bool) → b ≡ all_want e.call (asked e) → b ≡ all_want (given bytes e).call (asked (given bytes e))
+wants_now bytes e b h = h
+
+-- and whether a token is wanted
+pub wants_given : (all left : Rests) (e e' : Engine) → IsGiven all left e e' → (b : Bool) → b ≡ all_want e.call (asked e) → b ≡ all_want e'.call (asked e')
+wants_given all left e e' is b h = subst (λ (x : Engine). b ≡ all_want x.call (asked x)) (sym is.after) (wants_now is.bytes e b h)

@@ -14,6 +14,7 @@ use Rattle.reading_frames.specs.Views.{Lists, ask_of, kept_list_of}
 use Rattle.reading_frames.specs.Stack.{asked_in, asked_of, asks_in}
 use Rattle.reading_frames.specs.Stands as frames
 use Rattle.reading_frames.specs.declared.ask.Ask.{Ask}
+use Rattle.reading_frames.specs.declared.ask.Ask.TheVariants as asks
 use Rattle.plain_machine.specs.States.{Move, Files}
 use Rattle.plain_machine.specs.Plan.{Page, acts_in, acts_on, answered}
 use Rattle.plain_machine.specs.Extended.{starts}
@@ -27,18 +28,51 @@ use Rattle.engine_state.specs.Book.{Book, with_work}
 use Rattle.engine_state.specs.CutReadings.{CutsIn}
 use Rattle.engine_state.specs.Rules.{WantsHere, Takes, world_of, plan_of, next_moves}
 use Rattle.engine_state.specs.Stands.{Stands, state_of}
-use Rattle.engine_state.specs.Steps.{asked, asks_start, all_start, frames_want, all_want, stepping}
+use Rattle.engine_state.specs.Steps.{asked, asks_more, asks_start, all_start, frames_want, all_want, stepping}
 use Rattle.engine_state.proofs.Uncalled.{all_of}
+use Rattle.stomach.specs.declared.innermost.Innermost.{Innermost}
+use Rattle.stomach.specs.declared.innermost.Innermost.TheVariants as innermost
+use Rattle.stomach.specs.Innermost.{AsksFor, StandsAsking, IsAsked, IsInnermost, ask_wants, frame_wants, innermost_wants, ask_opens, frame_opens, innermost_opens}
 use Rattle.stomach.specs.Halting.{DoesRuleIn}
 
--- WHAT THE INNERMOST FRAME ASKS FOR, over whatever lists
+-- WHAT THE INNERMOST READING ASKS FOR
 
-abbrev pub AsksFor : Engine → Option Ask → Type 0
-AsksFor e a = (held : Lists) → asked_of held a ≡ asks_in e.readings.frames held
+pub call_innermost : (e : Engine) (i : Innermost) (c : Call) → i ≡ innermost.Call c → IsInnermost e i → e.call ≡ Some c
+call_innermost e i c is h = subst (λ (x : Innermost). IsInnermost e x) is h
 
--- and of what it stands for
-abbrev pub StandsAsking : Engine → Option Ask → Type 0
-StandsAsking e a = (held : Lists) (work : List Reading) → frames.FramesStand e.readings.frames held work → asked_of held a ≡ asked_in work
+pub frame_innermost : (e : Engine) (i : Innermost) (a : Option Ask) → i ≡ innermost.Frame a → IsInnermost e i → (e.call ≡ None) × IsAsked e a
+frame_innermost e i a is h = subst (λ (x : Innermost). IsInnermost e x) is h
+
+pub asked_is : (e : Engine) (a b : Option Ask) → a ≡ b → IsAsked e a → IsAsked e b
+asked_is e a b is h = subst (λ (x : Option Ask). IsAsked e x) is h
+
+-- whether that is a token
+wants_of : (held : Lists) (x : Ask) → asks_more (ask_of held x) ≡ ask_wants x
+wants_of held (asks.More want) = refl
+wants_of held x = refl
+
+wants_frame : (held : Lists) (a : Option Ask) → frames_want (asked_of held a) ≡ frame_wants a
+wants_frame held None = refl
+wants_frame held (Some x) = wants_of held x
+
+pub wants_same : (e : Engine) (i : Innermost) → IsInnermost e i → innermost_wants i ≡ all_want e.call (asked e)
+wants_same e (innermost.Call c) h = sym (ap (λ (o : Option Call). all_want o (asked e)) h)
+wants_same e (innermost.Frame a) h =
+    sym (wants_frame e.input.builds a) ∙ (ap frames_want (h.1.asks e.input.builds) ∙ sym (ap (λ (o : Option Call). all_want o (asked e)) h.0))
+
+-- and whether that a file be opened
+opens_of : (held : Lists) (x : Ask) → starts (ask_of held x) ≡ ask_opens x
+opens_of held (asks.ActsOn c (effect.StartInput back) listed) = refl
+opens_of held x = refl
+
+opens_frame : (held : Lists) (a : Option Ask) → asks_start (asked_of held a) ≡ frame_opens a
+opens_frame held None = refl
+opens_frame held (Some x) = opens_of held x
+
+pub opens_same : (e : Engine) (i : Innermost) → IsInnermost e i → innermost_opens i ≡ all_start e.call (asked e)
+opens_same e (innermost.Call c) h = sym (ap (λ (o : Option Call). all_start o (asked e)) h)
+opens_same e (innermost.Frame a) h =
+    sym (opens_frame e.input.builds a) ∙ (ap asks_start (h.1.asks e.input.builds) ∙ sym (ap (λ (o : Option Call). all_start o (asked e)) h.0))
 
 pub asks_as : (e : Engine) (a b : Ask) → a ≡ b → AsksFor e (Some a) → AsksFor e (Some b)
 asks_as e a b is h = subst (λ (x : Ask). AsksFor e (Some x)) is h

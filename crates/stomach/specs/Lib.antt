@@ -2,6 +2,7 @@ pub mod Ahead
 pub mod Effects
 pub mod Files
 pub mod Halting
+pub mod Innermost
 pub mod Naming
 pub mod Obeying
 pub mod Ran

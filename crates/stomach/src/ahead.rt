@@ -9,34 +9,23 @@ ghost use Rattle.stomach.specs.Ahead.{IsGiven, Knows, Needs, needs_step, read_we
 
 use engine_state::Engine;
 use line_reader::Readers;
-use reading_frames::Ask;
 use world_io::{Fault, Files};
 
 /// How many bytes are read at once.
 const WINDOW: usize = 256;
 
-/// Whether the next rule wants a token.
-pub fn wants_token(engine: &Engine) -> bool
-    ensures { result ≡ all_want engine.now.call (asked engine.now) }
-{
-    match (engine.call, engine.readings.ask()) {
-        (Some(call), _) => call.asks_more(),
-        (None, None) => true,
-        (None, Some(Ask::More(_))) => true,
-        (None, Some(_)) => false,
-    }
-}
-
-/// Whether the next rule is the step of a token at hand. Then no byte of a file is needed for it.
-pub fn has_token(engine: &Engine) -> bool
+/// Whether the next rule is the step of a token at hand; `wants`: whether it wants a token. Then no byte of a file is needed for it.
+pub fn has_token(engine: &Engine, wants: bool) -> bool
+    requires { wants ≡ all_want engine.now.call (asked engine.now) }
     ensures knows { IsTrue result → (rs : List OpenReader) → Knows engine.now rs }
     ensures step { IsTrue result → needs_step engine.now ≡ true }
 {
-    engine.input.is_at_hand() && !engine.input.has_next() && wants_token(engine)
+    engine.input.is_at_hand() && !engine.input.has_next() && wants
 }
 
-/// Whether the next rule needs bytes of a file that haven't come.
-fn needs_bytes(engine: &Engine, readers: &Readers) -> bool
+/// Whether the next rule needs bytes of a file that haven't come; `wants`: whether it wants a token.
+fn needs_bytes(engine: &Engine, readers: &Readers, wants: bool) -> bool
+    requires { wants ≡ all_want engine.now.call (asked engine.now) }
     ensures { MatchBool result (Needs engine.now readers.now.readers) (AreTied readers.now engine.now → Knows engine.now readers.now.readers) }
 {
     if readers.count() == 0 || readers.is_ended() {
@@ -45,7 +34,7 @@ fn needs_bytes(engine: &Engine, readers: &Readers) -> bool
     if engine.input.has_next() {
         return engine.input.needs_first_bytes();
     }
-    wants_token(engine) && engine.input.needs_bytes()
+    wants && engine.input.needs_bytes()
 }
 
 /// Reads the innermost file's next bytes, or finds its end.
@@ -83,7 +72,9 @@ pub fn read_ahead<F: Files>(
     engine: &mut Engine,
     readers: &mut Readers,
     files: &mut F,
+    wants: bool,
 ) -> Result<(), Fault>
+    requires wants { wants ≡ all_want engine.old.call (asked engine.old) }
     requires open { AreOpen readers.old.readers (F.told files.old) }
     ensures came { ReadsTo readers.old.readers readers.new.readers (F.told files.old) (F.told files.new) (λ all left. IsGiven all left engine.old engine.new) }
     ensures knows { OnOk result (AreTied readers.new engine.new → Knows engine.new readers.new.readers) }
@@ -94,7 +85,7 @@ pub fn read_ahead<F: Files>(
     ensures fault { IfErr result (λ e. e ≡ Failed → Rose (F.told files.old).read_faults (F.told files.new).read_faults) }
     ensures want { IfErr result (λ e. e ≡ NoMemory → Rose (F.told files.old).wants (F.told files.new).wants) }
 {
-    while needs_bytes(engine, readers) {
+    while needs_bytes(engine, readers, wants) {
         read_window(engine, readers, files)?;
     }
     Ok(())

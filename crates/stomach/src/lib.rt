@@ -11,6 +11,7 @@ mod early;
 mod effects;
 mod ends;
 mod files;
+mod innermost;
 mod lists;
 mod naming;
 mod obeying;

@@ -16,11 +16,13 @@ ghost use Rattle.engine_state.specs.CutReadings.{CutsIn};
 ghost use Rattle.engine_state.specs.Stands.{Stands, SameReadings, state_of, page_of};
 ghost use Rattle.engine_state.specs.Rules.{world_of, plan_of, next_moves, Takes, DoesRule};
 ghost use Rattle.engine_state.specs.Steps.{all_start, asked, stepping, stops_run, IsStep, IsFree, IsHalted, StepsIf, weight};
+ghost use Rattle.stomach.specs.Innermost.{IsAsked, IsInnermost};
 ghost use Rattle.stomach.specs.Halting.{DoesRuleIn, DoesPlanIn, CutsPlanIn, DoesRuleAtReading, CutsRuleAtReading};
 
 use crate::define::define;
 use crate::effects::act;
 use crate::ends::{begin_inner, done, magnify, put, relax, tell};
+use crate::innermost::Innermost;
 use crate::lists::set_list;
 use crate::naming::make_name;
 use crate::obeying::hand_on;
@@ -170,7 +172,8 @@ fn ask_rule<S: Sink>(engine: &mut Engine, out: &mut S, ask: Ask) -> Result<Ruled
 }
 
 /// The rule of the frames, where no call gathers its arguments.
-fn frame_rule<S: Sink>(engine: &mut Engine, out: &mut S) -> Result<Ruled, Broken>
+fn frame_rule<S: Sink>(engine: &mut Engine, out: &mut S, ask: &Option<Ask>) -> Result<Ruled, Broken>
+    requires asked { IsAsked engine.old ask.now }
     requires idle { engine.old.input.making ≡ None }
     requires no_start { all_start engine.old.call (asked engine.old) ≡ false }
     requires uncalled { engine.old.call ≡ None }
@@ -183,9 +186,12 @@ fn frame_rule<S: Sink>(engine: &mut Engine, out: &mut S) -> Result<Ruled, Broken
         CutsIn sizes (state_of engine.old book) engine.new (world_of f (S.told out.old) engine.old) (world_of f (S.told out.new) engine.new) (plan_of engine.old book) b) }
     ensures idle { OnOk result (engine.new.input.making ≡ None) }
 {
-    match engine.readings.ask() {
+    match ask {
         None => token_rule(engine, out, None),
-        Some(ask) => ask_rule(engine, out, ask),
+        Some(ask) => match ask {
+            Ask::More(want) => token_rule(engine, out, Some(*want)),
+            _ => ask_rule(engine, out, *ask),
+        },
     }
 }
 
@@ -193,7 +199,12 @@ fn frame_rule<S: Sink>(engine: &mut Engine, out: &mut S) -> Result<Ruled, Broken
 ///
 /// # Errors
 /// There is no room for what comes, or a write failed: the engine stands for the moment before.
-pub(crate) fn rule<S: Sink>(engine: &mut Engine, out: &mut S) -> Result<Ruled, Broken>
+pub(crate) fn rule<S: Sink>(
+    engine: &mut Engine,
+    innermost: &Innermost,
+    out: &mut S,
+) -> Result<Ruled, Broken>
+    requires innermost { IsInnermost engine.old innermost.now }
     requires idle { engine.old.input.making ≡ None }
     requires no_start { all_start engine.old.call (asked engine.old) ≡ false }
     requires running { engine.old.stopped ≡ false }
@@ -204,10 +215,10 @@ pub(crate) fn rule<S: Sink>(engine: &mut Engine, out: &mut S) -> Result<Ruled, B
     ensures idle { OnOk result (engine.new.input.making ≡ None) }
     ensures stopped { MatchResult result (λ ruled. engine.new.stopped ≡ stops_run ruled) (λ _. engine.new.stopped ≡ true) }
 {
-    match engine.call {
-        Some(call) => gather(engine, out, call),
-        None => {
-            let ruled = frame_rule(engine, out);
+    match innermost {
+        Innermost::Call(call) => gather(engine, out, *call),
+        Innermost::Frame(ask) => {
+            let ruled = frame_rule(engine, out, ask);
             engine.stopped = stops(&ruled);
             ruled
         }

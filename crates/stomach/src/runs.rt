@@ -3,15 +3,17 @@ ghost use Rattle.std.specs.Prelude.{◌≡◌, ◌<◌, IfOk, IfErr, OnOk, Match
 ghost use Rattle.tex_defs.specs.Places.{Rose};
 ghost use Rattle.world_io.specs.declared.traits.Fault.TheVariants.{Failed, NoMemory};
 ghost use Rattle.line_reader.specs.Readers.{AreOpen};
-ghost use Rattle.engine_state.specs.Steps.{weight, stops_run, IsFree, StepsIf};
+ghost use Rattle.engine_state.specs.Steps.{all_want, asked, weight, stops_run, IsFree, StepsIf};
 ghost use Rattle.stomach.specs.declared.early.Early.TheVariants as early;
 ghost use Rattle.stomach.specs.Ahead.{Knows, needs_step as plain_needs_step};
+ghost use Rattle.stomach.specs.Innermost.{IsInnermost};
 ghost use Rattle.stomach.specs.Read.{ReadsTo, AreTied};
 ghost use Rattle.stomach.specs.Ran.{RuledTo, FreeTo, RanTo, StoppedTo};
 
-use crate::ahead::{has_token, read_ahead, wants_token};
+use crate::ahead::{has_token, read_ahead};
 use crate::early::Early;
 use crate::files::{close_ended, open_file};
+use crate::innermost::Innermost;
 use crate::rules::rule;
 use engine_state::{Engine, Ruled};
 use line_reader::Readers;
@@ -25,20 +27,23 @@ pub enum Ended {
     Steps,
 }
 
-/// Whether the next rule needs a step.
-fn needs_step(engine: &Engine) -> bool
+/// Whether the next rule needs a step; `wants`: whether it wants a token.
+fn needs_step(engine: &Engine, wants: bool) -> bool
+    requires { wants ≡ all_want engine.now.call (asked engine.now) }
     ensures { result ≡ plain_needs_step engine.now }
 {
-    engine.input.has_next() || wants_token(engine) && engine.input.is_ready()
+    engine.input.has_next() || wants && engine.input.is_ready()
 }
 
 /// Does one rule of the machine, with at most one step. The reader of a file that ends is closed.
 fn one_rule<F: Files, S: Sink>(
     engine: &mut Engine,
+    innermost: &Innermost,
     readers: &mut Readers,
     files: &mut F,
     out: &mut S,
 ) -> Result<Ruled, Early>
+    requires innermost { IsInnermost engine.old innermost.now }
     requires idle { engine.old.input.making ≡ None }
     requires running { engine.old.stopped ≡ false }
     requires open { AreOpen readers.old.readers (F.told files.old) }
@@ -56,17 +61,18 @@ fn one_rule<F: Files, S: Sink>(
         engine.begin_file()?;
         return Ok(Ruled::Step);
     }
-    if engine.asks_input() {
+    if innermost.opens_file() {
         return open_file(engine, readers, files, out);
     }
-    let ruled = rule(engine, out);
+    let ruled = rule(engine, innermost, out);
     close_ended(engine, readers, files);
     Ok(ruled?)
 }
 
-/// Makes the rules that need no step, until the next one needs one or the run ends. The files are read on where they must be.
+/// Makes the rules that need no step, until the next one needs one, with this innermost reading, or the run ends. The files are read on where they must be.
 fn run_to_step<F: Files, S: Sink>(
     engine: &mut Engine,
+    innermost: &mut Innermost,
     readers: &mut Readers,
     files: &mut F,
     out: &mut S,
@@ -75,6 +81,7 @@ fn run_to_step<F: Files, S: Sink>(
     requires running { engine.old.stopped ≡ false }
     requires open { AreOpen readers.old.readers (F.told files.old) }
     ensures waits { IfOk result (λ o. o ≡ None → plain_needs_step engine.new ≡ true) }
+    ensures innermost { IfOk result (λ o. o ≡ None → IsInnermost engine.new innermost.new) }
     ensures runs { IfOk result (λ o. o ≡ None → engine.new.stopped ≡ false) }
     ensures knows { IfOk result (λ o. o ≡ None → AreTied readers.new engine.new → Knows engine.new readers.new.readers) }
     ensures run { ReadsTo readers.old.readers readers.new.readers (F.told files.old) (F.told files.new) (λ all left. FreeTo readers.old engine.old (S.told out.old) readers.new engine.new (S.told out.new) all left result) }
@@ -84,14 +91,16 @@ fn run_to_step<F: Files, S: Sink>(
     ensures idle { OnOk result (engine.new.input.making ≡ None) }
 {
     loop {
-        if has_token(engine) {
+        innermost.look(engine);
+        let wants = innermost.wants_token();
+        if has_token(engine, wants) {
             return Ok(None);
         }
-        read_ahead(engine, readers, files)?;
-        if needs_step(engine) {
+        read_ahead(engine, readers, files, wants)?;
+        if needs_step(engine, wants) {
             return Ok(None);
         }
-        match one_rule(engine, readers, files, out)? {
+        match one_rule(engine, innermost, readers, files, out)? {
             Ruled::Halted(outcome) => return Ok(Some(outcome)),
             Ruled::Step => unreachable!(),
             Ruled::Free => {}
@@ -151,15 +160,16 @@ fn make_run<F: Files, S: Sink>(
     ensures idle { OnOk result (engine.new.input.making ≡ None) }
 {
     let mut taken = 0;
+    let mut innermost = Innermost::none();
     loop {
-        if let Some(outcome) = run_to_step(engine, readers, files, out)? {
+        if let Some(outcome) = run_to_step(engine, &mut innermost, readers, files, out)? {
             return Ok(Ended::Halted(outcome));
         }
         if taken == n {
             engine.input.end_token_lists();
             return Ok(Ended::Steps);
         }
-        match one_rule(engine, readers, files, out)? {
+        match one_rule(engine, &innermost, readers, files, out)? {
             Ruled::Halted(outcome) => return Ok(Ended::Halted(outcome)),
             Ruled::Step => taken += 1,
             Ruled::Free => unreachable!(),

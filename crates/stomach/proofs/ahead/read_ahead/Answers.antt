@@ -3,13 +3,13 @@ use Rattle.plain_machine.proofs.Doing.{rose_on}
 use Rattle.plain_machine.specs.Extended.{Rests}
 use Rattle.engine_state.proofs.Joining.{same_err}
 use Rattle.stomach.specs.Ahead.{IsGiven}
-use Rattle.stomach.proofs.GivenBytes.{is_given_none, is_given_more}
-use Rattle.stomach.proofs.Reading.{reads_none, reads_then}
+use Rattle.stomach.proofs.GivenBytes.{is_given_none, is_given_more, wants_given}
+use Rattle.stomach.proofs.Reading.{no_left, reads_holds, reads_none, reads_then}
 use Rattle.stomach.proofs.ahead.read_ahead.Goals as goal
 
 pub loop-engine-init : goal.loop-engine-init
 loop-engine-init g c =
-    ((c.requires.open, (refl, λ tied. tied)), reads_none (λ (all left : Rests). IsGiven all left c.args.engine.now c.args.engine.now) c.args.readers.now.readers (g.F.Files.told c.args.files.now) (λ all. is_given_none c.args.engine.now all))
+    (((c.requires.wants, c.requires.open), (refl, λ tied. tied)), reads_none (λ (all left : Rests). IsGiven all left c.args.engine.now c.args.engine.now) c.args.readers.now.readers (g.F.Files.told c.args.files.now) (λ all. is_given_none c.args.engine.now all))
 
 pub loop-engine-smaller : goal.loop-engine-smaller
 loop-engine-smaller g c = c.in_ok-read_window.ensures.less
@@ -18,7 +18,7 @@ pub loop-engine-preserved : goal.loop-engine-preserved
 loop-engine-preserved g c =
     let l = c.loop-engine in
     let i = c.in_ok-read_window.ensures in (
-      (i.open, (i.ids ∙ l.invariant.0.1.0, λ tied. i.tied (l.invariant.0.1.1 tied))),
+      ((wants_given _ no_left l.engine c.read_window.new.engine (reads_holds _ _ _ _ _ i.came) c.args.wants l.invariant.0.0.0, i.open), (i.ids ∙ l.invariant.0.1.0, λ tied. i.tied (l.invariant.0.1.1 tied))),
       reads_then (λ (all left : Rests). IsGiven all left c.args.engine.now l.engine) c.args.readers.now.readers l.readers.readers c.read_window.new.readers.readers _ _ _
           (λ (all left : Rests). IsGiven all left l.engine c.read_window.new.engine) (λ (all left : Rests). IsGiven all left c.args.engine.now c.read_window.new.engine)
           l.invariant.1 i.came (λ all mid left a b. is_given_more c.args.engine.now l.engine c.read_window.new.engine all mid left a b),

@@ -71,6 +71,9 @@ returns-then-taken-n-clause-run g c =
     (λ all left may may' p. subst (λ (j : ℕ). RanTo rs0 e0 s0 e' s j ended.Steps all left) at
     (came_steps rs0 rs e0 e s0 s l.taken (k.ensures.knows none) all left may' p i c.end_token_lists.ensures.after c.end_token_lists.ensures.all_lists (k.ensures.waits none)))
 
+pub one_rule-requires-clause-innermost : goal.one_rule-requires-clause-innermost
+one_rule-requires-clause-innermost g c = c.in_ok-outcome.ensures.innermost (none_of c.in_ok-outcome.field-0 c.in_default.not-Some)
+
 pub one_rule-requires-clause-knows : goal.one_rule-requires-clause-knows
 one_rule-requires-clause-knows g c = c.in_ok-outcome.ensures.knows (none_of c.in_ok-outcome.field-0 c.in_default.not-Some)
 

@@ -14,6 +14,7 @@ use Rattle.stomach.specs.Ahead.{needs_step}
 use Rattle.stomach.specs.Files.{AreGone}
 use Rattle.stomach.proofs.OneRule.{begun, begun_cut, begun_tied, opened_now, reads_same, rule_done, rule_broken}
 use Rattle.stomach.proofs.Reading.{reads_map}
+use Rattle.stomach.proofs.RuleAsks.{opens_same}
 use Rattle.stomach.proofs.Rounds.{of_err}
 use Rattle.stomach.proofs.runs.one_rule.Goals as goal
 
@@ -48,6 +49,12 @@ returns-then-has_next-clause-rule g c =
       tied = begun_tied rs e e' (end_of_line e.input.groups.now) c.if-has_next.ensures c.in_ok-begin_file.ensures.pending (ap (λ (x : Engine). x.input.sizes) i.only) tied;
     })
 
+pub open_file-requires-clause-starts : goal.open_file-requires-clause-starts
+open_file-requires-clause-starts g c = sym (opens_same c.args.engine.now c.args.innermost.now c.requires.innermost) ∙ (sym c.opens_file.ensures ∙ c.if-opens_file.true)
+
+pub rule-ruled-requires-clause-no_start : goal.rule-ruled-requires-clause-no_start
+rule-ruled-requires-clause-no_start g c = sym (opens_same c.args.engine.now c.args.innermost.now c.requires.innermost) ∙ (sym c.opens_file.ensures ∙ c.if-opens_file.false)
+
 pub returns-in_err-ruled-clause-rule : goal.returns-in_err-ruled-clause-rule
 returns-in_err-ruled-clause-rule g c =
     let rs = c.args.readers.now in
@@ -61,7 +68,7 @@ returns-in_err-ruled-clause-rule g c =
     let k = c.close_ended.ensures in
     reads_map (λ (all left : Rests). AreGone all left _) rs.readers rs'.readers _ _ (λ (all left : Rests). RuledTo rs e s rs' e' s' all left c.from_residual-in_err-ruled.result) k.closed
     (λ all left may may' gone. of_err c.from_residual-in_err-ruled.result (early.Broken b) (λ (r : Result Ruled Early). RuledTo rs e s rs' e' s' all left r) c.from_residual-in_err-ruled.ensures.1
-    (λ sizes f book stands tied. rule_broken rs rs' e e' s s' c.if-has_next.ensures (sym c.asks_input.ensures ∙ c.if-asks_input.false) c.requires.knows k.stays k.most all left may gone sizes f book stands tied b (i.ensures.err sizes f book stands)))
+    (λ sizes f book stands tied. rule_broken rs rs' e e' s s' c.if-has_next.ensures (sym (opens_same e c.args.innermost.now c.requires.innermost) ∙ (sym c.opens_file.ensures ∙ c.if-opens_file.false)) c.requires.knows k.stays k.most all left may gone sizes f book stands tied b (i.ensures.err sizes f book stands)))
 
 pub returns-clause-rule : goal.returns-clause-rule
 returns-clause-rule g c =
@@ -74,4 +81,4 @@ returns-clause-rule g c =
     let i = c.in_ok-ruled in
     let k = c.close_ended.ensures in
     reads_map (λ (all left : Rests). AreGone all left _) rs.readers rs'.readers _ _ (λ (all left : Rests). RuledTo rs e s rs' e' s' all left (Ok i.field-0)) k.closed
-    (λ all left may may' gone sizes f book stands tied. rule_done rs rs' e e' s s' c.if-has_next.ensures (sym c.asks_input.ensures ∙ c.if-asks_input.false) c.requires.knows k.stays k.most all left may gone sizes f book stands tied i.field-0 (i.ensures.rule sizes f book stands))
+    (λ all left may may' gone sizes f book stands tied. rule_done rs rs' e e' s s' c.if-has_next.ensures (sym (opens_same e c.args.innermost.now c.requires.innermost) ∙ (sym c.opens_file.ensures ∙ c.if-opens_file.false)) c.requires.knows k.stays k.most all left may gone sizes f book stands tied i.field-0 (i.ensures.rule sizes f book stands))

@@ -1,0 +1,55 @@
+// The innermost reading, by what it asks for.
+ghost use Rattle.std.specs.Prelude.{◌≡◌};
+ghost use Rattle.engine_state.specs.Steps.{all_want, asked};
+ghost use Rattle.stomach.specs.Innermost.{IsInnermost, innermost_wants, innermost_opens};
+
+use engine_state::{Call, Engine};
+use reading_frames::Ask;
+use rows::Effect;
+
+/// The innermost reading: a call that gathers its arguments, or a frame by what it asks for, or none. It is looked at where a rule begins.
+#[derive(Clone, Copy)]
+pub enum Innermost {
+    Call(Call),
+    Frame(Option<Ask>),
+}
+
+impl Innermost {
+    /// None is open.
+    pub fn none() -> Innermost {
+        Innermost::Frame(None)
+    }
+
+    /// Becomes that of an engine.
+    pub fn look(&mut self, engine: &Engine)
+        ensures is { IsInnermost engine.now self.new }
+        ensures wants { innermost_wants self.new ≡ all_want engine.now.call (asked engine.now) }
+    {
+        match engine.call {
+            Some(call) => *self = Innermost::Call(call),
+            None => *self = Innermost::Frame(engine.readings.ask()),
+        }
+    }
+
+    /// Whether it wants a token, as the stomach does where no reading is open.
+    pub fn wants_token(&self) -> bool
+        ensures { result ≡ innermost_wants self.now }
+    {
+        match self {
+            Innermost::Call(call) => call.asks_more(),
+            Innermost::Frame(None) => true,
+            Innermost::Frame(Some(Ask::More(_))) => true,
+            Innermost::Frame(Some(_)) => false,
+        }
+    }
+
+    /// Whether the next rule opens a file: `\\input` has read its name.
+    pub fn opens_file(&self) -> bool
+        ensures { result ≡ innermost_opens self.now }
+    {
+        matches!(
+            self,
+            Innermost::Frame(Some(Ask::ActsOn(_, Effect::StartInput(_), _)))
+        )
+    }
+}
