@@ -1,7 +1,7 @@
 // The arguments of a call.
 ghost use Rattle.std.specs.Prelude.{◌≡◌, length};
 
-use crate::cells::{release_cell, spend_cells};
+use crate::cells::{drop_empty_cells, release_cell};
 use std::mem;
 use token_lists::{ListRef, Lists};
 
@@ -64,10 +64,11 @@ impl Args {
             stack.push_reserved(cell);
             place += 1;
         }
-        spend_cells(lists);
+        drop_empty_cells(lists);
     }
 
     /// Lets all arguments go.
+    #[inline(always)]
     pub fn release(self, lists: &mut Lists)
         requires { Covers lists.old (args_hold self) }
         ensures account { Moves lists.old lists.new (args_hold self) none }

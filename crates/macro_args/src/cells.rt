@@ -8,6 +8,7 @@ ghost use Rattle.macro_args.specs.Args.{AreNone};
 use token_lists::{ListRef, Lists};
 
 // Lets a holder go, if there is one.
+#[inline(always)]
 pub fn release_cell(lists: &mut Lists, cell: Option<ListRef>)
     requires { IfSome cell (λ r. IsHeld lists.old (id_of r)) }
     ensures account { Moves lists.old lists.new (cell_holds cell) none }
@@ -21,7 +22,7 @@ pub fn release_cell(lists: &mut Lists, cell: Option<ListRef>)
 }
 
 // A cell without a list goes.
-fn spend_cell(cell: Option<ListRef>)
+fn drop_empty_cell(cell: Option<ListRef>)
     requires { cell ≡ None }
 {
     match cell {
@@ -31,17 +32,17 @@ fn spend_cell(cell: Option<ListRef>)
 }
 
 // Cells without lists go.
-pub fn spend_cells(lists: [Option<ListRef>; 9])
+pub fn drop_empty_cells(lists: [Option<ListRef>; 9])
     requires { AreNone lists }
 {
     let [a, b, c, d, e, f, g, h, i] = lists;
-    spend_cell(a);
-    spend_cell(b);
-    spend_cell(c);
-    spend_cell(d);
-    spend_cell(e);
-    spend_cell(f);
-    spend_cell(g);
-    spend_cell(h);
-    spend_cell(i);
+    drop_empty_cell(a);
+    drop_empty_cell(b);
+    drop_empty_cell(c);
+    drop_empty_cell(d);
+    drop_empty_cell(e);
+    drop_empty_cell(f);
+    drop_empty_cell(g);
+    drop_empty_cell(h);
+    drop_empty_cell(i);
 }

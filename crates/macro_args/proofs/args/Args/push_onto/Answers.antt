@@ -27,8 +27,8 @@ loop-place-preserved c =
       left = left_at c.loop-place.lists c.args.self.lists n c.replace-cell.new.dest i.left;
     }
 
-pub spend_cells-requires : goal.spend_cells-requires
-spend_cells-requires c =
+pub drop_empty_cells-requires : goal.drop_empty_cells-requires
+drop_empty_cells-requires c =
     let i = c.loop-place.invariant in
     none_left c.loop-place.lists c.args.self.lists c.loop-place.place c.args.self.count (omega (arith, c.loop-place-test.false)) i.gone i.left c.requires.filled.free
 

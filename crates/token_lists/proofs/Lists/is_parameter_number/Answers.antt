@@ -1,10 +1,10 @@
 use Rattle.std.proofs.Common.{ℕ, sym, ap, ◌∙◌}
 use Rattle.std.proofs.lemmas.Option.{same_Some}
-use Rattle.token_lists.specs.Codes.{token_of, is_end_token}
+use Rattle.token_lists.specs.Codes.{token_of, is_number_token}
 use Rattle.mem_words.specs.Words.{info_at}
 use Rattle.token_lists.specs.Chains.{heads_of}
 use Rattle.token_lists.proofs.Views.{token_now, place_is, place_taken}
-use Rattle.token_lists.proofs.Lists.is_end.Goals as goal
+use Rattle.token_lists.proofs.Lists.is_parameter_number.Goals as goal
 
 pub info-requires : goal.info-requires
 info-requires c =
@@ -17,4 +17,4 @@ returns c = λ h i t at is.
     let known = place_is l.mem.cells (heads_of l.mem.cells l.marks.items) c.args.self.now c.self.invariant c.self.view_is h i c.args.place at in
     let stored = token_now l.mem.cells (heads_of l.mem.cells l.marks.items) c.args.self.now c.self.invariant c.self.view_is h known.head known.there i known.within in
     let info = ap (λ (p : ℕ). info_at l.mem.cells p) known.is ∙ sym c.info.ensures in
-    c.is_end.ensures ∙ ap is_end_token (ap token_of (sym info) ∙ same_Some _ _ (sym stored ∙ is))
+    c.is_parameter_number.ensures ∙ ap is_number_token (ap token_of (sym info) ∙ same_Some _ _ (sym stored ∙ is))
