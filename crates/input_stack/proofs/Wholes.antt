@@ -13,7 +13,7 @@ use Rattle.input_stack.specs.declared.stack.InputStack.{InputStack}
 use Rattle.input_stack.specs.WholeLevel.{WholeLevel}
 use Rattle.input_stack.specs.WholeLevel as whole_as
 use Rattle.input_stack.specs.Wholes.{level_count, count_in, whole, own, beneath, wholes}
-use Rattle.input_stack.specs.Reads.{IsRead, read_holds}
+use Rattle.input_stack.specs.Reads.{AreReadersAt, level_readers_hold}
 use Rattle.token_lists.specs.Accounts.{cells_hold}
 use Rattle.input_stack.specs.View.{innermost, level_holds, level_arguments, arguments_of}
 use Rattle.input_stack.specs.Standing.{IsLevel, Fits}
@@ -77,18 +77,18 @@ more_own cells args l ls is =
 
 -- WHAT A LEVEL READS
 
-pub read_of : (table : List (Option Entry)) (args : List (Option ListRef)) (l : Level) → IsLevel table (whole args l) → IsRead table l
+pub read_of : (table : List (Option Entry)) (args : List (Option ListRef)) (l : Level) → IsLevel table (whole args l) → AreReadersAt table l
 read_of table args (level.List r) a = a
 read_of table args (level.Call c) a = record { body = a.body; argument = a.argument }
 read_of table args (level.Source s) a = tt
 
 -- it holds its readers' lists, and its arguments
-pub read_held : (args : List (Option ListRef)) (l : Level) (h : ℕ) → read_holds l h ≤ level_holds (whole args l) h
+pub read_held : (args : List (Option ListRef)) (l : Level) (h : ℕ) → level_readers_hold l h ≤ level_holds (whole args l) h
 read_held args (level.List r) h = omega arith
 read_held args (level.Call c) h = omega arith
 read_held args (level.Source s) h = omega arith
 
-pub holds_all : (args : List (Option ListRef)) (l : Level) (h : ℕ) → length args ≡ level_count l → level_holds (whole args l) h ≡ read_holds l h + cells_hold args h
+pub holds_all : (args : List (Option ListRef)) (l : Level) (h : ℕ) → length args ≡ level_count l → level_holds (whole args l) h ≡ level_readers_hold l h + cells_hold args h
 holds_all [] (level.List r) h is = omega arith
 holds_all (x ∷ xs) (level.List r) h is = absurd (omega (arith, is))
 holds_all args (level.Call c) h is = omega arith
@@ -157,7 +157,7 @@ module _ (cells : List (Option ListRef)) (l : Level) (first : ℕ) (is : first �
   pub first_own : drop first cells ≡ own cells l
   first_own = ap (λ (n : ℕ). drop n cells) is
 
-  pub holds_split : (h : ℕ) → level_holds (whole (own cells l) l) h ≡ read_holds l h + cells_hold (drop first cells) h
+  pub holds_split : (h : ℕ) → level_holds (whole (own cells l) l) h ≡ level_readers_hold l h + cells_hold (drop first cells) h
   holds_split h = omega (arith, holds_all (own cells l) l h (own_length cells l within), ap (λ (xs : List (Option ListRef)). cells_hold xs h) first_own)
 
 -- A LEVEL COMES

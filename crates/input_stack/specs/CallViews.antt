@@ -21,6 +21,7 @@ abbrev pub argument_in : List (Option Entry) → Option ListRef → Option Argum
 argument_in table None = None
 argument_in table (Some r) = Some (record { list = id_of r; tokens = tokens_at table (id_of r) })
 
+-- the arguments that these cells hold
 abbrev pub cells_in : List (Option Entry) → List (Option ListRef) → List (Option Argument)
 cells_in table cells = map (argument_in table) cells
 

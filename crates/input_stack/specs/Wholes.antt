@@ -13,9 +13,11 @@ level_count (level.List r) = 0
 level_count (level.Call c) = c.count
 level_count (level.Source s) = 0
 
+-- and those of these levels
 abbrev pub count_in : List Level → ℕ
 count_in ls = sum_by level_count ls
 
+-- a level with the arguments of its call, where it has one
 abbrev pub whole : List (Option ListRef) → Level → WholeLevel
 whole args (level.List r) = whole_as.List r
 whole args (level.Call c) = whole_as.Call (with_arguments args c)

@@ -27,6 +27,7 @@ pub struct Call {
 }
 
 // The first token of a list, if it has one.
+#[inline(always)]
 fn first_of(lists: &Lists, list: &ListRef) -> Option<Token>
     requires { IsHeld lists.now (id_of list.now) }
     ensures { result ≡ slice_get (tokens_at lists.now (id_of list.now)) 0 }
@@ -38,6 +39,7 @@ fn first_of(lists: &Lists, list: &ListRef) -> Option<Token>
 }
 
 // What a token of a body stands for, which comes first of it.
+#[inline(always)]
 fn item_of(lists: &Lists, args: &[Option<ListRef>], token: Token) -> Met
     requires { AreHeld lists.now args.now }
     ensures { Some result ≡ met (first (token_items (cells_in lists.now args.now) token)) }
@@ -73,6 +75,7 @@ fn opened(lists: &mut Lists, list: &ListRef) -> Reader
 }
 
 // Lets the holder go that an argument's level has, if one is open.
+#[inline(always)]
 fn let_level_go(lists: &mut Lists, argument: Option<Reader>)
     requires { IfSome argument (λ r. IsHeld lists.old (number r)) }
     ensures account { Moves lists.old lists.new (open_holds argument) none }
@@ -86,6 +89,7 @@ fn let_level_go(lists: &mut Lists, argument: Option<Reader>)
 }
 
 // The first token of what a token of a body stands for, and the argument of which it is.
+#[inline(always)]
 fn hand_on(lists: &mut Lists, args: &[Option<ListRef>], token: Token) -> (Token, Option<Reader>)
     requires held { AreHeld lists.old args.now }
     requires some { is_gap (first (token_items (cells_in lists.old args.now) token)) ≡ false }
@@ -106,6 +110,7 @@ fn hand_on(lists: &mut Lists, args: &[Option<ListRef>], token: Token) -> (Token,
 }
 
 // Whether a token comes that is no parameter number.
+#[inline(always)]
 fn is_text(next: Option<Token>) -> bool
     ensures { IsTrue result → MatchOption next ⊥ IsText }
 {
@@ -128,6 +133,7 @@ impl Call {
     }
 
     /// How many of its levels are an argument's: 1 or none.
+    #[inline(always)]
     pub fn argument_levels(&self) -> u32
         ensures { result ≡ call_open self.now.argument }
     {
@@ -145,6 +151,7 @@ impl Call {
     }
 
     // The next token of the argument whose level is open, if one is left.
+    #[inline(always)]
     fn later(&self, lists: &Lists) -> Option<Token>
         requires { IfSome self.now.argument (λ r. IsAt lists.now r) }
         ensures { result ≡ slice_get (open_tokens lists.now self.now.argument) 0 }
@@ -156,6 +163,7 @@ impl Call {
     }
 
     // The spot in the macro's list behind the gaps in front of the body.
+    #[inline(always)]
     fn behind_gaps(&self, lists: &Lists, args: &[Option<ListRef>]) -> Spot
         requires { IsCall lists.now (with_arguments args.now self.now) }
         ensures reading { IsReading lists.now (number self.now.body) result.at result.read }
@@ -172,6 +180,7 @@ impl Call {
     }
 
     /// The next item that is no gap, if one is left.
+    #[inline(always)]
     pub fn next(&self, lists: &Lists, args: &[Option<ListRef>]) -> Option<Met>
         requires { IsCall lists.now (with_arguments args.now self.now) }
         ensures { result ≡ met (first (without_gaps (items_of lists.now (with_arguments args.now self.now)))) }
@@ -186,9 +195,10 @@ impl Call {
         }
     }
 
-    /// Whether the next item is at hand: a further token of the open argument, or a token of the body that is no parameter
-    /// number.
-    pub fn is_at_hand(&self, lists: &Lists) -> bool
+    // Whether the next item is at hand: a further token of the open argument, or a token of the body that is no parameter
+    // number.
+    #[inline(always)]
+    fn is_at_hand(&self, lists: &Lists) -> bool
         requires { AreAt lists.now self.now.body self.now.argument }
         ensures { (args : List (Option ListRef)) → IsTrue result → IsSome (first (without_gaps (items_of lists.now (with_arguments args self.now)))) }
     {
@@ -199,6 +209,7 @@ impl Call {
     }
 
     /// Whether an item is left that is no gap.
+    #[inline(always)]
     pub fn is_left(&self, lists: &Lists, args: &[Option<ListRef>]) -> bool
         requires { IsCall lists.now (with_arguments args.now self.now) }
         ensures { result ≡ is_some (first (without_gaps (items_of lists.now (with_arguments args.now self.now)))) }
@@ -207,6 +218,7 @@ impl Call {
     }
 
     /// Whether nothing is left of it.
+    #[inline(always)]
     pub fn is_finished(&self, lists: &Lists) -> bool
         requires { AreAt lists.now self.now.body self.now.argument }
         ensures { (args : List (Option ListRef)) → result ≡ is_empty (items_of lists.now (with_arguments args self.now)) }
@@ -215,6 +227,7 @@ impl Call {
     }
 
     /// An argument's level of which no token is left goes, with its holder. Whether one went.
+    #[inline(always)]
     pub fn close_argument(&mut self, lists: &mut Lists) -> bool
         requires call { AreAt lists.old self.old.body self.old.argument }
         requires held { Covers lists.old (open_holds self.old.argument) }
@@ -233,6 +246,7 @@ impl Call {
 
     /// The next item, where it is at hand: a further token of the open argument, or a token of the body that is no
     /// parameter number.
+    #[inline(always)]
     pub fn quick(&mut self, lists: &Lists) -> Option<Token>
         requires { AreAt lists.now self.old.body self.old.argument }
         ensures pulls { (args : List (Option ListRef)) → AreHeld lists.now args → IfSome result (λ t. CallPulls lists.now lists.now (with_arguments args self.old) (with_arguments args self.new) (without_gaps (items_of lists.now (with_arguments args self.old))) (Some t)) }

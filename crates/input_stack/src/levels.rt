@@ -1,13 +1,13 @@
 // What a level is and what is left of it.
-ghost use Rattle.std.specs.Prelude.{◌≡◌, ◌-◌, ◌≤◌, List, Option, length, take, vec_capacity};
+ghost use Rattle.std.specs.Prelude.{◌≡◌, ◌-◌, ◌≤◌, List, MatchOption, Option, false, length, option_map, take, true, vec_capacity};
 ghost use Rattle.token_lists.specs.declared.ListRef.{ListRef};
 ghost use Rattle.token_lists.specs.Accounts.{Moves, Keeps, Covers, none};
 ghost use Rattle.input_stack.specs.Lasting.{Lasts};
-ghost use Rattle.input_stack.specs.CallViews.{met};
+ghost use Rattle.input_stack.specs.CallViews.{is_opening, met, opens};
 ghost use Rattle.input_stack.specs.Levels.{level_item, is_level_finished, is_level_passed, LevelCloses};
 ghost use Rattle.input_stack.specs.Standing.{IsLevel};
 ghost use Rattle.input_stack.specs.View.{level_holds, level_open};
-ghost use Rattle.input_stack.specs.Reads.{IsRead, read_holds};
+ghost use Rattle.input_stack.specs.Reads.{AreReadersAt, level_readers_hold};
 ghost use Rattle.input_stack.specs.Wholes.{whole, own, beneath, level_count};
 
 use crate::level::Level;
@@ -16,6 +16,7 @@ use crate::release::{let_cells_go, let_go};
 use token_lists::{ListRef, Lists};
 
 /// How many levels of arguments stand on it.
+#[inline(always)]
 pub fn argument_levels(level: &Level) -> u32
     ensures { (args : List (Option ListRef)) → result ≡ level_open (whole args level.now) }
 {
@@ -26,6 +27,7 @@ pub fn argument_levels(level: &Level) -> u32
 }
 
 // How many arguments its call has.
+#[inline(always)]
 fn arguments(level: &Level) -> u32
     ensures { result ≡ level_count level.now }
 {
@@ -36,6 +38,7 @@ fn arguments(level: &Level) -> u32
 }
 
 /// Where its own arguments begin among so many, which are those of all levels up to it.
+#[inline(always)]
 pub fn first_own(level: &Level, count: usize) -> usize
     requires { level_count level.now ≤ count }
     ensures { result ≡ count - level_count level.now }
@@ -44,8 +47,9 @@ pub fn first_own(level: &Level, count: usize) -> usize
 }
 
 /// Whether it is a list or a call of which nothing is left.
+#[inline(always)]
 pub fn is_finished(level: &Level, lists: &Lists) -> bool
-    requires { IsRead lists.now level.now }
+    requires { AreReadersAt lists.now level.now }
     ensures { (args : List (Option ListRef)) → result ≡ is_level_finished lists.now (whole args level.now) }
 {
     match level {
@@ -55,8 +59,9 @@ pub fn is_finished(level: &Level, lists: &Lists) -> bool
     }
 }
 
-/// The next item of a list or a call that is no gap, if one is left.
-pub fn next_item(level: &Level, args: &[Option<ListRef>], lists: &Lists) -> Option<Met>
+// The next item of a list or a call that is no gap, if one is left.
+#[inline(always)]
+fn next_item(level: &Level, args: &[Option<ListRef>], lists: &Lists) -> Option<Met>
     requires { IsLevel lists.now (whole args.now level.now) }
     ensures { result ≡ met (level_item lists.now (whole args.now level.now)) }
 {
@@ -70,7 +75,31 @@ pub fn next_item(level: &Level, args: &[Option<ListRef>], lists: &Lists) -> Opti
     }
 }
 
+// Whether an item is an argument's first token, if there is an item.
+fn opens(next: Option<Met>) -> Option<bool>
+    ensures { result ≡ option_map opens next }
+{
+    match next {
+        None => None,
+        Some(Met::First(_)) => Some(true),
+        Some(_) => Some(false),
+    }
+}
+
+/// Whether its next item is an argument's first token; `None` where it is a list or a call of which nothing is left but gaps.
+#[inline(always)]
+pub fn next_opens(level: &Level, args: &[Option<ListRef>], lists: &Lists) -> Option<bool>
+    requires { IsLevel lists.now (whole args.now level.now) }
+    ensures { MatchOption result (is_level_passed lists.now (whole args.now level.now) ≡ true) (λ o. (is_level_passed lists.now (whole args.now level.now) ≡ false) × (o ≡ is_opening (met (level_item lists.now (whole args.now level.now))))) }
+{
+    match level {
+        Level::Source(_) => Some(false),
+        Level::List(_) | Level::Call(_) => opens(next_item(level, args, lists)),
+    }
+}
+
 /// Whether it is a list or a call of which nothing is left but gaps.
+#[inline(always)]
 pub fn is_passed(level: &Level, args: &[Option<ListRef>], lists: &Lists) -> bool
     requires { IsLevel lists.now (whole args.now level.now) }
     ensures { result ≡ is_level_passed lists.now (whole args.now level.now) }
@@ -82,9 +111,10 @@ pub fn is_passed(level: &Level, args: &[Option<ListRef>], lists: &Lists) -> bool
 }
 
 /// The level of an argument of which no token is left goes. Whether one went.
+#[inline(always)]
 pub fn close_argument(level: &mut Level, lists: &mut Lists) -> bool
-    requires level { IsRead lists.old level.old }
-    requires held { Covers lists.old (read_holds level.old) }
+    requires level { AreReadersAt lists.old level.old }
+    requires held { Covers lists.old (level_readers_hold level.old) }
     ensures closes { (args : List (Option ListRef)) → LevelCloses lists.old lists.new (whole args level.old) (whole args level.new) result }
     ensures count { level_count level.new ≡ level_count level.old }
     ensures lasting { Lasts lists.old lists.new }
@@ -96,10 +126,11 @@ pub fn close_argument(level: &mut Level, lists: &mut Lists) -> bool
 }
 
 // Lets all that it holds go but the arguments of its call.
+#[inline(always)]
 fn let_readers_go(level: Level, lists: &mut Lists)
-    requires { Covers lists.old (read_holds level) }
-    ensures account { Moves lists.old lists.new (read_holds level) none }
-    ensures kept { Keeps lists.old lists.new (read_holds level) }
+    requires { Covers lists.old (level_readers_hold level) }
+    ensures account { Moves lists.old lists.new (level_readers_hold level) none }
+    ensures kept { Keeps lists.old lists.new (level_readers_hold level) }
     ensures lasting { Lasts lists.old lists.new }
 {
     match level {
@@ -110,6 +141,7 @@ fn let_readers_go(level: Level, lists: &mut Lists)
 }
 
 /// Lets all that it holds go, with its own arguments, which are on top of those of all levels.
+#[inline(always)]
 pub fn release(level: Level, arguments: &mut Vec<Option<ListRef>>, lists: &mut Lists)
     requires count { level_count level ≤ length arguments.old.items }
     requires held { Covers lists.old (level_holds (whole (own arguments.old.items level) level)) }

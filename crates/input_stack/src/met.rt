@@ -1,7 +1,4 @@
 // What a reader of a call meets.
-ghost use Rattle.std.specs.Prelude.{◌≡◌};
-ghost use Rattle.input_stack.specs.CallViews.{is_opening};
-
 use tex_defs::Token;
 
 /// What comes next of a call.
@@ -15,11 +12,4 @@ pub enum Met {
     Later(Token),
     /// An argument without tokens.
     Gap,
-}
-
-/// Whether it is the first token of an argument.
-pub fn is_opening(met: Option<Met>) -> bool
-    ensures { result ≡ is_opening met }
-{
-    matches!(met, Some(Met::First(_)))
 }

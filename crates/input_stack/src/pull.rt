@@ -5,7 +5,7 @@ ghost use Rattle.line_lexer.specs.declared.Ahead.TheVariants as ahead;
 ghost use Rattle.input_stack.specs.Pulls.{answer_of};
 ghost use Rattle.input_stack.specs.Standing.{IsLevel, IsUnfinished};
 ghost use Rattle.input_stack.specs.CallViews.{IsCountable};
-ghost use Rattle.input_stack.specs.Reads.{IsRead};
+ghost use Rattle.input_stack.specs.Reads.{AreReadersAt};
 ghost use Rattle.input_stack.specs.Wholes.{whole, level_count};
 ghost use Rattle.input_stack.specs.Levels.{LevelPulls, HandsAtOnce, IsLevelInBuffer, level_item, is_level_passed, level_looks, is_ahead};
 
@@ -28,8 +28,9 @@ fn line_answer(id: Option<InId>, lexed: Lexed) -> Pulled
 }
 
 /// The next item of a list or a call, where it is a token at hand that opens no level.
+#[inline(always)]
 pub fn quick_level(level: &mut Level, lists: &Lists) -> Option<Token>
-    requires { IsRead lists.now level.old }
+    requires { AreReadersAt lists.now level.old }
     ensures gives { (args : List (Option ListRef)) → IsLevel lists.now (whole args level.old) → IfSome result (λ t. HandsAtOnce lists.now (whole args level.old) (whole args level.new) t) }
     ensures count { level_count level.new ≡ level_count level.old }
     ensures stays { result ≡ None → level.new ≡ level.old }
@@ -41,14 +42,15 @@ pub fn quick_level(level: &mut Level, lists: &Lists) -> Option<Token>
     }
 }
 
-/// Whether the next item of a list or a call is a token at hand.
-pub fn is_at_hand(level: &Level, lists: &Lists) -> bool
-    requires { IsRead lists.now level.now }
-    ensures { (args : List (Option ListRef)) → IsTrue result → IsSome (level_item lists.now (whole args level.now)) }
+/// Whether a list or a call has an item left that is no gap.
+#[inline(always)]
+pub fn has_item(level: &Level, args: &[Option<ListRef>], lists: &Lists) -> bool
+    requires { IsLevel lists.now (whole args.now level.now) }
+    ensures { IsTrue result → IsSome (level_item lists.now (whole args.now level.now)) }
 {
     match level {
         Level::List(reader) => reader.is_left(lists),
-        Level::Call(call) => call.is_at_hand(lists),
+        Level::Call(call) => call.is_left(lists, args),
         Level::Source(_) => false,
     }
 }
@@ -87,6 +89,7 @@ pub fn pull_level(
 }
 
 // A token comes, or nothing of this level.
+#[inline(always)]
 fn token_if(left: bool) -> Option<Ahead>
     ensures { result ≡ cond left (Some ahead.Token) None }
 {
@@ -94,6 +97,7 @@ fn token_if(left: bool) -> Option<Ahead>
 }
 
 /// What an unfinished level gives next, where it gives something.
+#[inline(always)]
 pub fn level_looks(
     level: &Level,
     args: &[Option<ListRef>],

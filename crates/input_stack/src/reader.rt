@@ -26,6 +26,7 @@ pub struct Reader {
 
 impl Reader {
     /// A reader at the front of a list.
+    #[inline(always)]
     pub fn new(lists: &Lists, list: ListRef) -> Reader
         requires { IsHeld lists.now (id_of list) }
         ensures same { number result ≡ id_of list }
@@ -38,6 +39,7 @@ impl Reader {
     }
 
     /// The next token, if one is left.
+    #[inline(always)]
     pub fn peek(&self, lists: &Lists) -> Option<Token>
         requires { IsAt lists.now self.now }
         ensures { result ≡ slice_get (rest lists.now self.now) 0 }
@@ -49,6 +51,7 @@ impl Reader {
     }
 
     /// Whether a token is left.
+    #[inline(always)]
     pub fn is_left(&self, lists: &Lists) -> bool
         requires { IsAt lists.now self.now }
         ensures { result ≡ is_some (slice_get (rest lists.now self.now) 0) }
@@ -58,6 +61,7 @@ impl Reader {
     }
 
     /// Reads the next token, if one is left.
+    #[inline(always)]
     pub fn pull(&mut self, lists: &Lists) -> Option<Token>
         requires { IsAt lists.now self.old }
         ensures same { number self.new ≡ number self.old }
@@ -76,6 +80,7 @@ impl Reader {
     }
 
     /// Reads the next token, if one is left that is no parameter number.
+    #[inline(always)]
     pub fn pull_text(&mut self, lists: &Lists) -> Option<Token>
         requires { IsAt lists.now self.old }
         ensures same { number self.new ≡ number self.old }
@@ -98,6 +103,7 @@ impl Reader {
     }
 
     /// Goes behind the first end mark of what is left: to a macro's body. Without one nothing is left.
+    #[inline(always)]
     pub fn skip_places(&mut self, lists: &Lists)
         requires { IsAt lists.now self.old }
         ensures same { number self.new ≡ number self.old }
@@ -113,6 +119,7 @@ impl Reader {
     }
 
     /// Where the next token stands.
+    #[inline(always)]
     pub fn spot(&self) -> Spot
         ensures at { result.at ≡ self.now.at }
         ensures read { result.read ≡ self.now.read }
@@ -124,6 +131,7 @@ impl Reader {
     }
 
     /// The token at a spot of the list, if one stands there.
+    #[inline(always)]
     pub fn at(&self, lists: &Lists, spot: Spot) -> Option<Token>
         requires { IsReading lists.now (number self.now) spot.at spot.read }
         ensures { result ≡ slice_get (drop spot.read (tokens_at lists.now (number self.now))) 0 }

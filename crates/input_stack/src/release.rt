@@ -30,6 +30,7 @@ fn let_cell_go(lists: &mut Lists, cell: Option<ListRef>)
 }
 
 /// The cells behind so many go, each with its holder of a list if it has one.
+#[inline(always)]
 pub fn let_cells_go(cells: &mut Vec<Option<ListRef>>, left: usize, lists: &mut Lists)
     requires within { left ≤ length cells.old.items }
     requires held { Covers lists.old (cells_hold (drop left cells.old.items)) }

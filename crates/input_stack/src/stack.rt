@@ -24,10 +24,9 @@ ghost use Rattle.input_stack.specs.AtOnce.{PullsAtOnce};
 use crate::call::Call;
 use crate::level::{Begun, Level, Pulled, Source};
 use crate::levels::{
-    argument_levels, close_argument, first_own, is_finished, is_passed, next_item, release,
+    argument_levels, close_argument, first_own, is_finished, is_passed, next_opens, release,
 };
-use crate::met::is_opening;
-use crate::pull::{is_at_hand, is_token, level_looks, pull_level, quick_level};
+use crate::pull::{has_item, is_token, level_looks, pull_level, quick_level};
 use crate::reader::Reader;
 use crate::release::let_go;
 use line_lexer::{Ahead, Line};
@@ -86,6 +85,7 @@ fn list_level(lists: &Lists, list: ListRef, shared: bool) -> Level
 }
 
 // Lets the macro's list and the arguments of a call go that has no body.
+#[inline(always)]
 fn let_unread_go(lists: &mut Lists, body: ListRef, args: Args)
     requires { Covers lists.old (pushed_holds body args) }
     ensures account { Moves lists.old lists.new (pushed_holds body args) none }
@@ -97,6 +97,7 @@ fn let_unread_go(lists: &mut Lists, body: ListRef, args: Args)
 }
 
 // How many levels go or come.
+#[inline(always)]
 fn one_if(test: bool) -> u32
     ensures { result ≡ cond test 1 0 }
 {
@@ -182,6 +183,7 @@ impl InputStack {
     }
 
     // Whether nothing is left of the list on top.
+    #[inline(always)]
     fn is_finished(&self, lists: &Lists) -> bool
         requires { Stands lists.now self.now }
         ensures { result ≡ is_finished (pending lists.now self.now).puts }
@@ -205,6 +207,7 @@ impl InputStack {
     }
 
     // The list or the call on top goes, with what is left of it.
+    #[inline(always)]
     fn drop_top(&mut self, lists: &mut Lists)
         requires stands { Stands lists.old self.old }
         requires in_front { 0 < length (pending lists.old self.old).puts }
@@ -225,6 +228,7 @@ impl InputStack {
     }
 
     // The argument's level on top goes, if no token is left of it.
+    #[inline(always)]
     fn close_argument(&mut self, lists: &mut Lists)
         requires stands { Stands lists.old self.old }
         requires unfinished { is_finished (pending lists.old self.old).puts ≡ false }
@@ -245,6 +249,7 @@ impl InputStack {
     }
 
     /// The finished lists on top go, from the top down.
+    #[inline(always)]
     pub fn drop_finished(&mut self, lists: &mut Lists)
         requires { Stands lists.old self.old }
         ensures stands { Stands lists.new self.new }
@@ -263,6 +268,7 @@ impl InputStack {
     }
 
     // The lists and calls on top go of which nothing is left but gaps.
+    #[inline(always)]
     fn pass_gaps(&mut self, lists: &mut Lists)
         requires stands { Stands lists.old self.old }
         requires unfinished { AreUnfinished lists.old (innermost self.old) }
@@ -283,6 +289,7 @@ impl InputStack {
     }
 
     // Whether the next item is an argument's first token.
+    #[inline(always)]
     fn is_opening(&self, lists: &Lists) -> bool
         requires { Stands lists.now self.now }
         ensures { result ≡ is_opening (met (next_item (pending lists.now self.now).puts)) }
@@ -294,8 +301,8 @@ impl InputStack {
             let level = &self.levels[at];
             let first = first_own(level, count);
             let args = &self.arguments[first..count];
-            if !is_passed(level, args, lists) {
-                return is_opening(next_item(level, args, lists));
+            if let Some(opens) = next_opens(level, args, lists) {
+                return opens;
             }
             count = first;
         }
@@ -316,6 +323,7 @@ impl InputStack {
     }
 
     // Puts a call on top, of which no argument's level is open.
+    #[inline(always)]
     fn put_call(&mut self, body: Reader, args: Args)
         requires fits { Fits self.old }
         requires filled { IsFilled args }
@@ -332,6 +340,7 @@ impl InputStack {
     }
 
     // Why there is no room for one more level.
+    #[inline(always)]
     fn full(&self) -> Option<Full>
         requires { Fits self.now }
         ensures { result ≡ room self.now.size (length self.now.levels.items + self.now.argument_levels) }
@@ -348,6 +357,7 @@ impl InputStack {
     }
 
     // Why there is no room for an argument's level, if one opens.
+    #[inline(always)]
     fn opening_full(&self, opening: bool) -> Option<Full>
         requires { Fits self.now }
         ensures { result ≡ cond opening (room self.now.size (length self.now.levels.items + self.now.argument_levels)) None }
@@ -470,6 +480,7 @@ impl InputStack {
     /// # Errors
     /// Once the finished lists on top have gone: the arguments of all calls and these pass the parameter stack size, or
     /// the levels are at the size of the input stack. The macro's list and the arguments are handed back.
+    #[inline(always)]
     pub fn push_macro(
         &mut self,
         lists: &mut Lists,
@@ -593,6 +604,7 @@ impl InputStack {
     }
 
     /// The next item, where it is a token at hand: of a list, of an open argument, or of a body, no parameter number.
+    #[inline(always)]
     pub fn quick(&mut self, lists: &Lists) -> Option<Token>
         requires { Stands lists.now self.old }
         ensures gives { IfSome result (λ t. PullsAtOnce (pending lists.now self.old) (pending lists.now self.new) t) }
@@ -668,17 +680,24 @@ impl InputStack {
         Ok(self.pull_top(lists, bytes, categories, opening))
     }
 
-    /// Whether the next item is a token at hand. Nothing changes.
-    pub fn is_at_hand(&self, lists: &Lists) -> bool
+    /// Whether the list or the call on top has an item left that is no gap; it may be one that opens a level. Nothing changes.
+    #[inline(always)]
+    pub fn has_item(&self, lists: &Lists) -> bool
         requires { Stands lists.now self.now }
         ensures { IsTrue result → IsSome (next_item (pending lists.now self.now).puts) }
     {
         let count = self.levels.len();
-        count > 0 && is_at_hand(&self.levels[count - 1], lists)
+        if count == 0 {
+            return false;
+        }
+        let level = &self.levels[count - 1];
+        let first = first_own(level, self.arguments.len());
+        has_item(level, &self.arguments[first..], lists)
     }
 
     /// What the next pull gives: a token of a list or of the line, an invalid character, or nothing more of the line.
     /// Nothing changes.
+    #[inline(always)]
     pub fn looks(&self, lists: &Lists, bytes: &[u8], categories: &[u8; 256]) -> Ahead
         requires stands { Stands lists.now self.now }
         requires in_buffer { IsInBuffer (pending lists.now self.now).sources (length bytes.now) }

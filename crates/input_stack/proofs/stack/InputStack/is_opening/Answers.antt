@@ -10,13 +10,14 @@ use Rattle.std.specs.Prelude.{All}
 use Rattle.std.proofs.Common.{subst}
 use Rattle.input_stack.proofs.Ready.{within_left, next_left, top_left, every_left, left_every, none_opens, ready_level, ready_under}
 use Rattle.input_stack.proofs.Gaps.{top_gaps, top_next}
+use Rattle.input_stack.proofs.LevelItems.{opening_some, opening_none}
 use Rattle.input_stack.proofs.stack.InputStack.is_opening.Goals as goal
 
 pub first_own-first-requires : goal.first_own-first-requires
 first_own-first-requires c = within_left c.args.self.now c.loop-at.at c.loop-at.count c.index-level.result.now c.loop-at.invariant.standing (omega (arith, c.loop-at-test.true)) c.index-level.ensures
 
-pub is_passed-requires : goal.is_passed-requires
-is_passed-requires c =
+pub next_opens-requires : goal.next_opens-requires
+next_opens-requires c =
     let s = c.args.self.now in
     let t = c.args.lists.now in
     let x = c.index-level.result.now in
@@ -29,8 +30,8 @@ is_passed-requires c =
     let is = top_left s n k x c.loop-at.invariant.standing some c.index-level.ensures first c.first_own-first.ensures args (ap (λ (xs : List (Option ListRef)). take (k - first) (drop first xs)) c.deref.ensures.value) in
     ready_level t l _ _ is c.loop-at.invariant.levels
 
-pub next_item-requires : goal.next_item-requires
-next_item-requires c =
+pub returns-in-Some : goal.returns-in-Some
+returns-in-Some c =
     let s = c.args.self.now in
     let t = c.args.lists.now in
     let x = c.index-level.result.now in
@@ -41,21 +42,8 @@ next_item-requires c =
     let args = take (k - first) (drop first c.deref.result.now) in
     let l = whole args x in
     let is = top_left s n k x c.loop-at.invariant.standing some c.index-level.ensures first c.first_own-first.ensures args (ap (λ (xs : List (Option ListRef)). take (k - first) (drop first xs)) c.deref.ensures.value) in
-    ready_level t l _ _ is c.loop-at.invariant.levels
-
-pub returns-then-not-is_passed : goal.returns-then-not-is_passed
-returns-then-not-is_passed c =
-    let s = c.args.self.now in
-    let t = c.args.lists.now in
-    let x = c.index-level.result.now in
-    let n = c.loop-at.at in
-    let k = c.loop-at.count in
-    let some : 0 < c.loop-at.at = omega (arith, c.loop-at-test.true) in
-    let first = c.first_own-first.result in
-    let args = take (k - first) (drop first c.deref.result.now) in
-    let l = whole args x in
-    let is = top_left s n k x c.loop-at.invariant.standing some c.index-level.ensures first c.first_own-first.ensures args (ap (λ (xs : List (Option ListRef)). take (k - first) (drop first xs)) c.deref.ensures.value) in
-    c.is_opening.ensures ∙ ap is_opening c.next_item.ensures ∙ ap (λ (o : Option Item). is_opening (met o)) (sym (top_next t _ _ l is (sym c.is_passed.ensures ∙ c.if-not-is_passed.true)) ∙ c.loop-at.invariant.next)
+    let h = opening_some t l c.next_opens.result c.in-Some.opens c.in-Some.is c.next_opens.ensures in
+    h.1 ∙ ap (λ (o : Option Item). is_opening (met o)) (sym (top_next t _ _ l is h.0) ∙ c.loop-at.invariant.next)
 
 pub loop-at-init : goal.loop-at-init
 loop-at-init c =
@@ -85,7 +73,7 @@ loop-at-preserved c =
     let is = top_left s n k x c.loop-at.invariant.standing some c.index-level.ensures first c.first_own-first.ensures args (ap (λ (xs : List (Option ListRef)). take (k - first) (drop first xs)) c.deref.ensures.value) in
     record {
       standing = next_left s n k x c.loop-at.invariant.standing some c.index-level.ensures first c.first_own-first.ensures;
-      next = (top_gaps t _ _ l is (sym c.is_passed.ensures ∙ c.if-not-is_passed.false)).0.next ∙ c.loop-at.invariant.next;
+      next = (top_gaps t _ _ l is (opening_none t l c.next_opens.result c.in_default.is c.next_opens.ensures)).0.next ∙ c.loop-at.invariant.next;
       levels = ready_under t l _ _ is c.loop-at.invariant.levels;
     }
 
