@@ -1,9 +1,10 @@
 // Where a scanner stands, apart from its list.
-ghost use Rattle.std.specs.Prelude.{◌≡◌, ◌≤◌, ◌<◌, ◌+◌, ◌^◌, List, [], ◌∷◌, ℕ, Option, None, Some, IfSome, true, false};
+ghost use Rattle.std.specs.Prelude.{◌≡◌, ◌≤◌, ◌<◌, ◌+◌, ◌^◌, List, [], ◌∷◌, ◌++◌, ◌&&◌, ℕ, Option, None, Some, IfSome, IsTrue, not, true, false};
 ghost use Rattle.tex_syntax.specs.declared.words.Manner.{Manner};
 ghost use Rattle.list_builder.specs.declared.stage.Next.TheVariants.{On};
 ghost use Rattle.tex_defs.specs.declared.Token.{Token};
 ghost use Rattle.token_lists.specs.Table.{Entry};
+ghost use Rattle.plain_tokens.specs.Categories.{begin_group, end_group};
 ghost use Rattle.plain_tokens.specs.Tokens.{has_category, is_other, means_category};
 ghost use Rattle.plain_state.specs.Definitions.{Fed, Tok, Told, is_parameter, character_of, is_number, place_digit, is_reference, first, parameters, place, body, reference};
 ghost use Rattle.list_builder.specs.Plain.{body_of};
@@ -137,6 +138,13 @@ impl Body {
         ensures { result ≡ is_reference (body_of self) x }
     {
         self.places.is_some() && is_parameter(x)
+    }
+
+    // Whether a token of it stands for itself, and is no brace.
+    fn keeps(self, x: Seen) -> bool
+        ensures { result ≡ (not (has_category begin_group x.token) && not (has_category end_group x.token)) && not (is_reference (body_of self) x) }
+    {
+        !has_category(x.token, 1) && !has_category(x.token, 2) && !self.is_reference(x)
     }
 }
 
@@ -308,6 +316,17 @@ impl Stage {
         match place_digit(y.token, count) {
             Some(number) => Step::with(Token::Number(number), Stage::InBody(inside, depth)),
             None => Step::to(Stage::Illegal(inside, depth, character)),
+        }
+    }
+
+    /// Whether a token goes into the list and nothing else changes, as most tokens of a body: it is neither a brace nor a
+    /// parameter character that stands for a parameter.
+    pub fn keeps(&self, x: Seen) -> bool
+        ensures { IsTrue result → (m : Manner) (list : List Token) (fed : List Fed) → resume m self.now list (Tok x ∷ fed) ≡ resume m self.now (list ++ x.token ∷ []) fed }
+    {
+        match self {
+            Stage::InBody(inside, _) => inside.keeps(x),
+            _ => false,
         }
     }
 

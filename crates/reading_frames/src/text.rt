@@ -79,7 +79,7 @@ impl BuildScan {
         ensures owns { Owns result 1 }
         ensures found { IsFetchedAt result }
     {
-        match self.place {
+        match &self.place {
             BuildPlace::At(stage) => match stage.due(self.manner) {
                 Due::More(want) => Ask::More(want),
                 Due::Tells(report, back) => Ask::Tells(report, back),
@@ -125,7 +125,16 @@ impl BuildScan {
         ensures shallow { groups_in self.new ≤ groups_in self.old + token_count result }
     {
         match self.place {
-            BuildPlace::At(stage) => self.go(stage.took(x)),
+            BuildPlace::At(stage) => {
+                // Most tokens of a body: the place stays.
+                if stage.keeps(x) {
+                    return Grown {
+                        first: Some(x.token),
+                        second: None,
+                    };
+                }
+                self.go(stage.took(x))
+            }
             BuildPlace::Whole => Grown::none(),
         }
     }
