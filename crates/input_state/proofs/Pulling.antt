@@ -87,7 +87,7 @@ none_left size c b d p q r end h = item_left size c b d p q (next_item p.puts) r
 -- A LINE GIVES SOMETHING
 
 -- what an answer makes of what is pending
-pub record IsRead (c d : List ℕ) (sizes : Sizes) (p q : plain.Pending) (r : Result Given Full) : Type 0 where
+pub record AreReadersAt (c d : List ℕ) (sizes : Sizes) (p q : plain.Pending) (r : Result Given Full) : Type 0 where
   pub more : GivesMore r
   pub reads : Gives (plain.pulled c p) (answers.answer_of r) p q d
 
@@ -118,7 +118,7 @@ not_end c b d l l' x gives ne is = ne (ap looks_of (sym gives ∙ ap (given d (s
 
 -- the source on top gives this, over what is pending otherwise
 module _ (c b d : List ℕ) (sizes : Sizes) (p : plain.Pending) (front_none : lists.passed p.puts ≡ []) where
-  source_reads : (s s' : Source) (r : Given) → LineGives c b d s s' r → p.line ≡ rest_of b s.line → p.lex ≡ state_of s.line.state → ahead_of c p ≢ ahead.End → s.line.end ≤ length d → IsRead c d sizes p (plain.on_line (rest_of d s'.line) (state_of s'.line.state) p) (Ok r)
+  source_reads : (s s' : Source) (r : Given) → LineGives c b d s s' r → p.line ≡ rest_of b s.line → p.lex ≡ state_of s.line.state → ahead_of c p ≢ ahead.End → s.line.end ≤ length d → AreReadersAt c d sizes p (plain.on_line (rest_of d s'.line) (state_of s'.line.state) p) (Ok r)
   source_reads s s' r g line state more within =
       let x = g.lexed in
       let now : lexed c p.lex p.line ≡ lexed c (state_of s.line.state) (rest_of b s.line) = ap₂ (λ (k : lex.LineState) (l : List ℕ). lexed c k l) state line in
@@ -177,7 +177,7 @@ pull_outer t size c b d p q r n fs h inside = item_outer t size c b d p q (next_
 
 module _ (t s : List (Option Entry)) (c b d : List ℕ) (ls : List WholeLevel) (q : Pending) (sizes : Sizes) (files : List FileLeft) (opened : Option (List ℕ)) (more : ahead_of c (seen t (pending_in s ls) b files opened) ≢ ahead.End) (same : length d ≡ length b) where
   -- an item is handed on that has room
-  pub item_seen : (x : Item) (r : Result Given Full) → next_item (pending_in s ls).puts ≡ Some x → r ≡ Ok (given_as.Token (token_in x)) → q ≡ with_puts (pulled (pending_in s ls).puts) (pending_in s ls) → d ≡ b → IsRead c d sizes (seen t (pending_in s ls) b files opened) (seen t q d files opened) r
+  pub item_seen : (x : Item) (r : Result Given Full) → next_item (pending_in s ls).puts ≡ Some x → r ≡ Ok (given_as.Token (token_in x)) → q ≡ with_puts (pulled (pending_in s ls).puts) (pending_in s ls) → d ≡ b → AreReadersAt c d sizes (seen t (pending_in s ls) b files opened) (seen t q d files opened) r
   item_seen x r next answer_is after bytes =
       let pp = seen t (pending_in s ls) b files opened in
       let k = next_some t (pending_in s ls).puts x next in
@@ -195,7 +195,7 @@ module _ (t s : List (Option Entry)) (c b d : List ℕ) (ls : List WholeLevel) (
         reads = subst (λ (y : Result Given Full). Gives (plain.pulled c pp) (answers.answer_of y) pp (seen t q d files opened) d) (sym answer_is) reads;
       }
 
-  source_seen : (bs : List Below) → (pending_in s ls).sources ≡ bs → (r : Given) → PullsFrom c b d bs q.sources r → q.puts ≡ [] → lists.passed (fronts t (pending_in s ls).puts) ≡ [] → AreInBuffer (covers t bs) (length b) → IsRead c d sizes (seen t (pending_in s ls) b files opened) (seen t q d files opened) (Ok r)
+  source_seen : (bs : List Below) → (pending_in s ls).sources ≡ bs → (r : Given) → PullsFrom c b d bs q.sources r → q.puts ≡ [] → lists.passed (fronts t (pending_in s ls).puts) ≡ [] → AreInBuffer (covers t bs) (length b) → AreReadersAt c d sizes (seen t (pending_in s ls) b files opened) (seen t q d files opened) (Ok r)
   source_seen [] is r h none front_none inside =
       let pp = seen t (pending_in s ls) b files opened in
       let used : lexed c pp.lex pp.line ≡ lex.UsedUp = ap (λ (bs : List Below). lexed c (line_state (covers t bs)) (line_rest b (covers t bs))) is ∙ nothing_left c lex.NewLine in
@@ -210,11 +210,11 @@ module _ (t s : List (Option Entry)) (c b d : List ℕ) (ls : List WholeLevel) (
       ap (λ (ss : List plain.Source). let z : plain.Pending = record (plain.on_line (rest_of d h.source.line) (state_of h.source.line.state) pp) { outer = ss } in z) (sym outer)
       ∙ ap (λ (bs : List Below). let z : plain.Pending = record (seen t q d files opened) { puts = []; line = line_rest d (covers t bs); lex = line_state (covers t bs) } in z) (sym h.after)
       ∙ ap (λ (ps : List Put). let z : plain.Pending = record (seen t q d files opened) { puts = fronts t ps } in z) (sym none) in
-      subst (λ (z : plain.Pending). IsRead c d sizes pp z (Ok r)) then_pending k
+      subst (λ (z : plain.Pending). AreReadersAt c d sizes pp z (Ok r)) then_pending k
 
   -- what is given, or that nothing is
   abbrev pub IsPulled : Result Given Full → Type 0
-  IsPulled (Ok g) = IsRead c d sizes (seen t (pending_in s ls) b files opened) (seen t q d files opened) (Ok g)
+  IsPulled (Ok g) = AreReadersAt c d sizes (seen t (pending_in s ls) b files opened) (seen t q d files opened) (Ok g)
   IsPulled (Err f) = (q ≡ end_token_lists (pending_in s ls)) × (d ≡ b)
 
   handed : (size : ℕ) (x : Item) (o : Option Full) (r : Result Given Full) → next_item (pending_in s ls).puts ≡ Some x → HandsOn b d (pending_in s ls) q x o r → IsPulled r
@@ -259,7 +259,7 @@ module _ (t s : List (Option Entry)) (c b d : List ℕ) (ls : List WholeLevel) (
     by_hands size x (Some f) r is h = subst IsRefused (sym h.0) is
 
     -- what a line gives needs nothing
-    line_needs : (g : Given) → IsRead c d sizes (seen t (pending_in s ls) b files opened) (seen t q d files opened) (Ok g) → lists.next_item (fronts t (pending_in s ls).puts) ≡ None → IsRefused (Ok g)
+    line_needs : (g : Given) → AreReadersAt c d sizes (seen t (pending_in s ls) b files opened) (seen t q d files opened) (Ok g) → lists.next_item (fronts t (pending_in s ls).puts) ≡ None → IsRefused (Ok g)
     line_needs (given_as.Token u) is none =
         let pp = seen t (pending_in s ls) b files opened in
         ap (λ (k : plain.Pulled). refused sizes (step_demands k pp)) is.reads ∙ ap (λ (o : Option lists.Item). refused sizes (opened_level o pp)) none

@@ -23,6 +23,7 @@ pub enum Change {
 }
 
 /// Appends a token. What is used then says that there was room for it.
+#[inline(always)]
 pub fn append(lists: &mut Lists, build: &mut Build, token: Token) -> Result<(), Full>
     requires { IsBuilding lists.old build.old }
     ensures same { build_id build.new ≡ build_id build.old }

@@ -250,6 +250,7 @@ impl Files {
     }
 
     /// Whether a file was opened that isn't begun.
+    #[inline(always)]
     pub fn has_next(&self) -> bool
         ensures { MatchBool result (IsSome self.now.next) (self.now.next ≡ None) }
     {

@@ -21,12 +21,13 @@ use tex_defs::{Meaning, Seen, Token};
 use token_lists::{ListRef, Lists};
 
 /// Whether a macro's list has a parameter text.
+#[inline(always)]
 pub fn has_parameters(lists: &Lists, list: &ListRef) -> bool
     requires { IsHeld lists.now (id_of list.now) }
     ensures { result ≡ has_parameters (tokens_at lists.now (id_of list.now)) }
 {
     match lists.first(list) {
-        Some(place) => !lists.is_end(place),
+        Some(place) => !lists.is_end_mark(place),
         None => false,
     }
 }

@@ -220,7 +220,7 @@ impl Held {
     /// The lists in front that are finished go.
     pub fn end_token_lists(&mut self)
         ensures after { self.new ≡ record self.old { puts = without_ended self.old.puts; lists = self.new.lists } }
-        ensures all_lists { KeepsHeld self.old self.new }
+        ensures keeps { KeepsHeld self.old self.new }
     {
         self.stack.drop_finished(&mut self.lists);
     }
@@ -233,7 +233,7 @@ impl Held {
         ensures refused { MatchResult result (λ _. refused self.old.sizes (memory 1 (words_held self.old) ∷ []) ≡ None) (λ full. refused self.old.sizes (memory 1 (words_held self.old) ∷ []) ≡ Some full) }
         ensures ok { OnOk result (self.new ≡ record self.old { builds = [] ∷ self.old.builds; lists = self.new.lists }) }
         ensures err { OnErr result (self.new ≡ self.old) }
-        ensures all_lists { KeepsHeld self.old self.new }
+        ensures keeps { KeepsHeld self.old self.new }
     {
         match begin(&mut self.lists) {
             Ok(build) => {
@@ -248,12 +248,13 @@ impl Held {
     ///
     /// # Errors
     /// The main memory is full; nothing has changed.
+    #[inline(always)]
     pub fn grow_list(&mut self, token: Token) -> Result<(), Full>
         requires { self.old.builds ≢ [] }
         ensures refused { MatchResult result (λ _. refused self.old.sizes (memory 1 (words_held self.old) ∷ []) ≡ None) (λ full. refused self.old.sizes (memory 1 (words_held self.old) ∷ []) ≡ Some full) }
         ensures ok { OnOk result (self.new ≡ record self.old { builds = grow_first token self.old.builds; lists = self.new.lists }) }
         ensures err { OnErr result (self.new ≡ self.old) }
-        ensures all_lists { KeepsHeld self.old self.new }
+        ensures keeps { KeepsHeld self.old self.new }
     {
         let Some(mut build) = self.builds.pop() else {
             unreachable!()
@@ -273,7 +274,7 @@ impl Held {
         ensures ok { OnOk result (self.new ≡ record self.old { builds = appended (standing_tokens self.old.lists self.old.groups loc) self.old.builds; lists = self.new.lists }) }
         ensures fits { OnOk result (words_held self.old + length (standing_tokens self.old.lists self.old.groups loc) ≤ self.old.sizes.main_memory_size) }
         ensures err { IfErr result (λ full. HeldShort held_appended (standing_tokens self.old.lists self.old.groups loc) self.old self.new full) }
-        ensures all_lists { KeepsHeld self.old self.new }
+        ensures keeps { KeepsHeld self.old self.new }
     {
         let _old_words = self.lists.used();
         let Some(list) = standing(&self.table, loc) else {
@@ -299,7 +300,7 @@ impl Held {
     pub fn drop_list(&mut self)
         requires { self.old.builds ≢ [] }
         ensures after { self.new ≡ record self.old { builds = drop 1 self.old.builds; lists = self.new.lists } }
-        ensures all_lists { KeepsHeld self.old self.new }
+        ensures keeps { KeepsHeld self.old self.new }
     {
         let Some(build) = self.builds.pop() else {
             unreachable!()
@@ -308,6 +309,7 @@ impl Held {
     }
 
     /// Whether some reading gathers a list.
+    #[inline(always)]
     pub fn is_gathering(&self) -> bool
         ensures { IsTrue result ↔ (0 < length self.now.builds) }
     {
@@ -365,7 +367,7 @@ impl Held {
         ensures refused { MatchResult result (λ _. refused self.old.sizes (memory 1 (words_held self.old) ∷ []) ≡ None) (λ full. refused self.old.sizes (memory 1 (words_held self.old) ∷ []) ≡ Some full) }
         ensures ok { OnOk result (self.new ≡ record self.old { making = Some []; lists = self.new.lists }) }
         ensures err { OnErr result (self.new ≡ self.old) }
-        ensures all_lists { KeepsHeld self.old self.new }
+        ensures keeps { KeepsHeld self.old self.new }
     {
         match begin(&mut self.lists) {
             Ok(build) => {
@@ -382,12 +384,13 @@ impl Held {
     ///
     /// # Errors
     /// The main memory is full; nothing has changed.
+    #[inline(always)]
     pub fn grow_made(&mut self, token: Token) -> Result<(), Full>
         requires { IsSome self.old.making }
         ensures refused { MatchResult result (λ _. refused self.old.sizes (memory 1 (words_held self.old) ∷ []) ≡ None) (λ full. refused self.old.sizes (memory 1 (words_held self.old) ∷ []) ≡ Some full) }
         ensures ok { OnOk result (self.new ≡ record self.old { making = grown_by token self.old.making; lists = self.new.lists }) }
         ensures err { OnErr result (self.new ≡ self.old) }
-        ensures all_lists { KeepsHeld self.old self.new }
+        ensures keeps { KeepsHeld self.old self.new }
     {
         let Some(mut build) = self.making.take() else {
             unreachable!()
@@ -409,7 +412,7 @@ impl Held {
         ensures ok { OnOk result (self.new ≡ record self.old { making = appended_made (map (case_changed (case_codes upper self.old.groups.now)) (first_list self.old.builds)) self.old.making; lists = self.new.lists }) }
         ensures fits { OnOk result (words_held self.old + length (map (case_changed (case_codes upper self.old.groups.now)) (first_list self.old.builds)) ≤ self.old.sizes.main_memory_size) }
         ensures err { IfErr result (λ full. HeldShort held_appended_made (map (case_changed (case_codes upper self.old.groups.now)) (first_list self.old.builds)) self.old self.new full) }
-        ensures all_lists { KeepsHeld self.old self.new }
+        ensures keeps { KeepsHeld self.old self.new }
     {
         let _old_words = self.lists.used();
         let from = at_first_built(&self.lists, &self.builds[self.builds.len() - 1]);
@@ -433,7 +436,7 @@ impl Held {
     /// The list that is made, if there is one, goes.
     pub fn drop_made(&mut self)
         ensures after { self.new ≡ record self.old { making = None; lists = self.new.lists } }
-        ensures all_lists { KeepsHeld self.old self.new }
+        ensures keeps { KeepsHeld self.old self.new }
     {
         if let Some(build) = self.making.take() {
             abandon(&mut self.lists, build);
@@ -444,7 +447,7 @@ impl Held {
     pub fn room(&mut self) -> Option<Full>
         ensures refused { result ≡ refused self.old.sizes (level_held self.old ∷ []) }
         ensures after { self.new ≡ record self.old { puts = without_ended self.old.puts; lists = self.new.lists } }
-        ensures all_lists { KeepsHeld self.old self.new }
+        ensures keeps { KeepsHeld self.old self.new }
     {
         self.stack.room(&mut self.lists)
     }
@@ -455,7 +458,7 @@ impl Held {
         requires without_ended { without_ended self.old.puts ≡ self.old.puts }
         requires room { refused self.old.sizes (level_held self.old ∷ []) ≡ None }
         ensures after { self.new ≡ record self.old { puts = with_put (token_put (made self.old.making)) self.old.puts; making = None; lists = self.new.lists } }
-        ensures all_lists { KeepsHeld self.old self.new }
+        ensures keeps { KeepsHeld self.old self.new }
     {
         let Some(build) = self.making.take() else {
             unreachable!()
@@ -468,6 +471,7 @@ impl Held {
     }
 
     /// What the next pull gives. Nothing changes.
+    #[inline(always)]
     pub fn looks(&self, bytes: &[u8]) -> Ahead
         requires { AreInBuffer self.now.below (length bytes.now) }
         ensures ahead { (files : List FileLeft) (next : Option (List ℕ)) → result ≡ ahead_of self.now.groups.now.categories (pending_of self.now bytes.now files next) }
@@ -477,19 +481,20 @@ impl Held {
             .looks(&self.lists, bytes, self.table.categories())
     }
 
-    /// Whether the next token of a list in front is at hand. Nothing changes.
-    pub fn is_at_hand(&self) -> bool
+    /// Whether the list or the call in front has a token left; it may be an argument's first, whose level opens. Nothing changes.
+    pub fn has_item(&self) -> bool
         ensures { IsTrue result → (bytes : List ℕ) (files : List FileLeft) (next : Option (List ℕ)) → ahead_of self.now.groups.now.categories (pending_of self.now bytes files next) ≡ ahead.Token }
     {
-        self.stack.is_at_hand(&self.lists)
+        self.stack.has_item(&self.lists)
     }
 
     /// The next token of a list in front, where it is at hand: no list has to go first, and no argument's level opens.
+    #[inline(always)]
     pub fn quick(&mut self) -> Option<Token>
         ensures gives { IfSome result (λ t. GivesAtOnce self.old self.new t) }
         ensures stays { result ≡ None → self.new ≡ self.old }
         ensures others { self.new ≡ record self.old { puts = self.new.puts } }
-        ensures all_lists { KeepsHeld self.old self.new }
+        ensures keeps { KeepsHeld self.old self.new }
     {
         self.stack.quick(&self.lists)
     }
@@ -508,7 +513,7 @@ impl Held {
         ensures err { OnErr result (self.new ≡ record self.old { puts = without_ended self.old.puts; lists = self.new.lists }) }
         ensures bytes { OnErr result (bytes.new ≡ bytes.old) }
         ensures others { self.new ≡ record self.old { puts = self.new.puts; below = self.new.below; lists = self.new.lists } }
-        ensures all_lists { KeepsHeld self.old self.new }
+        ensures keeps { KeepsHeld self.old self.new }
     {
         self.table.recall();
         let categories = self.table.categories();
@@ -522,7 +527,7 @@ impl Held {
         ensures further { GoFurther self.old.below self.new.below }
         ensures beneath { (files : List FileLeft) → outer_in bytes.new self.new.below files ≡ outer_in bytes.old self.old.below files }
         ensures after { self.new ≡ record self.old { puts = []; below = self.new.below; lists = self.new.lists } }
-        ensures all_lists { KeepsHeld self.old self.new }
+        ensures keeps { KeepsHeld self.old self.new }
     {
         self.table.recall();
         let categories = self.table.categories();
@@ -538,7 +543,7 @@ impl Held {
         ensures refused { MatchResult result (λ _. refused self.old.sizes (level_held self.old ∷ []) ≡ None) (λ full. refused self.old.sizes (level_held self.old ∷ []) ≡ Some full) }
         ensures ok { OnOk result (self.new ≡ record (opened_over line self.old) { lists = self.new.lists }) }
         ensures err { OnErr result (self.new ≡ record self.old { lists = self.new.lists }) }
-        ensures all_lists { KeepsHeld self.old self.new }
+        ensures keeps { KeepsHeld self.old self.new }
     {
         self.stack.push_file(&mut self.lists, Some(FILE), line)
     }
@@ -586,7 +591,7 @@ impl Held {
     pub fn enter_name(&mut self)
         requires { HasNameRoom self.old.groups self.old.sizes.hash_size }
         ensures after { self.new ≡ record self.old { groups = entered self.old.groups } }
-        ensures all_lists { KeepsHeld self.old self.new }
+        ensures keeps { KeepsHeld self.old self.new }
     {
         self.table.enter();
     }
@@ -636,7 +641,7 @@ impl Held {
         ensures refused { MatchResult result (λ _. refused self.old.sizes (group_demands self.old.groups) ≡ None) (λ full. refused self.old.sizes (group_demands self.old.groups) ≡ Some full) }
         ensures ok { OnOk result (self.new ≡ record self.old { groups = opened self.old.groups kind }) }
         ensures err { OnErr result (self.new ≡ self.old) }
-        ensures all_lists { KeepsHeld self.old self.new }
+        ensures keeps { KeepsHeld self.old self.new }
     {
         self.table.open_group(kind)
     }
@@ -650,7 +655,7 @@ impl Held {
         ensures refused { MatchResult result (λ _. refused self.old.sizes (token_demands self.old.groups) ≡ None) (λ full. refused self.old.sizes (token_demands self.old.groups) ≡ Some full) }
         ensures ok { OnOk result (self.new ≡ record self.old { groups = with_token self.old.groups token }) }
         ensures err { OnErr result (self.new ≡ self.old) }
-        ensures all_lists { KeepsHeld self.old self.new }
+        ensures keeps { KeepsHeld self.old self.new }
     {
         self.table.after_group(token)
     }
@@ -660,7 +665,7 @@ impl Held {
         requires open { 0 < depth self.old.groups }
         requires calls { self.old.call ≡ NotCalling }
         ensures after { self.new ≡ record self.old { groups = closed self.old.groups; closing = tokens_after self.old.groups; ending = kind_of self.old.groups; lists = self.new.lists } }
-        ensures all_lists { KeepsHeld self.old self.new }
+        ensures keeps { KeepsHeld self.old self.new }
     {
         self.table.recall();
         self.table.close_group(&mut self.lists);
@@ -707,7 +712,7 @@ impl Held {
         ensures ok { OnOk result (self.new ≡ record self.old { builds = drop 1 self.old.builds; groups = self.new.groups; lists = self.new.lists }) }
         ensures defines { OnOk result (Defines global self.old.groups self.new.groups (puts_held self.old) self.old.lists self.new.lists (first_list self.old.builds) name long outer) }
         ensures err { OnErr result (self.new ≡ self.old) }
-        ensures all_lists { KeepsHeld self.old self.new }
+        ensures keeps { KeepsHeld self.old self.new }
     {
         self.table.recall();
         let loc = self.name_room(global, name)?;
@@ -735,7 +740,7 @@ impl Held {
         ensures refused { MatchResult result (λ _. refused self.old.sizes (name_demands global self.old.groups name) ≡ None) (λ full. refused self.old.sizes (name_demands global self.old.groups name) ≡ Some full) }
         ensures ok { OnOk result (self.new ≡ record self.old { groups = set_name global self.old.groups name (meaning_to_let self.old.groups.now.meanings x); lists = self.new.lists }) }
         ensures err { OnErr result (self.new ≡ self.old) }
-        ensures all_lists { KeepsHeld self.old self.new }
+        ensures keeps { KeepsHeld self.old self.new }
     {
         let loc = self.name_room(global, name)?;
         self.table.recall();
@@ -765,7 +770,7 @@ impl Held {
         ensures refused { MatchResult result (λ _. refused self.old.sizes (name_demands global self.old.groups name) ≡ None) (λ full. refused self.old.sizes (name_demands global self.old.groups name) ≡ Some full) }
         ensures ok { OnOk result (self.new ≡ record self.old { groups = set_name global self.old.groups name (without_list meaning); lists = self.new.lists }) }
         ensures err { OnErr result (self.new ≡ self.old) }
-        ensures all_lists { KeepsHeld self.old self.new }
+        ensures keeps { KeepsHeld self.old self.new }
     {
         let loc = self.name_room(global, name)?;
         assign(
@@ -788,7 +793,7 @@ impl Held {
         ensures refused { MatchResult result (λ _. refused self.old.sizes (set_demands global self.old.groups loc) ≡ None) (λ full. refused self.old.sizes (set_demands global self.old.groups loc) ≡ Some full) }
         ensures ok { OnOk result (self.new ≡ record self.old { groups = set global self.old.groups loc (val.Number number); lists = self.new.lists }) }
         ensures err { OnErr result (self.new ≡ self.old) }
-        ensures all_lists { KeepsHeld self.old self.new }
+        ensures keeps { KeepsHeld self.old self.new }
     {
         self.set_room(global, loc)?;
         assign(
@@ -811,7 +816,7 @@ impl Held {
         ensures refused { MatchResult result (λ _. refused self.old.sizes (set_demands global self.old.groups loc) ≡ None) (λ full. refused self.old.sizes (set_demands global self.old.groups loc) ≡ Some full) }
         ensures ok { OnOk result (self.new ≡ record self.old { groups = set global self.old.groups loc (val.Skip glue); lists = self.new.lists }) }
         ensures err { OnErr result (self.new ≡ self.old) }
-        ensures all_lists { KeepsHeld self.old self.new }
+        ensures keeps { KeepsHeld self.old self.new }
     {
         self.set_room(global, loc)?;
         assign(
@@ -837,7 +842,7 @@ impl Held {
         ensures ok { OnOk result (self.new ≡ record self.old { builds = drop 1 self.old.builds; groups = self.new.groups; lists = self.new.lists }) }
         ensures sets { OnOk result (SetsList global self.old.groups self.new.groups (puts_held self.old) self.old.lists self.new.lists (first_list self.old.builds) loc) }
         ensures err { OnErr result (self.new ≡ self.old) }
-        ensures all_lists { KeepsHeld self.old self.new }
+        ensures keeps { KeepsHeld self.old self.new }
     {
         self.table.recall();
         self.set_room(global, loc)?;
@@ -867,7 +872,7 @@ impl Held {
         ensures refused { MatchResult result (λ _. refused self.old.sizes (set_demands global self.old.groups loc) ≡ None) (λ full. refused self.old.sizes (set_demands global self.old.groups loc) ≡ Some full) }
         ensures ok { OnOk result (self.new ≡ record self.old { groups = set global self.old.groups loc (get self.old.groups.now from); lists = self.new.lists }) }
         ensures err { OnErr result (self.new ≡ self.old) }
-        ensures all_lists { KeepsHeld self.old self.new }
+        ensures keeps { KeepsHeld self.old self.new }
     {
         self.set_room(global, loc)?;
         self.table.recall();
@@ -887,7 +892,7 @@ impl Held {
         ensures refused { MatchResult result (λ _. refused self.old.sizes (set_demands global self.old.groups loc) ≡ None) (λ full. refused self.old.sizes (set_demands global self.old.groups loc) ≡ Some full) }
         ensures ok { OnOk result (self.new ≡ record self.old { groups = set global self.old.groups loc (val.Tokens None); lists = self.new.lists }) }
         ensures err { OnErr result (self.new ≡ self.old) }
-        ensures all_lists { KeepsHeld self.old self.new }
+        ensures keeps { KeepsHeld self.old self.new }
     {
         self.set_room(global, loc)?;
         assign(
@@ -992,7 +997,7 @@ impl Held {
         ensures ok { IfOk result (λ kind. kind ≡ AtOnce → self.new ≡ record self.old { puts = called (called_put self.old.lists (name_meaning self.old.groups.now.meanings name)) self.old.puts; lists = self.new.lists }) }
         ensures others { IfOk result (λ kind. kind ≢ AtOnce → self.new ≡ self.old) }
         ensures err { OnErr result (self.new ≡ record self.old { puts = without_ended self.old.puts; lists = self.new.lists }) }
-        ensures all_lists { KeepsHeld self.old self.new }
+        ensures keeps { KeepsHeld self.old self.new }
     {
         let Some(list) = self.table.list(name) else {
             return Ok(CallKind::None);
@@ -1020,7 +1025,7 @@ impl Held {
         ensures refused { MatchResult result (λ _. call_refusal (standing_put self.old.lists self.old.groups loc) self.old ≡ None) (λ full. call_refusal (standing_put self.old.lists self.old.groups loc) self.old ≡ Some full) }
         ensures ok { OnOk result (self.new ≡ record self.old { puts = called (standing_put self.old.lists self.old.groups loc) self.old.puts; lists = self.new.lists }) }
         ensures err { OnErr result (self.new ≡ record self.old { puts = without_ended self.old.puts; lists = self.new.lists }) }
-        ensures all_lists { KeepsHeld self.old self.new }
+        ensures keeps { KeepsHeld self.old self.new }
     {
         let Some(list) = standing(&self.table, loc) else {
             return Ok(());
@@ -1047,7 +1052,7 @@ impl Held {
         ensures refused { MatchResult result (λ _. refused self.old.sizes (memory (lists_words (begun_lists (text_of self.old.lists self.old.groups.now.meanings name))) (words_held self.old) ∷ []) ≡ None) (λ full. refused self.old.sizes (memory (lists_words (begun_lists (text_of self.old.lists self.old.groups.now.meanings name))) (words_held self.old) ∷ []) ≡ Some full) }
         ensures ok { OnOk result (self.new ≡ record self.old { call = calls.Gathering name (first_scan (text_of self.old.lists self.old.groups.now.meanings name) (mode_of long)); lists = self.new.lists }) }
         ensures err { OnErr result (self.new ≡ self.old) }
-        ensures all_lists { KeepsHeld self.old self.new }
+        ensures keeps { KeepsHeld self.old self.new }
     {
         let Some(list) = self.table.list(name) else {
             unreachable!()
@@ -1063,6 +1068,7 @@ impl Held {
     }
 
     /// Whether a call is gathered.
+    #[inline(always)]
     pub fn is_calling(&self) -> bool
         ensures { MatchBool result (self.now.call ≢ NotCalling) (self.now.call ≡ NotCalling) }
     {
@@ -1111,7 +1117,7 @@ impl Held {
         ensures err { OnErr result (CutShort (text_of self.old.lists self.old.groups.now.meanings) token self.old.call self.new.call) }
         ensures full { IfErr result (λ full. refused self.new.sizes (memory 1 (words_held self.new) ∷ []) ≡ Some full) }
         ensures others { self.new ≡ record self.old { call = self.new.call; lists = self.new.lists } }
-        ensures all_lists { KeepsHeld self.old self.new }
+        ensures keeps { KeepsHeld self.old self.new }
     {
         let _old_words = self.lists.used();
         let told = feed(&mut self.lists, &self.table, &mut self.call, token);
@@ -1163,12 +1169,14 @@ impl Held {
     ///
     /// # Errors
     /// The arguments or the level have no room, once the finished lists in front have gone; nothing else has changed.
+    // Not inlined: `push_macro` is inlined here and in `call_at_once`, and both would stand in one rule.
+    #[inline(never)]
     pub fn put_call(&mut self) -> Result<(), Full>
         requires { IsComplete self.old.call }
         ensures refused { MatchResult result (λ _. put_refusal (put_of self.old.lists self.old.groups.now.meanings self.old.call) self.old ≡ None) (λ full. put_refusal (put_of self.old.lists self.old.groups.now.meanings self.old.call) self.old ≡ Some full) }
         ensures ok { OnOk result (self.new ≡ record self.old { puts = called (put_of self.old.lists self.old.groups.now.meanings self.old.call) self.old.puts; call = NotCalling; lists = self.new.lists }) }
         ensures err { OnErr result (self.new ≡ record self.old { puts = without_ended self.old.puts; lists = self.new.lists }) }
-        ensures all_lists { KeepsHeld self.old self.new }
+        ensures keeps { KeepsHeld self.old self.new }
     {
         let (name, args) = mem::replace(&mut self.call, Gathering::None).into_args();
         let Some(list) = self.table.list(name) else {
@@ -1189,7 +1197,7 @@ impl Held {
     /// The call's lists go, and none is gathered.
     pub fn drop_call(&mut self)
         ensures after { self.new ≡ record self.old { call = NotCalling; lists = self.new.lists } }
-        ensures all_lists { KeepsHeld self.old self.new }
+        ensures keeps { KeepsHeld self.old self.new }
     {
         match mem::replace(&mut self.call, Gathering::None) {
             Gathering::None => {}

@@ -149,7 +149,7 @@ impl Input {
     /// The lists in front that are finished go.
     pub fn end_token_lists(&mut self)
         ensures after { self.new ≡ record self.old { pending = end_token_lists self.old.pending; lists = self.new.lists } }
-        ensures all_lists { KeepsShared self.old self.new }
+        ensures keeps { KeepsShared self.old self.new }
     {
         self.held.end_token_lists();
     }
@@ -162,7 +162,7 @@ impl Input {
         ensures refused { MatchResult result (λ _. refused self.old.sizes (memory 1 (words self.old) ∷ []) ≡ None) (λ full. refused self.old.sizes (memory 1 (words self.old) ∷ []) ≡ Some full) }
         ensures ok { OnOk result (self.new ≡ record self.old { builds = [] ∷ self.old.builds; lists = self.new.lists }) }
         ensures err { OnErr result (self.new ≡ self.old) }
-        ensures all_lists { KeepsShared self.old self.new }
+        ensures keeps { KeepsShared self.old self.new }
     {
         self.held.begin_list()
     }
@@ -171,12 +171,13 @@ impl Input {
     ///
     /// # Errors
     /// The main memory is full; nothing has changed.
+    #[inline(always)]
     pub fn grow_list(&mut self, token: Token) -> Result<(), Full>
         requires { self.old.builds ≢ [] }
         ensures refused { MatchResult result (λ _. refused self.old.sizes (memory 1 (words self.old) ∷ []) ≡ None) (λ full. refused self.old.sizes (memory 1 (words self.old) ∷ []) ≡ Some full) }
         ensures ok { OnOk result (self.new ≡ record self.old { builds = grow_first token self.old.builds; lists = self.new.lists }) }
         ensures err { OnErr result (self.new ≡ self.old) }
-        ensures all_lists { KeepsShared self.old self.new }
+        ensures keeps { KeepsShared self.old self.new }
     {
         self.held.grow_list(token)
     }
@@ -191,7 +192,7 @@ impl Input {
         ensures ok { OnOk result (self.new ≡ record self.old { builds = appended (standing_tokens self.old.lists self.old.groups loc) self.old.builds; lists = self.new.lists }) }
         ensures fits { OnOk result (words self.old + length (standing_tokens self.old.lists self.old.groups loc) ≤ self.old.sizes.main_memory_size) }
         ensures err { IfErr result (λ full. AppendsShort with_appended (standing_tokens self.old.lists self.old.groups loc) self.old self.new full) }
-        ensures all_lists { KeepsShared self.old self.new }
+        ensures keeps { KeepsShared self.old self.new }
     {
         self.held.copy_list(loc)
     }
@@ -200,12 +201,13 @@ impl Input {
     pub fn drop_list(&mut self)
         requires { self.old.builds ≢ [] }
         ensures after { self.new ≡ record self.old { builds = drop 1 self.old.builds; lists = self.new.lists } }
-        ensures all_lists { KeepsShared self.old self.new }
+        ensures keeps { KeepsShared self.old self.new }
     {
         self.held.drop_list();
     }
 
     /// Whether a reading gathers a list, but for a call.
+    #[inline(always)]
     pub fn has_list(&self) -> bool
         ensures { MatchBool result (self.now.builds ≢ []) (self.now.builds ≡ []) }
     {
@@ -315,7 +317,7 @@ impl Input {
         ensures refused { MatchResult result (λ _. refused self.old.sizes (memory 1 (words self.old) ∷ []) ≡ None) (λ full. refused self.old.sizes (memory 1 (words self.old) ∷ []) ≡ Some full) }
         ensures ok { OnOk result (self.new ≡ record self.old { making = Some []; lists = self.new.lists }) }
         ensures err { OnErr result (self.new ≡ self.old) }
-        ensures all_lists { KeepsShared self.old self.new }
+        ensures keeps { KeepsShared self.old self.new }
     {
         self.held.make_list()
     }
@@ -324,12 +326,13 @@ impl Input {
     ///
     /// # Errors
     /// The main memory is full; nothing has changed.
+    #[inline(always)]
     pub fn grow_made(&mut self, token: Token) -> Result<(), Full>
         requires { IsSome self.old.making }
         ensures refused { MatchResult result (λ _. refused self.old.sizes (memory 1 (words self.old) ∷ []) ≡ None) (λ full. refused self.old.sizes (memory 1 (words self.old) ∷ []) ≡ Some full) }
         ensures ok { OnOk result (self.new ≡ record self.old { making = grown_by token self.old.making; lists = self.new.lists }) }
         ensures err { OnErr result (self.new ≡ self.old) }
-        ensures all_lists { KeepsShared self.old self.new }
+        ensures keeps { KeepsShared self.old self.new }
     {
         self.held.grow_made(token)
     }
@@ -345,7 +348,7 @@ impl Input {
         ensures ok { OnOk result (self.new ≡ record self.old { making = appended_made (map (case_changed (case_codes upper self.old.groups.now)) (first_list self.old.builds)) self.old.making; lists = self.new.lists }) }
         ensures fits { OnOk result (words self.old + length (map (case_changed (case_codes upper self.old.groups.now)) (first_list self.old.builds)) ≤ self.old.sizes.main_memory_size) }
         ensures err { IfErr result (λ full. AppendsShort with_appended_made (map (case_changed (case_codes upper self.old.groups.now)) (first_list self.old.builds)) self.old self.new full) }
-        ensures all_lists { KeepsShared self.old self.new }
+        ensures keeps { KeepsShared self.old self.new }
     {
         self.held.grow_changed(upper)
     }
@@ -354,7 +357,7 @@ impl Input {
     pub fn drop_made(&mut self)
         requires { IsSome self.old.making }
         ensures after { self.new ≡ record self.old { making = None; lists = self.new.lists } }
-        ensures all_lists { KeepsShared self.old self.new }
+        ensures keeps { KeepsShared self.old self.new }
     {
         self.held.drop_made();
     }
@@ -369,7 +372,7 @@ impl Input {
         ensures refused { MatchResult result (λ _. refused self.old.sizes (level self.old.pending ∷ []) ≡ None) (λ full. refused self.old.sizes (level self.old.pending ∷ []) ≡ Some full) }
         ensures ok { OnOk result (self.new ≡ record self.old { pending = put_front (token_put (made self.old.making)) self.old.pending; making = None; lists = self.new.lists }) }
         ensures err { OnErr result (self.new ≡ record self.old { lists = self.new.lists }) }
-        ensures all_lists { KeepsShared self.old self.new }
+        ensures keeps { KeepsShared self.old self.new }
     {
         if let Some(full) = self.held.room() {
             return Err(full);
@@ -391,7 +394,7 @@ impl Input {
         requires { ahead_of self.old.groups.now.categories self.old.pending ≢ ahead.End }
         ensures gives { GivesTo (pulled self.old.groups.now.categories self.old.pending) result self.old.pending self.new.pending self.new.buffer }
         ensures others { self.new ≡ record self.old { pending = self.new.pending; buffer = self.new.buffer; lists = self.new.lists } }
-        ensures all_lists { KeepsShared self.old self.new }
+        ensures keeps { KeepsShared self.old self.new }
         ensures refused { MatchResult result (λ _. pull_refusal self.old ≡ None) (λ full. pull_refusal self.old ≡ Some full) }
         ensures err { OnErr result (self.new.pending ≡ end_token_lists self.old.pending) }
     {
@@ -405,7 +408,7 @@ impl Input {
         ensures file { self.new.pending.file ≡ self.old.pending.file }
         ensures outer { self.new.pending.outer ≡ self.old.pending.outer }
         ensures others { self.new ≡ record self.old { pending = self.new.pending; buffer = self.new.buffer; lists = self.new.lists } }
-        ensures all_lists { KeepsShared self.old self.new }
+        ensures keeps { KeepsShared self.old self.new }
     {
         self.held.drop_front(&mut self.buffer);
     }
@@ -419,7 +422,7 @@ impl Input {
         ensures refused { MatchResult result (λ _. refused self.old.sizes (next_line self.old.pending) ≡ None) (λ full. refused self.old.sizes (next_line self.old.pending) ≡ Some full) }
         ensures err { OnErr result (self.new.pending ≡ self.old.pending) }
         ensures others { self.new ≡ record self.old { pending = self.new.pending; buffer = self.new.buffer; lists = self.new.lists } }
-        ensures all_lists { KeepsShared self.old self.new }
+        ensures keeps { KeepsShared self.old self.new }
     {
         let cut = first_line(self.files.rest());
         let lines = self.files.lines_beneath();
@@ -450,7 +453,7 @@ impl Input {
         requires without_ended { end_token_lists self.old.pending ≡ self.old.pending }
         ensures ok { IfOk result (λ r. Pulls (from_file self.old.pending self.old.pending.file) r self.old self.new) }
         ensures others { self.new ≡ record self.old { pending = self.new.pending; buffer = self.new.buffer; lists = self.new.lists } }
-        ensures all_lists { KeepsShared self.old self.new }
+        ensures keeps { KeepsShared self.old self.new }
         ensures puts { (id : ℕ) → is_put id (all_puts self.new.pending) ≡ true → is_put id (all_puts self.old.pending) ≡ true }
         ensures err { IfErr result (λ full. RefusesLine full self.old self.new) }
     {
@@ -469,12 +472,13 @@ impl Input {
     }
 
     // The next token of a list in front, where it is at hand.
+    #[inline(always)]
     fn quick(&mut self) -> Option<Token>
         ensures gives { IfSome result (λ t. Pulls (pulled self.old.groups.now.categories self.old.pending) (answer.Token t) self.old self.new) }
         ensures room { IsSome result → pull_refusal self.old ≡ None }
         ensures stays { result ≡ None → self.new ≡ self.old }
         ensures others { self.new ≡ record self.old { pending = self.new.pending } }
-        ensures all_lists { KeepsShared self.old self.new }
+        ensures keeps { KeepsShared self.old self.new }
     {
         self.held.quick()
     }
@@ -485,10 +489,11 @@ impl Input {
     /// # Errors
     /// The next line is too long for the buffer, or the level of an argument passes the size of the input stack. Nothing has
     /// changed but that the finished lists in front have gone.
+    #[inline(always)]
     pub fn pull(&mut self) -> Result<Pulled, Full>
         ensures ok { IfOk result (λ r. Pulls (pulled self.old.groups.now.categories self.old.pending) r self.old self.new) }
         ensures others { self.new ≡ record self.old { pending = self.new.pending; buffer = self.new.buffer; lists = self.new.lists } }
-        ensures all_lists { KeepsShared self.old self.new }
+        ensures keeps { KeepsShared self.old self.new }
         ensures refused { MatchResult result (λ _. pull_refusal self.old ≡ None) (λ full. pull_refusal self.old ≡ Some full) }
         ensures err { OnErr result (self.new.pending ≡ end_token_lists self.old.pending) }
     {
@@ -499,10 +504,11 @@ impl Input {
     }
 
     // The same, where it may be that lists have to go first, that a level opens, or that a line or the file gives it.
+    #[inline(always)]
     fn pull_looked(&mut self) -> Result<Pulled, Full>
         ensures ok { IfOk result (λ r. Pulls (pulled self.old.groups.now.categories self.old.pending) r self.old self.new) }
         ensures others { self.new ≡ record self.old { pending = self.new.pending; buffer = self.new.buffer; lists = self.new.lists } }
-        ensures all_lists { KeepsShared self.old self.new }
+        ensures keeps { KeepsShared self.old self.new }
         ensures refused { MatchResult result (λ _. pull_refusal self.old ≡ None) (λ full. pull_refusal self.old ≡ Some full) }
         ensures err { OnErr result (self.new.pending ≡ end_token_lists self.old.pending) }
     {
@@ -515,16 +521,17 @@ impl Input {
         }
     }
 
-    /// Whether the next token of a list in front is at hand: then the next reading gives it, and no byte of the file is needed
-    /// for it. Nothing changes.
-    pub fn is_at_hand(&self) -> bool
+    /// Whether the list or the call in front has a token left: then it comes next, and no byte of the file is needed for it. It may be
+    /// an argument's first, whose level must have room. Nothing changes.
+    pub fn has_item(&self) -> bool
         ensures knows { IsTrue result → KnowsNext self.now }
         ensures step { IsTrue result → gives_step (pulled self.now.groups.now.categories self.now.pending) ≡ true }
     {
-        self.held.is_at_hand()
+        self.held.has_item()
     }
 
     /// Whether the next reading gives a token, a name or a line. Nothing changes.
+    #[inline(always)]
     pub fn is_ready(&self) -> bool
         ensures { result ≡ gives_step (pulled self.now.groups.now.categories self.now.pending) }
     {
@@ -593,7 +600,7 @@ impl Input {
         ensures ok { OnOk result (self.new.pending ≡ with_end (end_of_line self.old.groups.now) (with_begun self.old.pending)) }
         ensures err { OnErr result (self.new.pending ≡ self.old.pending) }
         ensures others { self.new ≡ record self.old { pending = self.new.pending; buffer = self.new.buffer; lists = self.new.lists } }
-        ensures all_lists { KeepsShared self.old self.new }
+        ensures keeps { KeepsShared self.old self.new }
     {
         let cut = first_line(self.files.first_bytes());
         let lines = self.files.open_lines();
@@ -667,6 +674,7 @@ impl Input {
 
     /// A token as it is handed on: a name that `\noexpand` marked is the plain name, which this once means `\relax` where it
     /// would be expanded. *The TeXbook*, chapter 20; *TeX: The Program*, part 24 (`get_next`).
+    #[inline(always)]
     pub fn met(&self, token: Token) -> Seen
         ensures { result ≡ met self.now.groups.now.meanings token }
     {
@@ -684,7 +692,7 @@ impl Input {
     pub fn enter_name(&mut self)
         requires { HasNameRoom self.old.groups self.old.sizes.hash_size }
         ensures after { self.new ≡ record self.old { groups = entered self.old.groups } }
-        ensures all_lists { KeepsShared self.old self.new }
+        ensures keeps { KeepsShared self.old self.new }
     {
         self.held.enter_name();
     }
@@ -710,7 +718,7 @@ impl Input {
         ensures ok { OnOk result (self.new ≡ record self.old { builds = drop 1 self.old.builds; groups = self.new.groups; lists = self.new.lists }) }
         ensures defines { OnOk result (Defines global self.old.groups self.new.groups (all_puts self.old.pending) self.old.lists self.new.lists (first_list self.old.builds) name long outer) }
         ensures err { OnErr result (self.new ≡ self.old) }
-        ensures all_lists { KeepsShared self.old self.new }
+        ensures keeps { KeepsShared self.old self.new }
     {
         self.held.define(name, long, outer, global)
     }
@@ -727,7 +735,7 @@ impl Input {
         ensures refused { MatchResult result (λ _. refused self.old.sizes (name_demands global self.old.groups name) ≡ None) (λ full. refused self.old.sizes (name_demands global self.old.groups name) ≡ Some full) }
         ensures ok { OnOk result (self.new ≡ record self.old { groups = set_name global self.old.groups name (meaning_to_let self.old.groups.now.meanings x); lists = self.new.lists }) }
         ensures err { OnErr result (self.new ≡ self.old) }
-        ensures all_lists { KeepsShared self.old self.new }
+        ensures keeps { KeepsShared self.old self.new }
     {
         self.held.let_name(name, x, global)
     }
@@ -748,7 +756,7 @@ impl Input {
         ensures refused { MatchResult result (λ _. refused self.old.sizes (name_demands global self.old.groups name) ≡ None) (λ full. refused self.old.sizes (name_demands global self.old.groups name) ≡ Some full) }
         ensures ok { OnOk result (self.new ≡ record self.old { groups = set_name global self.old.groups name (without_list meaning); lists = self.new.lists }) }
         ensures err { OnErr result (self.new ≡ self.old) }
-        ensures all_lists { KeepsShared self.old self.new }
+        ensures keeps { KeepsShared self.old self.new }
     {
         self.held.set_meaning(name, meaning, global)
     }
@@ -764,7 +772,7 @@ impl Input {
         ensures refused { MatchResult result (λ _. refused self.old.sizes (set_demands global self.old.groups loc) ≡ None) (λ full. refused self.old.sizes (set_demands global self.old.groups loc) ≡ Some full) }
         ensures ok { OnOk result (self.new ≡ record self.old { groups = set global self.old.groups loc (val.Number number); lists = self.new.lists }) }
         ensures err { OnErr result (self.new ≡ self.old) }
-        ensures all_lists { KeepsShared self.old self.new }
+        ensures keeps { KeepsShared self.old self.new }
     {
         self.held.set_number(loc, number, global)
     }
@@ -779,7 +787,7 @@ impl Input {
         ensures refused { MatchResult result (λ _. refused self.old.sizes (set_demands global self.old.groups loc) ≡ None) (λ full. refused self.old.sizes (set_demands global self.old.groups loc) ≡ Some full) }
         ensures ok { OnOk result (self.new ≡ record self.old { groups = set global self.old.groups loc (val.Skip glue); lists = self.new.lists }) }
         ensures err { OnErr result (self.new ≡ self.old) }
-        ensures all_lists { KeepsShared self.old self.new }
+        ensures keeps { KeepsShared self.old self.new }
     {
         self.held.set_glue(loc, glue, global)
     }
@@ -798,7 +806,7 @@ impl Input {
         ensures ok { OnOk result (self.new ≡ record self.old { builds = drop 1 self.old.builds; groups = self.new.groups; lists = self.new.lists }) }
         ensures sets { OnOk result (SetsList global self.old.groups self.new.groups (all_puts self.old.pending) self.old.lists self.new.lists (first_list self.old.builds) loc) }
         ensures err { OnErr result (self.new ≡ self.old) }
-        ensures all_lists { KeepsShared self.old self.new }
+        ensures keeps { KeepsShared self.old self.new }
     {
         self.held.set_list(loc, global)
     }
@@ -816,7 +824,7 @@ impl Input {
         ensures refused { MatchResult result (λ _. refused self.old.sizes (set_demands global self.old.groups loc) ≡ None) (λ full. refused self.old.sizes (set_demands global self.old.groups loc) ≡ Some full) }
         ensures ok { OnOk result (self.new ≡ record self.old { groups = set global self.old.groups loc (get self.old.groups.now from); lists = self.new.lists }) }
         ensures err { OnErr result (self.new ≡ self.old) }
-        ensures all_lists { KeepsShared self.old self.new }
+        ensures keeps { KeepsShared self.old self.new }
     {
         self.held.share_list(loc, from, global)
     }
@@ -831,7 +839,7 @@ impl Input {
         ensures refused { MatchResult result (λ _. refused self.old.sizes (set_demands global self.old.groups loc) ≡ None) (λ full. refused self.old.sizes (set_demands global self.old.groups loc) ≡ Some full) }
         ensures ok { OnOk result (self.new ≡ record self.old { groups = set global self.old.groups loc (val.Tokens None); lists = self.new.lists }) }
         ensures err { OnErr result (self.new ≡ self.old) }
-        ensures all_lists { KeepsShared self.old self.new }
+        ensures keeps { KeepsShared self.old self.new }
     {
         self.held.set_no_list(loc, global)
     }
@@ -844,7 +852,7 @@ impl Input {
         ensures refused { MatchResult result (λ _. refused self.old.sizes (group_demands self.old.groups) ≡ None) (λ full. refused self.old.sizes (group_demands self.old.groups) ≡ Some full) }
         ensures ok { OnOk result (self.new ≡ record self.old { groups = opened self.old.groups kind }) }
         ensures err { OnErr result (self.new ≡ self.old) }
-        ensures all_lists { KeepsShared self.old self.new }
+        ensures keeps { KeepsShared self.old self.new }
     {
         self.held.open_group(kind)
     }
@@ -858,7 +866,7 @@ impl Input {
         ensures refused { MatchResult result (λ _. refused self.old.sizes (token_demands self.old.groups) ≡ None) (λ full. refused self.old.sizes (token_demands self.old.groups) ≡ Some full) }
         ensures ok { OnOk result (self.new ≡ record self.old { groups = with_token self.old.groups token }) }
         ensures err { OnErr result (self.new ≡ self.old) }
-        ensures all_lists { KeepsShared self.old self.new }
+        ensures keeps { KeepsShared self.old self.new }
     {
         self.held.after_group(token)
     }
@@ -869,7 +877,7 @@ impl Input {
         requires open { 0 < depth self.old.groups }
         requires calls { self.old.call ≡ NotCalling }
         ensures after { self.new ≡ record self.old { groups = group_closed self.old.groups; closing = tokens_after self.old.groups; ending = kind_of self.old.groups; lists = self.new.lists } }
-        ensures all_lists { KeepsShared self.old self.new }
+        ensures keeps { KeepsShared self.old self.new }
     {
         self.held.close_group();
     }
@@ -986,13 +994,14 @@ impl Input {
     ///
     /// # Errors
     /// The input stack is full, once the finished lists in front have gone; nothing else has changed.
+    #[inline(always)]
     pub fn call_at_once(&mut self, name: Name) -> Result<CallKind, Full>
         ensures kind { MatchResult result (λ kind. kind ≡ call_kind self.old.lists (name_meaning self.old.groups.now.meanings name)) (λ _. call_kind self.old.lists (name_meaning self.old.groups.now.meanings name) ≡ AtOnce) }
         ensures refused { MatchResult result (λ kind. kind ≡ AtOnce → call_refusal (called_put self.old.lists (name_meaning self.old.groups.now.meanings name)) self.old ≡ None) (λ full. call_refusal (called_put self.old.lists (name_meaning self.old.groups.now.meanings name)) self.old ≡ Some full) }
         ensures ok { IfOk result (λ kind. kind ≡ AtOnce → self.new ≡ record self.old { pending = after_call (called_put self.old.lists (name_meaning self.old.groups.now.meanings name)) self.old.pending; lists = self.new.lists }) }
         ensures others { IfOk result (λ kind. kind ≢ AtOnce → self.new ≡ self.old) }
         ensures err { OnErr result (self.new ≡ record self.old { pending = end_token_lists self.old.pending; lists = self.new.lists }) }
-        ensures all_lists { KeepsShared self.old self.new }
+        ensures keeps { KeepsShared self.old self.new }
     {
         self.held.call_at_once(name)
     }
@@ -1007,7 +1016,7 @@ impl Input {
         ensures refused { MatchResult result (λ _. call_refusal (standing_put self.old.lists self.old.groups loc) self.old ≡ None) (λ full. call_refusal (standing_put self.old.lists self.old.groups loc) self.old ≡ Some full) }
         ensures ok { OnOk result (self.new ≡ record self.old { pending = after_call (standing_put self.old.lists self.old.groups loc) self.old.pending; lists = self.new.lists }) }
         ensures err { OnErr result (self.new ≡ record self.old { pending = end_token_lists self.old.pending; lists = self.new.lists }) }
-        ensures all_lists { KeepsShared self.old self.new }
+        ensures keeps { KeepsShared self.old self.new }
     {
         self.held.put_list(loc)
     }
@@ -1023,12 +1032,13 @@ impl Input {
         ensures refused { MatchResult result (λ _. refused self.old.sizes (memory (lists_words (begun_lists (text_of self.old.lists self.old.groups.now.meanings name))) (words self.old) ∷ []) ≡ None) (λ full. refused self.old.sizes (memory (lists_words (begun_lists (text_of self.old.lists self.old.groups.now.meanings name))) (words self.old) ∷ []) ≡ Some full) }
         ensures ok { OnOk result (self.new ≡ record self.old { call = calls.Gathering name (first_scan (text_of self.old.lists self.old.groups.now.meanings name) (mode_of long)); lists = self.new.lists }) }
         ensures err { OnErr result (self.new ≡ self.old) }
-        ensures all_lists { KeepsShared self.old self.new }
+        ensures keeps { KeepsShared self.old self.new }
     {
         self.held.begin_call(name, long)
     }
 
     /// Whether a call is gathered.
+    #[inline(always)]
     pub fn is_calling(&self) -> bool
         ensures { MatchBool result (self.now.call ≢ NotCalling) (self.now.call ≡ NotCalling) }
     {
@@ -1062,7 +1072,7 @@ impl Input {
         ensures err { OnErr result (CutShort (text_of self.old.lists self.old.groups.now.meanings) token self.old.call self.new.call) }
         ensures full { IfErr result (λ full. refused self.new.sizes (memory 1 (words self.new) ∷ []) ≡ Some full) }
         ensures others { self.new ≡ record self.old { call = self.new.call; lists = self.new.lists } }
-        ensures all_lists { KeepsShared self.old self.new }
+        ensures keeps { KeepsShared self.old self.new }
     {
         self.held.feed_call(token)
     }
@@ -1103,7 +1113,7 @@ impl Input {
         ensures refused { MatchResult result (λ _. put_refusal (put_of self.old.lists self.old.groups.now.meanings self.old.call) self.old ≡ None) (λ full. put_refusal (put_of self.old.lists self.old.groups.now.meanings self.old.call) self.old ≡ Some full) }
         ensures ok { OnOk result (self.new ≡ record self.old { pending = after_call (put_of self.old.lists self.old.groups.now.meanings self.old.call) self.old.pending; call = NotCalling; lists = self.new.lists }) }
         ensures err { OnErr result (self.new ≡ record self.old { pending = end_token_lists self.old.pending; lists = self.new.lists }) }
-        ensures all_lists { KeepsShared self.old self.new }
+        ensures keeps { KeepsShared self.old self.new }
     {
         self.held.put_call()
     }
@@ -1111,7 +1121,7 @@ impl Input {
     /// The call's lists go, and none is gathered.
     pub fn drop_call(&mut self)
         ensures after { self.new ≡ record self.old { call = NotCalling; lists = self.new.lists } }
-        ensures all_lists { KeepsShared self.old self.new }
+        ensures keeps { KeepsShared self.old self.new }
     {
         self.held.drop_call();
     }

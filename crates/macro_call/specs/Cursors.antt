@@ -49,7 +49,7 @@ StepsAlong table id cursor (Some (token, next)) = (delimiter_at table id cursor 
 abbrev pub IsAhead : List (Option Entry) → ℕ → (from : Cursor) → (count : ℕ) → Cursor → Type 0
 IsAhead table id from count next = IsOn table id next × (next.index ≡ from.index + count)
 
--- the cursor behind so many tokens, where these begin the delimiter
+-- the cursor behind these tokens, of which there are so many, where they begin the delimiter; none where they don't
 abbrev pub IsBehindFront : List (Option Entry) → ℕ → (delimiter : Cursor) → (tokens : List Token) → (count : ℕ) → Option Cursor → Type 0
 IsBehindFront table id delimiter tokens count None = is_prefix tokens (delimiter_at table id delimiter) ≡ false
 IsBehindFront table id delimiter tokens count (Some next) = (is_prefix tokens (delimiter_at table id delimiter) ≡ true) × IsAhead table id delimiter count next

@@ -12,6 +12,7 @@ use tex_defs::{Full, Token};
 use token_lists::{Build, ListRef, Lists};
 
 // Appends a token.
+#[inline(always)]
 pub fn store(lists: &mut Lists, build: &mut Build, token: Token) -> Result<(), Full>
     requires { IsBuilding lists.old build.old }
     ensures same { build_id build.new ≡ build_id build.old }
@@ -27,6 +28,7 @@ pub fn store(lists: &mut Lists, build: &mut Build, token: Token) -> Result<(), F
 }
 
 // Appends the first tokens of a delimiter.
+#[inline(always)]
 pub fn store_front(
     lists: &mut Lists,
     list: &ListRef,

@@ -49,6 +49,7 @@ impl Cursor {
     }
 
     /// The token here, and the place behind it.
+    #[inline(always)]
     pub fn next(self, lists: &Lists) -> Option<(Token, Cursor)>
         requires { IsSomewhere lists.now self }
         ensures { (id : ℕ) → IsOn lists.now id self → Steps lists.now id self result }
@@ -63,6 +64,7 @@ impl Cursor {
     }
 
     /// The place behind the macro's place that stands here, if one does.
+    #[inline(always)]
     pub fn behind_place(self, lists: &Lists) -> Option<Cursor>
         requires { IsSomewhere lists.now self }
         ensures { (id : ℕ) → IsOn lists.now id self → StepsPlace lists.now id self result }
@@ -74,6 +76,7 @@ impl Cursor {
     }
 
     /// The same along a delimiter, which ends before the next place and the end mark.
+    #[inline(always)]
     pub fn next_along(self, lists: &Lists) -> Option<(Token, Cursor)>
         requires { IsSomewhere lists.now self }
         ensures { (id : ℕ) → IsOn lists.now id self → StepsAlong lists.now id self result }
@@ -86,6 +89,7 @@ impl Cursor {
     }
 
     // The delimiter's token here, which is one, and the place behind it.
+    #[inline(always)]
     pub fn delimiting(self, lists: &Lists, list: &ListRef) -> (Token, Cursor)
         requires on { IsOn lists.now (id_of list.now) self }
         requires some { 0 < length (delimiter_at lists.now (id_of list.now) self) }
@@ -98,6 +102,7 @@ impl Cursor {
     }
 
     /// Behind the delimiter that stands here.
+    #[inline(always)]
     pub fn behind_delimiter(self, lists: &Lists, list: &ListRef) -> Cursor
         requires { IsOn lists.now (id_of list.now) self }
         ensures on { IsOn lists.now (id_of list.now) result }
@@ -113,6 +118,7 @@ impl Cursor {
 }
 
 // Whether a token ends a delimiter.
+#[inline(always)]
 fn is_mark(x: Token) -> bool
     ensures { result ≡ is_mark x }
 {

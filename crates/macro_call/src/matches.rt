@@ -44,6 +44,7 @@ fn behind_front(
 }
 
 // The groups that are open behind a token.
+#[inline(always)]
 pub fn behind(depth: usize, x: Token) -> usize
     requires { depth + 1 < 2 ^ 64 }
     ensures { result ≡ open_behind depth x }
@@ -57,7 +58,7 @@ pub fn behind(depth: usize, x: Token) -> usize
     }
 }
 
-// A match that x doesn't go on with begins again, as early as it can: what `go_on` answers then.
+// A match that x doesn't go on with, or that began where groups were open, begins again as early as it can: what `go_on` answers then.
 fn begin_again(
     lists: &Lists,
     list: &ListRef,

@@ -16,6 +16,7 @@ pub enum ParMode {
 
 impl ParMode {
     /// Whether a `\par` ends the call.
+    #[inline(always)]
     pub fn is_short(self) -> bool
         ensures { result ≡ is_short (par_mode self) }
     {

@@ -72,6 +72,7 @@ fn is_whole(lists: &Lists, list: &ListRef, out: usize, next: Cursor) -> bool
 
 impl Present {
     /// An argument begins, whose list is this one, at a place with this delimiter.
+    #[inline(always)]
     pub fn new(build: Build, delimiter: Cursor) -> Present
         ensures same { build_id result.build ≡ build_id build }
         ensures building { result.build ≡ build }
@@ -152,6 +153,7 @@ impl Present {
     }
 
     // A token where there is no delimiter.
+    #[inline(always)]
     fn feed_undelimited(&mut self, lists: &mut Lists, mode: ParMode, x: Token) -> Result<Step, Full>
         requires building { IsBuilding lists.old self.old.build }
         requires stands { StandsPlain (stage_of lists.old self.old) }
@@ -322,6 +324,7 @@ impl Present {
     }
 
     /// The argument is complete: its list, or none where it has no token.
+    #[inline(always)]
     pub fn finish(self, lists: &mut Lists) -> Option<ListRef>
         requires { IsBuilding lists.old self.build }
         ensures tokens { cell_tokens lists.new result ≡ tokens_at lists.old (build_id self.build) }
@@ -346,6 +349,7 @@ impl Present {
 }
 
 // Frees the list in work, if there is one.
+#[inline(always)]
 pub fn abandon(lists: &mut Lists, present: Option<Present>)
     requires { ForSome present (λ p. IsBuilding lists.old p.build) }
     ensures account { Moves lists.old lists.new (present_holds present) none }

@@ -74,6 +74,7 @@ fn take_step(
 
 impl ArgScan {
     // Behind the next place, if there is one. No place is looked for behind the ninth argument.
+    #[inline(always)]
     fn next_place(&self, lists: &Lists, list: &ListRef) -> Option<Cursor>
         requires on { IsOn lists.now (id_of list.now) self.now.cursor }
         requires ends { delimiter_at lists.now (id_of list.now) self.now.cursor ≡ [] }
@@ -88,6 +89,7 @@ impl ArgScan {
 
     // Behind the tokens in front of the first place, or behind a delimiter: the next argument's list is begun as its
     // place is reached.
+    #[inline(always)]
     fn enter(&mut self, lists: &mut Lists, list: &ListRef) -> Result<ArgAsk, Full>
         requires { IsBetween lists.old (id_of list.now) self.old }
         ensures enters { IfOk result (λ answer. Enters lists.old lists.new (id_of list.now) self.old self.new answer) }
@@ -132,6 +134,7 @@ impl ArgScan {
     }
 
     // The list in work is a whole argument.
+    #[inline(always)]
     fn complete(&mut self, lists: &mut Lists, list: &ListRef)
         requires { IsWhole lists.old (id_of list.now) self.old }
         ensures completes { Completes lists.old lists.new (id_of list.now) self.old self.new }
@@ -146,6 +149,7 @@ impl ArgScan {
     }
 
     // A token in a place.
+    #[inline(always)]
     fn feed_place(&mut self, lists: &mut Lists, list: &ListRef, x: Token) -> Result<ArgAsk, Full>
         requires sound { IsSound lists.old (id_of list.now) self.old }
         requires in_place { self.old.present ≢ None }

@@ -9,6 +9,7 @@ use tex_defs::{Name, Token};
 const PAR: Name = Name::Word(5);
 
 // Whether two tokens are the same character with the same category, or the same name.
+#[inline(always)]
 pub fn same(a: Token, b: Token) -> bool
     ensures { result ≡ same a b }
 {
@@ -36,6 +37,7 @@ pub fn is_end(x: Token) -> bool
 }
 
 // A space token.
+#[inline(always)]
 pub fn is_space(x: Token) -> bool
     ensures { result ≡ is_space_token x }
 {
@@ -45,6 +47,7 @@ pub fn is_space(x: Token) -> bool
     }
 }
 
+#[inline(always)]
 pub fn is_par(x: Token) -> bool
     ensures { result ≡ is_par x }
 {

@@ -8,4 +8,4 @@ pub returns-in-Some : goal.returns-in-Some
 returns-in-Some c =
     let id = id_of c.args.list.now in
     let first = c.in-Some.ensures in
-    first_decides (tokens_at c.args.lists.now id) c.is_end.result (first.ends.0 refl) (λ t at. c.is_end.ensures id 0 t (sym first.place) at)
+    first_decides (tokens_at c.args.lists.now id) c.is_end_mark.result (first.ends.0 refl) (λ t at. c.is_end_mark.ensures id 0 t (sym first.place) at)

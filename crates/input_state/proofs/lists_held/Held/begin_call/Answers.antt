@@ -39,8 +39,8 @@ invariant_of-self c =
     let i = c.self.inside in
     recalls_sound i.lists c.begin.new.lists i.stack i.making i.builds.items i.table i.call call.None c.in-Ok.call c.replace.new.dest i.sizes _ c.self.invariant (no_call i.lists i.call (ap (λ (w : HeldLists). w.call) c.self.view_is ∙ c.requires.none)) c.replace.ensures.after (c.in-Ok.ensures.recalls i.table c.in-Some.ensures.list)
 
-pub returns-in-Ok-clause-all_lists : goal.returns-in-Ok-clause-all_lists
-returns-in-Ok-clause-all_lists c =
+pub returns-in-Ok-clause-keeps : goal.returns-in-Ok-clause-keeps
+returns-in-Ok-clause-keeps c =
     let i = c.self.inside in
     recalls_macros i.lists c.begin.new.lists i.stack i.making i.builds.items i.table i.call call.None c.in-Ok.call c.replace.new.dest i.sizes _ c.self.invariant (no_call i.lists i.call (ap (λ (w : HeldLists). w.call) c.self.view_is ∙ c.requires.none)) c.replace.ensures.after (c.in-Ok.ensures.recalls i.table c.in-Some.ensures.list) c.args.self.now c.self.view_is
 

@@ -40,8 +40,8 @@ returns-in-Err-clause-refused c =
     let i = c.self.inside in
     full_now i.lists i.stack i.making i.builds.items (named i.table i.call) i.sizes _ c.self.invariant c.args.self.now c.self.view_is c.in-Err.full c.in-Err.ensures.full
 
-pub returns-in-Ok-clause-all_lists : goal.returns-in-Ok-clause-all_lists
-returns-in-Ok-clause-all_lists c =
+pub returns-in-Ok-clause-keeps : goal.returns-in-Ok-clause-keeps
+returns-in-Ok-clause-keeps c =
     let i = c.self.inside in
     let b = c.in-Ok.build in
     let e = c.in-Ok.ensures in

@@ -46,8 +46,8 @@ returns-in-Ok-clause-ok c =
     let e = c.in-Ok.ensures in
     λ is. call_view i.lists c.share-body.new.lists c.push_macro.new.lists i.stack c.push_macro.new.self i.making i.builds.items (named i.table i.call) i.sizes _ c.self.invariant c.share-body.result is_meant c.share-body.ensures.shares c.none.result c.none.ensures.empty c.none.ensures.account e.stands e.ok e.account e.kept e.lasting e.size e.parameter_size c.args.self.now c.self.view_is c.args.name list_is
 
-pub returns-in-Ok-clause-all_lists : goal.returns-in-Ok-clause-all_lists
-returns-in-Ok-clause-all_lists c =
+pub returns-in-Ok-clause-keeps : goal.returns-in-Ok-clause-keeps
+returns-in-Ok-clause-keeps c =
     let i = c.self.inside in
     let same = c.share-body.ensures.same in
     let is_meant : 0 < eqtb.held i.table (id_of c.share-body.result) = omega (arith, c.in-Some.ensures.held, ap (eqtb.held i.table) same) in
@@ -75,8 +75,8 @@ returns-in-Err-clause-err c =
     let g = c.give_back.ensures in
     refused_view i.lists c.share-body.new.lists c.push_macro.new.lists c.give_back.new.lists i.stack c.push_macro.new.self i.making i.builds.items (named i.table i.call) i.sizes _ c.self.invariant c.share-body.result c.in-Err.body c.share-body.ensures.shares e.refused.1 e.stands e.err e.account e.kept e.lasting g.account g.kept g.lasting e.size e.parameter_size c.args.self.now c.self.view_is
 
-pub returns-in-Err-clause-all_lists : goal.returns-in-Err-clause-all_lists
-returns-in-Err-clause-all_lists c =
+pub returns-in-Err-clause-keeps : goal.returns-in-Err-clause-keeps
+returns-in-Err-clause-keeps c =
     let i = c.self.inside in
     let e = c.in-Err.ensures in
     let g = c.give_back.ensures in

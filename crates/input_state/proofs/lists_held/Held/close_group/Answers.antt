@@ -15,8 +15,8 @@ returns-clause-after c =
     closed_view i.lists c.close_group.new.lists i.stack i.making i.builds.items i.table c.close_group.new.self i.call i.sizes _ c.self.invariant
     c.args.self.now c.self.view_is c.requires.open c.requires.calls c.recall.ensures.outside e.after e.account e.kept e.lasting e.length
 
-pub returns-clause-all_lists : goal.returns-clause-all_lists
-returns-clause-all_lists c =
+pub returns-clause-keeps : goal.returns-clause-keeps
+returns-clause-keeps c =
     let i = c.self.inside in
     let e = c.close_group.ensures in
     closed_macros i.lists c.close_group.new.lists i.stack i.making i.builds.items i.table c.close_group.new.self i.call i.sizes _ c.self.invariant

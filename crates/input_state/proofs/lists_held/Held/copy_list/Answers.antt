@@ -80,8 +80,8 @@ returns-clause-err c =
     if_both c.append_from-copied.result _ _ _ e.err e.full (λ k full is_full.
     first_short i.lists new i.stack (named i.table i.call) i.making i.builds.items c.push_reserved.new.self.items c.pop.new.self.items a b c.in-Some-pop.ensures.items c.push_reserved.ensures.items i.sizes _ _ c.self.invariant v c.self.view_is e.same e.building e.others e.account e.length (c.push_reserved.ensures.capacity ∙ c.in-Some-pop.ensures.capacity) e.words (omega (arith, c.used-words.ensures.is, c.used-words.ensures.within)) (standing_tokens v.lists v.groups c.args.loc) (subst (λ (us : List Token). IsAppendedInPart us (tokens_at i.lists (build_id a)) (tokens_at new (build_id a))) copied (k id c.at_first-from.ensures.on apart)) full is_full)
 
-pub returns-clause-all_lists : goal.returns-clause-all_lists
-returns-clause-all_lists c =
+pub returns-clause-keeps : goal.returns-clause-keeps
+returns-clause-keeps c =
     let i = c.self.inside in
     let v = c.args.self.now in
     let e = c.append_from-copied.ensures in

@@ -36,8 +36,8 @@ returns-clause-ok c =
     let e = c.assign.ensures in
     taken_view i.lists c.assign.new.lists i.stack (named i.table i.call) (named c.assign.new.table i.call) i.making i.builds.items c.pop.new.self.items c.in-Some.build c.in-Some.ensures.items i.sizes _ _ c.self.invariant c.in-Some.ensures.capacity c.args.self.now c.self.view_is (val.Meant (means.Macro c.args.long c.args.outer (Some (id_of c.finish.result)))) (ap (λ (h : ℕ). Some h) c.finish.ensures.same) c.requires.list c.args.global c.in_ok-loc.loc e.after refl (record { moves = e.account; keeps = e.kept; lasting = e.lasting; fewer = e.fewer; size = e.length }) e.stored
 
-pub returns-clause-all_lists : goal.returns-clause-all_lists
-returns-clause-all_lists c =
+pub returns-clause-keeps : goal.returns-clause-keeps
+returns-clause-keeps c =
     let i = c.self.inside in
     let e = c.assign.ensures in
     taken_macros i.lists c.assign.new.lists i.stack (named i.table i.call) (named c.assign.new.table i.call) i.making i.builds.items c.pop.new.self.items c.in-Some.build c.in-Some.ensures.items i.sizes _ _ c.self.invariant c.in-Some.ensures.capacity c.args.self.now c.self.view_is (val.Meant (means.Macro c.args.long c.args.outer (Some (id_of c.finish.result)))) (ap (λ (h : ℕ). Some h) c.finish.ensures.same) c.requires.list c.args.global c.in_ok-loc.loc e.after refl (record { moves = e.account; keeps = e.kept; lasting = e.lasting; fewer = e.fewer; size = e.length }) e.stored

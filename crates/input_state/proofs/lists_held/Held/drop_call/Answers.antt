@@ -30,8 +30,8 @@ returns-in-Gathers-clause-after c =
     let is : i.call ≡ k = sym c.replace.ensures.value ∙ c.in-Gathers.is in
     dropped_view i.lists c.abandon.new.lists i.stack i.making i.builds.items i.table i.call c.replace.new.dest i.sizes _ c.self.invariant c.replace.ensures.after (gone i.lists c.abandon.new.lists i.call k is c.abandon.ensures.account) (stay i.lists c.abandon.new.lists i.call k is c.abandon.ensures.kept) c.abandon.ensures.length c.args.self.now c.self.view_is
 
-pub returns-in-Gathers-clause-all_lists : goal.returns-in-Gathers-clause-all_lists
-returns-in-Gathers-clause-all_lists c =
+pub returns-in-Gathers-clause-keeps : goal.returns-in-Gathers-clause-keeps
+returns-in-Gathers-clause-keeps c =
     let i = c.self.inside in
     let k = call.Gathers c.in-Gathers._name c.in-Gathers.scan in
     let is : i.call ≡ k = sym c.replace.ensures.value ∙ c.in-Gathers.is in
@@ -51,8 +51,8 @@ returns-in-Gathered-clause-after c =
     let is : i.call ≡ k = sym c.replace.ensures.value ∙ c.in-Gathered.is in
     dropped_view i.lists c.release.new.lists i.stack i.making i.builds.items i.table i.call c.replace.new.dest i.sizes _ c.self.invariant c.replace.ensures.after (gone i.lists c.release.new.lists i.call k is c.release.ensures.account) (stay i.lists c.release.new.lists i.call k is c.release.ensures.kept) c.release.ensures.size c.args.self.now c.self.view_is
 
-pub returns-in-Gathered-clause-all_lists : goal.returns-in-Gathered-clause-all_lists
-returns-in-Gathered-clause-all_lists c =
+pub returns-in-Gathered-clause-keeps : goal.returns-in-Gathered-clause-keeps
+returns-in-Gathered-clause-keeps c =
     let i = c.self.inside in
     let k = call.Gathered c.in-Gathered._name c.in-Gathered.args in
     let is : i.call ≡ k = sym c.replace.ensures.value ∙ c.in-Gathered.is in
@@ -72,8 +72,8 @@ returns-in-Stopped-clause-after c =
     let is : i.call ≡ k = sym c.replace.ensures.value ∙ c.in-Stopped.is in
     dropped_view i.lists c.abandon-in-Stopped.new.lists i.stack i.making i.builds.items i.table i.call c.replace.new.dest i.sizes _ c.self.invariant c.replace.ensures.after (gone i.lists c.abandon-in-Stopped.new.lists i.call k is c.abandon-in-Stopped.ensures.account) (stay i.lists c.abandon-in-Stopped.new.lists i.call k is c.abandon-in-Stopped.ensures.kept) c.abandon-in-Stopped.ensures.length c.args.self.now c.self.view_is
 
-pub returns-in-Stopped-clause-all_lists : goal.returns-in-Stopped-clause-all_lists
-returns-in-Stopped-clause-all_lists c =
+pub returns-in-Stopped-clause-keeps : goal.returns-in-Stopped-clause-keeps
+returns-in-Stopped-clause-keeps c =
     let i = c.self.inside in
     let k = call.Stopped c.in-Stopped._name c.in-Stopped.scan in
     let is : i.call ≡ k = sym c.replace.ensures.value ∙ c.in-Stopped.is in

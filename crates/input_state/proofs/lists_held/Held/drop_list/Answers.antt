@@ -43,8 +43,8 @@ returns-clause-after c =
     rest_view i.lists new i.stack (named i.table i.call) i.sizes i.making rest changed
     ∙ ap (λ (v : HeldLists). record v { builds = drop 1 v.builds; lists = texts new }) (sym first ∙ c.self.view_is)
 
-pub returns-clause-all_lists : goal.returns-clause-all_lists
-returns-clause-all_lists c =
+pub returns-clause-keeps : goal.returns-clause-keeps
+returns-clause-keeps c =
     let i = c.self.inside in
     let a = c.in-Some.build in
     let new = c.abandon.new.lists in

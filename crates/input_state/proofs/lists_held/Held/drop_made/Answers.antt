@@ -44,8 +44,8 @@ abandon-requires c =
     let shared : IsShared i.lists i.stack (a ∷ ys) (named i.table i.call) = subst (λ (m : Option Build). IsShared i.lists i.stack (all_builds m i.builds.items) (named i.table i.call)) some c.self.invariant.shared in
     All-head (IsBuilding i.lists) a ys shared.building
 
-pub returns-in-Some-clause-all_lists : goal.returns-in-Some-clause-all_lists
-returns-in-Some-clause-all_lists c =
+pub returns-in-Some-clause-keeps : goal.returns-in-Some-clause-keeps
+returns-in-Some-clause-keeps c =
     let i = c.self.inside in
     let a = c.in-Some.build in
     let new = c.abandon.new.lists in

@@ -14,8 +14,8 @@ returns-clause-after c =
     let e = c.drop_finished.ensures in
     settled_view i.lists c.drop_finished.new.lists i.stack c.drop_finished.new.self i.making i.builds.items (named i.table i.call) i.sizes _ c.self.invariant e.stands e.account e.kept e.lasting e.size e.parameter_size e.after c.args.self.now c.self.view_is
 
-pub returns-clause-all_lists : goal.returns-clause-all_lists
-returns-clause-all_lists c =
+pub returns-clause-keeps : goal.returns-clause-keeps
+returns-clause-keeps c =
     let i = c.self.inside in
     let e = c.drop_finished.ensures in
     settled_macros i.lists c.drop_finished.new.lists i.stack c.drop_finished.new.self i.making i.builds.items (named i.table i.call) i.sizes _ c.self.invariant e.stands e.account e.kept e.lasting e.size e.parameter_size e.after c.args.self.now c.self.view_is

@@ -15,8 +15,8 @@ invariant_of-self c =
     let f = c.feed-told in
     recalls_sound i.lists f.new.lists i.stack i.making i.builds.items i.table i.call i.call f.new.call f.new.call i.sizes _ c.self.invariant refl refl f.ensures.recalls
 
-pub returns-clause-all_lists : goal.returns-clause-all_lists
-returns-clause-all_lists c =
+pub returns-clause-keeps : goal.returns-clause-keeps
+returns-clause-keeps c =
     let i = c.self.inside in
     let f = c.feed-told in
     recalls_macros i.lists f.new.lists i.stack i.making i.builds.items i.table i.call i.call f.new.call f.new.call i.sizes _ c.self.invariant refl refl f.ensures.recalls c.args.self.now c.self.view_is

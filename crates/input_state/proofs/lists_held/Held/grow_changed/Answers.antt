@@ -118,8 +118,8 @@ returns-clause-err c =
     if_both c.append_from-grown.result _ _ _ e.err e.full (λ k full is_full.
     made_short i.lists new i.stack (named i.table i.call) c.replace.new.self i.making i.builds.items a b (sym c.take.ensures.value ∙ c.in-Some.is) c.replace.ensures.after i.sizes _ _ c.self.invariant v c.self.view_is e.same e.building e.others e.account e.length refl e.words (omega (arith, c.used-words.ensures.is, c.used-words.ensures.within)) (map (case_changed (case_codes c.args.upper v.groups.now)) (first_list v.builds)) (subst (λ (us : List Token). IsAppendedInPart us (tokens_at i.lists (build_id a)) (tokens_at new (build_id a))) copied (k id c.at_first_built-from.ensures.on apart)) full is_full)
 
-pub returns-clause-all_lists : goal.returns-clause-all_lists
-returns-clause-all_lists c =
+pub returns-clause-keeps : goal.returns-clause-keeps
+returns-clause-keeps c =
     let i = c.self.inside in
     let v = c.args.self.now in
     let e = c.append_from-grown.ensures in

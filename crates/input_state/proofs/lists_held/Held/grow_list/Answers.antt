@@ -69,8 +69,8 @@ returns-clause-err c =
     err_of c.append-grown.result (c.append-grown.new.lists ≡ i.lists) _ e.err (λ still.
     same_first i.lists c.append-grown.new.lists i.stack (named i.table i.call) i.sizes i.making i.builds.items c.push_reserved.new.self.items c.pop.new.self.items c.in-Some.build c.append-grown.new.build c.args.self.now still c.in-Some.ensures.items c.push_reserved.ensures.items e.same c.self.view_is)
 
-pub returns-clause-all_lists : goal.returns-clause-all_lists
-returns-clause-all_lists c =
+pub returns-clause-keeps : goal.returns-clause-keeps
+returns-clause-keeps c =
     let i = c.self.inside in
     let a = c.in-Some.build in
     let b = c.append-grown.new.build in

@@ -62,8 +62,8 @@ append-grown-requires c =
     let shared : IsShared i.lists i.stack (a ∷ ys) (named i.table i.call) = subst (λ (m : Option Build). IsShared i.lists i.stack (all_builds m i.builds.items) (named i.table i.call)) some c.self.invariant.shared in
     All-head (IsBuilding i.lists) a ys shared.building
 
-pub returns-clause-all_lists : goal.returns-clause-all_lists
-returns-clause-all_lists c =
+pub returns-clause-keeps : goal.returns-clause-keeps
+returns-clause-keeps c =
     let i = c.self.inside in
     let a = c.in-Some.build in
     let b = c.append-grown.new.build in

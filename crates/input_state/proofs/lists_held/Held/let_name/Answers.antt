@@ -32,8 +32,8 @@ returns-clause-ok c =
     ∙ named_groups c.args.global c.args.self.now c.args.name (numbered_meaning c.to_let-meaning.result) c.in_ok-loc.loc c.assign.new.lists c.in_ok-loc.ensures.place
     ∙ ap (λ (m : Meaning (Option ℕ)). record c.args.self.now { groups = set_name c.args.global c.args.self.now.groups c.args.name m; lists = texts c.assign.new.lists }) (t.same ∙ ap (λ (w : HeldLists). meaning_to_let w.groups.now.meanings c.args.x) c.self.view_is)
 
-pub returns-clause-all_lists : goal.returns-clause-all_lists
-returns-clause-all_lists c =
+pub returns-clause-keeps : goal.returns-clause-keeps
+returns-clause-keeps c =
     let i = c.self.inside in
     let t = c.to_let-meaning.ensures in
     let e = c.assign.ensures in

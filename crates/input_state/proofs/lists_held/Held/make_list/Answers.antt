@@ -43,8 +43,8 @@ returns-in-Err-clause-refused c =
     let i = c.self.inside in
     full_now i.lists i.stack i.making i.builds.items (named i.table i.call) i.sizes _ c.self.invariant c.args.self.now c.self.view_is c.in-Err.full c.in-Err.ensures.full
 
-pub returns-in-None-clause-all_lists : goal.returns-in-None-clause-all_lists
-returns-in-None-clause-all_lists c =
+pub returns-in-None-clause-keeps : goal.returns-in-None-clause-keeps
+returns-in-None-clause-keeps c =
     let i = c.self.inside in
     let b = c.in-Ok.build in
     let e = c.in-Ok.ensures in

@@ -37,8 +37,8 @@ returns-clause-err c =
     let e = c.push_file.ensures in
     open_err i.lists c.push_file.new.lists i.stack c.push_file.new.self i.making i.builds.items (named i.table i.call) i.sizes _ c.self.invariant e.stands e.account e.kept e.lasting e.size e.parameter_size c.args.self.now c.self.view_is c.requires.without_ended _ c.args.line c.push_file.result e.ok e.err
 
-pub returns-clause-all_lists : goal.returns-clause-all_lists
-returns-clause-all_lists c =
+pub returns-clause-keeps : goal.returns-clause-keeps
+returns-clause-keeps c =
     let i = c.self.inside in
     let e = c.push_file.ensures in
     open_macros i.lists c.push_file.new.lists i.stack c.push_file.new.self i.making i.builds.items (named i.table i.call) i.sizes _ c.self.invariant e.stands e.account e.kept e.lasting e.size e.parameter_size c.args.self.now c.self.view_is c.requires.without_ended _ c.args.line c.push_file.result e.ok e.err

@@ -50,8 +50,8 @@ invariant_of-self c =
     let e = c.pull.ensures in
     pulled_sound i.lists c.pull.new.lists i.stack c.pull.new.self i.making i.builds.items (named i.table i.call) i.sizes _ c.self.invariant e.stands e.account e.kept e.lasting e.size e.parameter_size i.stack.size c.categories-categories.result.now c.args.bytes.now c.pull.new.bytes c.pull.result e.pulls
 
-pub returns-clause-all_lists : goal.returns-clause-all_lists
-returns-clause-all_lists c =
+pub returns-clause-keeps : goal.returns-clause-keeps
+returns-clause-keeps c =
     let i = c.self.inside in
     let e = c.pull.ensures in
     pulled_macros i.lists c.pull.new.lists i.stack c.pull.new.self i.making i.builds.items (named i.table i.call) i.sizes _ c.self.invariant e.stands e.account e.kept e.lasting e.size e.parameter_size i.stack.size c.categories-categories.result.now c.args.bytes.now c.pull.new.bytes c.pull.result e.pulls c.args.self.now c.self.view_is

@@ -72,8 +72,8 @@ returns-in-Ok-clause-ok c =
     let e = c.in-Ok.ensures in
     put_view i.lists c.share-body.new.lists c.push_macro.new.lists i.stack c.push_macro.new.self i.making i.builds.items i.table i.call c.replace.new.dest i.sizes _ c.self.invariant name c.share-body.result args was c.replace.ensures.after is_meant c.share-body.ensures.shares e.stands e.ok e.account e.kept e.lasting e.size e.parameter_size v c.self.view_is list_is
 
-pub returns-in-Ok-clause-all_lists : goal.returns-in-Ok-clause-all_lists
-returns-in-Ok-clause-all_lists c =
+pub returns-in-Ok-clause-keeps : goal.returns-in-Ok-clause-keeps
+returns-in-Ok-clause-keeps c =
     let i = c.self.inside in
     let v = c.args.self.now in
     let name = c.into_args-name.result.0 in
@@ -139,8 +139,8 @@ returns-in-Err-clause-err c =
     let back : c.replace-in-Err.new.dest ≡ i.call = c.replace-in-Err.ensures.after ∙ ap (call.Gathered name) e.refused.2 ∙ sym was in
     ap (λ (k : code.Gathering). lists_of c.let_go.new.lists (pending c.let_go.new.lists c.push_macro.new.self) i.making i.builds.items (named i.table k) i.sizes) back ∙ refused_view i.lists c.share-body.new.lists c.push_macro.new.lists c.let_go.new.lists i.stack c.push_macro.new.self i.making i.builds.items (named i.table i.call) i.sizes _ c.self.invariant c.share-body.result c.in-Err.body c.share-body.ensures.shares e.refused.1 e.stands e.err e.account e.kept e.lasting g.account g.kept g.lasting e.size e.parameter_size v c.self.view_is
 
-pub returns-in-Err-clause-all_lists : goal.returns-in-Err-clause-all_lists
-returns-in-Err-clause-all_lists c =
+pub returns-in-Err-clause-keeps : goal.returns-in-Err-clause-keeps
+returns-in-Err-clause-keeps c =
     let i = c.self.inside in
     let v = c.args.self.now in
     let name = c.into_args-name.result.0 in

@@ -52,8 +52,8 @@ returns-in-Ok-clause-ok c =
     let e = c.in-Ok.ensures in
     shared_view i.lists c.share-list.new.lists c.push_shared.new.lists i.stack c.push_shared.new.self i.making i.builds.items (named i.table i.call) i.sizes _ c.self.invariant k (tokens_at i.lists k) is_held c.share-list.ensures.shares e.stands (standing_now i.lists c.share-list.new.lists i.stack i.making i.builds.items (named i.table i.call) i.sizes _ c.self.invariant k c.share-list.ensures.shares (pending c.push_shared.new.lists c.push_shared.new.self) e.ok) e.account e.kept e.lasting e.size e.parameter_size c.args.self.now c.self.view_is (standing_put c.args.self.now.lists c.args.self.now.groups c.args.loc) (standing_is i.lists c.share-list.new.lists i.stack i.making i.builds.items (named i.table i.call) i.sizes _ c.self.invariant k c.share-list.ensures.shares c.args.self.now c.self.view_is c.args.loc at)
 
-pub returns-in-Ok-clause-all_lists : goal.returns-in-Ok-clause-all_lists
-returns-in-Ok-clause-all_lists c =
+pub returns-in-Ok-clause-keeps : goal.returns-in-Ok-clause-keeps
+returns-in-Ok-clause-keeps c =
     let i = c.self.inside in
     let k = id_of c.share-list.result in
     let is_held : 0 < eqtb.held i.table k = omega (arith, c.in-Some.ensures.held, ap (eqtb.held i.table) c.share-list.ensures.same) in
@@ -81,8 +81,8 @@ returns-in-Err-clause-err c =
     let g = c.let_go.ensures in
     refused_view i.lists c.share-list.new.lists c.push_shared.new.lists c.let_go.new.lists i.stack c.push_shared.new.self i.making i.builds.items (named i.table i.call) i.sizes _ c.self.invariant c.share-list.result c.in-Err.list c.share-list.ensures.shares e.refused.1 e.stands e.err e.account e.kept e.lasting g.account g.kept g.lasting e.size e.parameter_size c.args.self.now c.self.view_is
 
-pub returns-in-Err-clause-all_lists : goal.returns-in-Err-clause-all_lists
-returns-in-Err-clause-all_lists c =
+pub returns-in-Err-clause-keeps : goal.returns-in-Err-clause-keeps
+returns-in-Err-clause-keeps c =
     let i = c.self.inside in
     let e = c.in-Err.ensures in
     let g = c.let_go.ensures in

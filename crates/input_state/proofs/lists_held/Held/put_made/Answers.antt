@@ -45,8 +45,8 @@ returns-clause-after c =
     let some : i.making ≡ Some a = sym c.take.ensures.value ∙ c.in-Some.is in
     put_view i.lists c.push_list.new.lists i.stack c.push_list.new.self a i.builds.items (named i.table i.call) i.sizes (id_of c.finish-list.result) _ i.making some c.self.invariant c.finish-list.ensures.same e.stands e.ok e.account e.kept e.lasting e.size e.parameter_size c.take.new.self c.args.self.now c.take.ensures.after c.self.view_is c.requires.without_ended
 
-pub returns-clause-all_lists : goal.returns-clause-all_lists
-returns-clause-all_lists c =
+pub returns-clause-keeps : goal.returns-clause-keeps
+returns-clause-keeps c =
     let i = c.self.inside in
     let a = c.in-Some.build in
     let e = c.in-Ok.ensures in

@@ -22,7 +22,7 @@ returns-clause-others c =
     let i = c.self.inside in
     some_others i.lists i.stack c.quick.new.self i.making i.builds.items (named i.table i.call) i.sizes _ c.self.invariant c.quick.ensures.stands c.quick.ensures.held c.quick.ensures.size c.quick.ensures.parameter_size c.quick.result c.quick.ensures.gives c.quick.ensures.stays c.args.self.now c.self.view_is
 
-pub returns-clause-all_lists : goal.returns-clause-all_lists
-returns-clause-all_lists c =
+pub returns-clause-keeps : goal.returns-clause-keeps
+returns-clause-keeps c =
     let i = c.self.inside in
     some_macros i.lists i.stack c.quick.new.self i.making i.builds.items (named i.table i.call) i.sizes _ c.self.invariant c.quick.ensures.stands c.quick.ensures.held c.quick.ensures.size c.quick.ensures.parameter_size c.quick.result c.quick.ensures.gives c.quick.ensures.stays c.args.self.now c.self.view_is

@@ -28,8 +28,8 @@ returns-clause-refused c =
     ∙ levels_refused i.sizes (used_levels (pending i.lists i.stack)) _ i.stack.size (levels_used i.lists (pending i.lists i.stack)) c.self.invariant.sized.levels
     ∙ ap (λ (v : HeldLists). refused v.sizes (level_held v ∷ [])) c.self.view_is
 
-pub returns-clause-all_lists : goal.returns-clause-all_lists
-returns-clause-all_lists c =
+pub returns-clause-keeps : goal.returns-clause-keeps
+returns-clause-keeps c =
     let i = c.self.inside in
     let e = c.room.ensures in
     settled_macros i.lists c.room.new.lists i.stack c.room.new.self i.making i.builds.items (named i.table i.call) i.sizes _ c.self.invariant e.stands e.account e.kept e.lasting e.size e.parameter_size e.after c.args.self.now c.self.view_is

@@ -31,8 +31,8 @@ returns-clause-ok c =
     ∙ named_groups c.args.global c.args.self.now c.args.name n c.in_ok-loc.loc c.assign.new.lists c.in_ok-loc.ensures.place
     ∙ ap (λ (m : Meaning (Option ℕ)). record c.args.self.now { groups = set_name c.args.global c.args.self.now.groups c.args.name m; lists = texts c.assign.new.lists }) c.without_list.ensures
 
-pub returns-clause-all_lists : goal.returns-clause-all_lists
-returns-clause-all_lists c =
+pub returns-clause-keeps : goal.returns-clause-keeps
+returns-clause-keeps c =
     let i = c.self.inside in
     let n : Meaning (Option ℕ) = numbered_meaning c.without_list.result in
     let e = c.assign.ensures in

@@ -19,8 +19,8 @@ returns-clause-ok c =
     let e = c.assign.ensures in
     let_view i.lists i.lists c.assign.new.lists i.stack (named i.table i.call) (named c.assign.new.table i.call) i.making i.builds.items i.sizes _ c.self.invariant c.args.self.now c.self.view_is (val.Tokens None) (λ h. omega arith) (λ h. refl) (record { tokens = λ h l. refl; places = λ h l. refl }) refl c.args.global c.args.loc e.after refl (record { moves = e.account; keeps = e.kept; lasting = e.lasting; fewer = e.fewer; size = e.length })
 
-pub returns-clause-all_lists : goal.returns-clause-all_lists
-returns-clause-all_lists c =
+pub returns-clause-keeps : goal.returns-clause-keeps
+returns-clause-keeps c =
     let i = c.self.inside in
     let e = c.assign.ensures in
     let_macros i.lists i.lists c.assign.new.lists i.stack (named i.table i.call) (named c.assign.new.table i.call) i.making i.builds.items i.sizes _ c.self.invariant c.args.self.now c.self.view_is (val.Tokens None) (λ h. omega arith) (λ h. refl) (record { tokens = λ h l. refl; places = λ h l. refl }) refl c.args.global c.args.loc e.after refl (record { moves = e.account; keeps = e.kept; lasting = e.lasting; fewer = e.fewer; size = e.length })

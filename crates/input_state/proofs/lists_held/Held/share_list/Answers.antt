@@ -38,8 +38,8 @@ returns-clause-ok c =
     let_view i.lists c.shared-value.new.lists c.assign.new.lists i.stack (named i.table i.call) (named c.assign.new.table i.call) i.making i.builds.items i.sizes _ c.self.invariant c.args.self.now c.self.view_is (numbered_value c.shared-value.result) (λ h. omega (arith, c.get-from.ensures.held h, ap (λ (v : V). val_holds v h) (t.same ∙ sym c.get-from.ensures.value))) t.account t.kept (shared_size i.lists c.shared-value.new.lists _ t.after) c.args.global c.args.loc e.after refl (record { moves = e.account; keeps = e.kept; lasting = e.lasting; fewer = e.fewer; size = e.length })
     ∙ ap (λ (v : V). let w : HeldLists = record c.args.self.now { groups = set c.args.global c.args.self.now.groups c.args.loc v; lists = texts c.assign.new.lists } in w) (t.same ∙ ap (λ (w : HeldLists). get w.groups.now c.args.from) c.self.view_is)
 
-pub returns-clause-all_lists : goal.returns-clause-all_lists
-returns-clause-all_lists c =
+pub returns-clause-keeps : goal.returns-clause-keeps
+returns-clause-keeps c =
     let i = c.self.inside in
     let t = c.shared-value.ensures in
     let e = c.assign.ensures in

@@ -43,17 +43,17 @@ returns-clause-refused c =
     (omega (arith, c.if-cut-len.false, c.len.ensures, i.buffer.ok.0, t.size))
     ∙ sym c.room.ensures.refused ∙ c.in_default.is
 
-pub returns-in-Some-clause-all_lists : goal.returns-in-Some-clause-all_lists
-returns-in-Some-clause-all_lists c =
+pub returns-in-Some-clause-keeps : goal.returns-in-Some-clause-keeps
+returns-in-Some-clause-keeps c =
     let i = c.self.inside in
-    keeps i.held c.room.new.self i.buffer.items i.buffer.items i.files i.files c.args.self.now c.self.view_is c.room.ensures.all_lists
+    keeps i.held c.room.new.self i.buffer.items i.buffer.items i.files i.files c.args.self.now c.self.view_is c.room.ensures.keeps
 
-pub returns-clause-all_lists : goal.returns-clause-all_lists
-returns-clause-all_lists c =
+pub returns-clause-keeps : goal.returns-clause-keeps
+returns-clause-keeps c =
     let i = c.self.inside in
     let buffer = with_items i.buffer c.put_line-length.new.buffer in
     keeps i.held c.open_file.new.self i.buffer.items buffer.items i.files c.begin.new.self c.args.self.now c.self.view_is
-    (held_twice i.held c.room.new.self c.open_file.new.self c.room.ensures.all_lists c.open_file.ensures.all_lists (ap (λ (w : HeldLists). w.groups) c.in-Ok.ensures.ok) (ap puts_held c.in-Ok.ensures.ok))
+    (held_twice i.held c.room.new.self c.open_file.new.self c.room.ensures.keeps c.open_file.ensures.keeps (ap (λ (w : HeldLists). w.groups) c.in-Ok.ensures.ok) (ap puts_held c.in-Ok.ensures.ok))
 
 pub returns-clause-ok : goal.returns-clause-ok
 returns-clause-ok c =

@@ -8,10 +8,10 @@ use Rattle.input_state.specs.Stored.{Stored, call_refusal}
 use Rattle.input_state.proofs.Joined.{keeps, call_refused}
 use Rattle.input_state.proofs.state.Input.call_at_once.Goals as goal
 
-pub returns-clause-all_lists : goal.returns-clause-all_lists
-returns-clause-all_lists c =
+pub returns-clause-keeps : goal.returns-clause-keeps
+returns-clause-keeps c =
     let i = c.self.inside in
-    keeps i.held c.call_at_once.new.self i.buffer.items i.buffer.items i.files i.files c.args.self.now c.self.view_is c.call_at_once.ensures.all_lists
+    keeps i.held c.call_at_once.new.self i.buffer.items i.buffer.items i.files i.files c.args.self.now c.self.view_is c.call_at_once.ensures.keeps
 
 pub returns-clause-refused : goal.returns-clause-refused
 returns-clause-refused c =

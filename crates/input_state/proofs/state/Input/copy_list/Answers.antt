@@ -8,10 +8,10 @@ use Rattle.std.proofs.lemmas.Result.{IfErr-weaker}
 use Rattle.input_state.proofs.Joined.{keeps, words_are_held, stops_short}
 use Rattle.input_state.proofs.state.Input.copy_list.Goals as goal
 
-pub returns-clause-all_lists : goal.returns-clause-all_lists
-returns-clause-all_lists c =
+pub returns-clause-keeps : goal.returns-clause-keeps
+returns-clause-keeps c =
     let i = c.self.inside in
-    keeps i.held c.copy_list.new.self i.buffer.items i.buffer.items i.files i.files c.args.self.now c.self.view_is c.copy_list.ensures.all_lists
+    keeps i.held c.copy_list.new.self i.buffer.items i.buffer.items i.files i.files c.args.self.now c.self.view_is c.copy_list.ensures.keeps
 
 pub returns-clause-fits : goal.returns-clause-fits
 returns-clause-fits c =

@@ -7,10 +7,10 @@ use Rattle.input_state.proofs.Sounds.{ok_of}
 use Rattle.input_state.proofs.Joined.{keeps, defined}
 use Rattle.input_state.proofs.state.Input.define.Goals as goal
 
-pub returns-clause-all_lists : goal.returns-clause-all_lists
-returns-clause-all_lists c =
+pub returns-clause-keeps : goal.returns-clause-keeps
+returns-clause-keeps c =
     let i = c.self.inside in
-    keeps i.held c.define.new.self i.buffer.items i.buffer.items i.files i.files c.args.self.now c.self.view_is c.define.ensures.all_lists
+    keeps i.held c.define.new.self i.buffer.items i.buffer.items i.files i.files c.args.self.now c.self.view_is c.define.ensures.keeps
 
 pub returns-clause-defines : goal.returns-clause-defines
 returns-clause-defines c =

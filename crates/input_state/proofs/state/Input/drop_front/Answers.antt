@@ -19,11 +19,11 @@ invariant_of-self c =
     let e = c.drop_front.ensures in
     read_tied i.held c.drop_front.new.self i.buffer.items buffer.items i.files [] e.after e.further (sym buffer.ok.0 ∙ i.buffer.ok.0) c.self.invariant
 
-pub returns-clause-all_lists : goal.returns-clause-all_lists
-returns-clause-all_lists c =
+pub returns-clause-keeps : goal.returns-clause-keeps
+returns-clause-keeps c =
     let i = c.self.inside in
     let buffer = with_items i.buffer c.drop_front.new.bytes in
-    keeps i.held c.drop_front.new.self i.buffer.items buffer.items i.files i.files c.args.self.now c.self.view_is c.drop_front.ensures.all_lists
+    keeps i.held c.drop_front.new.self i.buffer.items buffer.items i.files i.files c.args.self.now c.self.view_is c.drop_front.ensures.keeps
 
 pub returns-clause-outer : goal.returns-clause-outer
 returns-clause-outer c =

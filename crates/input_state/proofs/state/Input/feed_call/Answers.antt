@@ -8,10 +8,10 @@ use Rattle.input_state.specs.Stored.{Stored, words}
 use Rattle.input_state.proofs.Joined.{keeps, words_are_held}
 use Rattle.input_state.proofs.state.Input.feed_call.Goals as goal
 
-pub returns-clause-all_lists : goal.returns-clause-all_lists
-returns-clause-all_lists c =
+pub returns-clause-keeps : goal.returns-clause-keeps
+returns-clause-keeps c =
     let i = c.self.inside in
-    keeps i.held c.feed_call.new.self i.buffer.items i.buffer.items i.files i.files c.args.self.now c.self.view_is c.feed_call.ensures.all_lists
+    keeps i.held c.feed_call.new.self i.buffer.items i.buffer.items i.files i.files c.args.self.now c.self.view_is c.feed_call.ensures.keeps
 
 pub returns-clause-fits : goal.returns-clause-fits
 returns-clause-fits c =

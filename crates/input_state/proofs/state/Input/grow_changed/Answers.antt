@@ -10,10 +10,10 @@ use Rattle.std.proofs.lemmas.Result.{IfErr-weaker}
 use Rattle.input_state.proofs.Joined.{keeps, words_are_held, stops_short}
 use Rattle.input_state.proofs.state.Input.grow_changed.Goals as goal
 
-pub returns-clause-all_lists : goal.returns-clause-all_lists
-returns-clause-all_lists c =
+pub returns-clause-keeps : goal.returns-clause-keeps
+returns-clause-keeps c =
     let i = c.self.inside in
-    keeps i.held c.grow_changed.new.self i.buffer.items i.buffer.items i.files i.files c.args.self.now c.self.view_is c.grow_changed.ensures.all_lists
+    keeps i.held c.grow_changed.new.self i.buffer.items i.buffer.items i.files i.files c.args.self.now c.self.view_is c.grow_changed.ensures.keeps
 
 pub returns-clause-fits : goal.returns-clause-fits
 returns-clause-fits c =

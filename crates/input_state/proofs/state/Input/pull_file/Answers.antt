@@ -22,8 +22,8 @@ returns-in-Over-clause-ok c =
     ∙ ap (λ ss. FileOver (beneath ss)) (sym c.drop_front.ensures.outer)
     ∙ sym (ap (λ (v : Stored). FileOver v.pending) c.end_file.ensures)
 
-pub returns-in-Over-clause-all_lists : goal.returns-in-Over-clause-all_lists
-returns-in-Over-clause-all_lists c = over_keeps c.args.self.now c.drop_front.new.self c.end_file.new.self c.drop_front.ensures.all_lists c.drop_front.ensures.front c.end_file.ensures
+pub returns-in-Over-clause-keeps : goal.returns-in-Over-clause-keeps
+returns-in-Over-clause-keeps c = over_keeps c.args.self.now c.drop_front.new.self c.end_file.new.self c.drop_front.ensures.keeps c.drop_front.ensures.front c.end_file.ensures
 
 pub returns-in_ok-take_line-in-Line-clause-puts : goal.returns-in_ok-take_line-in-Line-clause-puts
 returns-in_ok-take_line-in-Line-clause-puts c = λ id.

@@ -27,6 +27,6 @@ pub pull_file-requires-clause-without_ended : goal.pull_file-requires-clause-wit
 pull_file-requires-clause-without_ended c =
     ap (λ (s : Stored). end_token_lists s.pending) c.end_token_lists.ensures.after ∙ settled_twice c.args.self.now.pending ∙ sym (ap (λ (s : Stored). s.pending) c.end_token_lists.ensures.after)
 
-pub returns-in-End-clause-all_lists : goal.returns-in-End-clause-all_lists
-returns-in-End-clause-all_lists c =
-    keeps_twice c.args.self.now c.end_token_lists.new.self c.pull_file.new.self c.end_token_lists.ensures.all_lists c.pull_file.ensures.all_lists (ap (λ (s : Stored). s.groups) c.pull_file.ensures.others) c.pull_file.ensures.puts
+pub returns-in-End-clause-keeps : goal.returns-in-End-clause-keeps
+returns-in-End-clause-keeps c =
+    keeps_twice c.args.self.now c.end_token_lists.new.self c.pull_file.new.self c.end_token_lists.ensures.keeps c.pull_file.ensures.keeps (ap (λ (s : Stored). s.groups) c.pull_file.ensures.others) c.pull_file.ensures.puts

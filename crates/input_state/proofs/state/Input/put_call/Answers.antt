@@ -4,10 +4,10 @@ use Rattle.input_state.specs.Stored.{Stored, put_refusal}
 use Rattle.input_state.proofs.Joined.{keeps, put_refused, refused_same}
 use Rattle.input_state.proofs.state.Input.put_call.Goals as goal
 
-pub returns-clause-all_lists : goal.returns-clause-all_lists
-returns-clause-all_lists c =
+pub returns-clause-keeps : goal.returns-clause-keeps
+returns-clause-keeps c =
     let i = c.self.inside in
-    keeps i.held c.put_call.new.self i.buffer.items i.buffer.items i.files i.files c.args.self.now c.self.view_is c.put_call.ensures.all_lists
+    keeps i.held c.put_call.new.self i.buffer.items i.buffer.items i.files i.files c.args.self.now c.self.view_is c.put_call.ensures.keeps
 
 pub returns-clause-refused : goal.returns-clause-refused
 returns-clause-refused c =

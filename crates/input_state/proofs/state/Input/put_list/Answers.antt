@@ -4,10 +4,10 @@ use Rattle.input_state.specs.Stored.{Stored, call_refusal}
 use Rattle.input_state.proofs.Joined.{keeps, call_refused, refused_same}
 use Rattle.input_state.proofs.state.Input.put_list.Goals as goal
 
-pub returns-clause-all_lists : goal.returns-clause-all_lists
-returns-clause-all_lists c =
+pub returns-clause-keeps : goal.returns-clause-keeps
+returns-clause-keeps c =
     let i = c.self.inside in
-    keeps i.held c.put_list.new.self i.buffer.items i.buffer.items i.files i.files c.args.self.now c.self.view_is c.put_list.ensures.all_lists
+    keeps i.held c.put_list.new.self i.buffer.items i.buffer.items i.files i.files c.args.self.now c.self.view_is c.put_list.ensures.keeps
 
 pub returns-clause-refused : goal.returns-clause-refused
 returns-clause-refused c =

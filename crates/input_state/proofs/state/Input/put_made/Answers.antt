@@ -8,17 +8,17 @@ returns-in-Some-clause-refused c =
     let i = c.self.inside in
     sym (level_refused i.held i.buffer.items i.files c.args.self.now c.self.view_is c.self.invariant) ∙ sym c.room.ensures.refused ∙ c.in-Some.is
 
-pub returns-in-Some-clause-all_lists : goal.returns-in-Some-clause-all_lists
-returns-in-Some-clause-all_lists c =
+pub returns-in-Some-clause-keeps : goal.returns-in-Some-clause-keeps
+returns-in-Some-clause-keeps c =
     let i = c.self.inside in
-    keeps i.held c.room.new.self i.buffer.items i.buffer.items i.files i.files c.args.self.now c.self.view_is c.room.ensures.all_lists
+    keeps i.held c.room.new.self i.buffer.items i.buffer.items i.files i.files c.args.self.now c.self.view_is c.room.ensures.keeps
 
 pub returns-clause-refused : goal.returns-clause-refused
 returns-clause-refused c =
     let i = c.self.inside in
     sym (level_refused i.held i.buffer.items i.files c.args.self.now c.self.view_is c.self.invariant) ∙ sym c.room.ensures.refused ∙ c.in_default.is
 
-pub returns-clause-all_lists : goal.returns-clause-all_lists
-returns-clause-all_lists c =
+pub returns-clause-keeps : goal.returns-clause-keeps
+returns-clause-keeps c =
     let i = c.self.inside in
-    made_keeps i.held c.room.new.self c.put_made.new.self i.buffer.items i.files c.args.self.now (made c.room.new.self.making) c.self.view_is c.room.ensures.all_lists c.put_made.ensures.all_lists c.put_made.ensures.after
+    made_keeps i.held c.room.new.self c.put_made.new.self i.buffer.items i.files c.args.self.now (made c.room.new.self.making) c.self.view_is c.room.ensures.keeps c.put_made.ensures.keeps c.put_made.ensures.after

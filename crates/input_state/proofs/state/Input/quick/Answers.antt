@@ -18,7 +18,7 @@ returns-clause-room c =
     let i = c.self.inside in
     some_room i.held c.quick.new.self i.buffer.items i.files c.args.self.now c.self.view_is (rooms_length i.held.below i.files.files c.self.invariant.lines) c.quick.result c.quick.ensures.gives
 
-pub returns-clause-all_lists : goal.returns-clause-all_lists
-returns-clause-all_lists c =
+pub returns-clause-keeps : goal.returns-clause-keeps
+returns-clause-keeps c =
     let i = c.self.inside in
-    keeps i.held c.quick.new.self i.buffer.items i.buffer.items i.files i.files c.args.self.now c.self.view_is c.quick.ensures.all_lists
+    keeps i.held c.quick.new.self i.buffer.items i.buffer.items i.files i.files c.args.self.now c.self.view_is c.quick.ensures.keeps

@@ -24,8 +24,8 @@ returns-clause-refused c =
     let i = c.self.inside in
     front_refused i.held c.deref_mut.result.now i.files c.args.self.now (ap (λ (b : List ℕ). stored_of i.held b i.files) c.deref_mut.ensures.value ∙ c.self.view_is) (rooms_length i.held.below i.files.files c.self.invariant.lines) c.pull.result c.pull.ensures.refused
 
-pub returns-clause-all_lists : goal.returns-clause-all_lists
-returns-clause-all_lists c =
+pub returns-clause-keeps : goal.returns-clause-keeps
+returns-clause-keeps c =
     let i = c.self.inside in
     let buffer = with_items i.buffer c.pull.new.bytes in
-    keeps i.held c.pull.new.self i.buffer.items buffer.items i.files i.files c.args.self.now c.self.view_is c.pull.ensures.all_lists
+    keeps i.held c.pull.new.self i.buffer.items buffer.items i.files i.files c.args.self.now c.self.view_is c.pull.ensures.keeps

@@ -7,10 +7,10 @@ use Rattle.input_state.proofs.Sounds.{ok_of}
 use Rattle.input_state.proofs.Joined.{keeps, listed}
 use Rattle.input_state.proofs.state.Input.set_list.Goals as goal
 
-pub returns-clause-all_lists : goal.returns-clause-all_lists
-returns-clause-all_lists c =
+pub returns-clause-keeps : goal.returns-clause-keeps
+returns-clause-keeps c =
     let i = c.self.inside in
-    keeps i.held c.set_list.new.self i.buffer.items i.buffer.items i.files i.files c.args.self.now c.self.view_is c.set_list.ensures.all_lists
+    keeps i.held c.set_list.new.self i.buffer.items i.buffer.items i.files i.files c.args.self.now c.self.view_is c.set_list.ensures.keeps
 
 pub returns-clause-sets : goal.returns-clause-sets
 returns-clause-sets c =

@@ -39,12 +39,12 @@ drop_front-requires-clause-in_buffer c =
     let i = c.self.inside in
     rooms_in i.held.below i.files.files (length c.deref_mut.result.now) c.self.invariant.lines (omega (arith, c.self.invariant.room, ap length c.deref_mut.ensures.value))
 
-pub returns-clause-all_lists : goal.returns-clause-all_lists
-returns-clause-all_lists c =
+pub returns-clause-keeps : goal.returns-clause-keeps
+returns-clause-keeps c =
     let i = c.self.inside in
     let buffer = with_items (with_items i.buffer c.drop_front.new.bytes) c.put_line-length.new.buffer in
     keeps i.held c.begin_line.new.self i.buffer.items buffer.items i.files c.pass_line.new.self c.args.self.now c.self.view_is
-    (line_keeps i.held c.drop_front.new.self c.begin_line.new.self c.line_start.result c.begin_line.ensures c.drop_front.ensures.all_lists)
+    (line_keeps i.held c.drop_front.new.self c.begin_line.new.self c.line_start.result c.begin_line.ensures c.drop_front.ensures.keeps)
 
 some_files : (h : HeldLists) (b : List ℕ) (f : FilesLeft) (s : Stored) → stored_of h b f ≡ s → s.pending.file ≡ Begun → 0 < length f.files
 some_files h b f s is begun = begun_some f.files (ap (λ (v : Stored). v.pending.file) is ∙ begun)

@@ -4,13 +4,13 @@ use Rattle.input_state.specs.HeldLists.{ahead_of}
 use Rattle.input_state.specs.NextBytes.{InFront}
 use Rattle.input_state.specs.Stored.{Stored}
 use Rattle.input_state.proofs.Readies.{in_front, token_comes}
-use Rattle.input_state.proofs.state.Input.is_at_hand.Goals as goal
+use Rattle.input_state.proofs.state.Input.has_item.Goals as goal
 
 pub returns-clause-knows : goal.returns-clause-knows
 returns-clause-knows c = λ hand.
     let i = c.self.inside in
     let s = c.args.self.now in
-    let e : ahead_of s.groups.now.categories s.pending ≡ ahead.Token = ap (λ (v : Stored). ahead_of v.groups.now.categories v.pending) (sym c.self.view_is) ∙ c.is_at_hand.ensures hand i.buffer.items i.files.files i.files.next in
+    let e : ahead_of s.groups.now.categories s.pending ≡ ahead.Token = ap (λ (v : Stored). ahead_of v.groups.now.categories v.pending) (sym c.self.view_is) ∙ c.has_item.ensures hand i.buffer.items i.files.files i.files.next in
     InFront (in_front s.groups.now.categories s.pending (λ h.
     let k : ahead.Token ≡ ahead.End = sym e ∙ h in
     cc))
@@ -19,5 +19,5 @@ pub returns-clause-step : goal.returns-clause-step
 returns-clause-step c = λ hand.
     let i = c.self.inside in
     let s = c.args.self.now in
-    let e : ahead_of s.groups.now.categories s.pending ≡ ahead.Token = ap (λ (v : Stored). ahead_of v.groups.now.categories v.pending) (sym c.self.view_is) ∙ c.is_at_hand.ensures hand i.buffer.items i.files.files i.files.next in
+    let e : ahead_of s.groups.now.categories s.pending ≡ ahead.Token = ap (λ (v : Stored). ahead_of v.groups.now.categories v.pending) (sym c.self.view_is) ∙ c.has_item.ensures hand i.buffer.items i.files.files i.files.next in
     token_comes s.groups.now.categories s.pending e
