@@ -247,6 +247,7 @@ impl Engine {
 
     /// A token that was read: it, or the space in place of the name of an `\outer` macro, which doesn't come into what is
     /// scanned; or none, where the report of that was the hundredth.
+    #[inline(always)]
     pub(crate) fn meet<S: Sink>(
         &mut self,
         out: &mut S,

@@ -51,7 +51,7 @@ impl Engine {
         ensures did { OnOk result (Copies self.old → (sizes : Sizes) (w : World) (book : Book) → Stands sizes self.old book → Did sizes (state_of self.old book) (state_of self.new (with_list self.old loc book)) w w (list_given (page_of self.old book) true (list_number (page_of self.old book) loc))) }
         ensures refused { IfErr result (λ full. Copies self.old → CutsFree self.old self.new (λ page. list_given page true (list_number page loc)) (broken.Full full)) }
         ensures only { self.new ≡ record self.old { input = record self.old.input { builds = self.new.input.builds; lists = self.new.input.lists } } }
-        ensures all_lists { KeepsShared self.old.input self.new.input }
+        ensures keeps { KeepsShared self.old.input self.new.input }
     {
         if self.input.has_list() {
             self.input.copy_list(loc)?;

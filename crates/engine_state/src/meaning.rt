@@ -17,6 +17,7 @@ pub fn name_of(token: Token) -> Name
 }
 
 /// Whether it is the name of an `\outer` macro.
+#[inline(always)]
 pub fn is_outer(x: Seen) -> bool
     ensures { result ≡ tokens.is_outer x.meaning }
 {

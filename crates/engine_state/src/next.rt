@@ -70,6 +70,7 @@ impl Engine {
     ///
     /// # Errors
     /// There is no room for what comes, or a write failed: the engine stands for the moment before.
+    #[inline(always)]
     pub fn next_token<S: Sink>(&mut self, out: &mut S, enters: bool) -> Result<Next, Broken>
         requires idle { self.old.input.making ≡ None }
         requires running { self.old.stopped ≡ false }
@@ -88,6 +89,7 @@ impl Engine {
     }
 
     /// The next token or line; no stop is noted.
+    #[inline(always)]
     fn next_reading<S: Sink>(&mut self, out: &mut S, enters: bool) -> Result<Next, Broken>
         requires idle { self.old.input.making ≡ None }
         ensures light { IfOk result (λ next. IsSkipped next → weight self.new < weight self.old) }
@@ -125,6 +127,7 @@ impl Engine {
 }
 
 /// Whether the run has stopped, by what the next reading came to.
+#[inline(always)]
 fn has_stopped(next: &Result<Next, Broken>) -> bool
     ensures { MatchResult next.now (λ next. result ≡ ends_run next) (λ _. result ≡ true) }
 {
@@ -132,6 +135,7 @@ fn has_stopped(next: &Result<Next, Broken>) -> bool
 }
 
 /// A token that was met, or that a check ended the run.
+#[inline(always)]
 fn met_next(met: Option<Seen>) -> Next
     ensures { result ≡ next_met met }
 {

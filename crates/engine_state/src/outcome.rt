@@ -37,6 +37,7 @@ pub enum Ruled {
 }
 
 /// Whether the run has stopped, by what a rule came to.
+#[inline(always)]
 pub fn stops(ruled: &Result<Ruled, Broken>) -> bool
     ensures { MatchResult ruled.now (λ ruled. result ≡ stops_run ruled) (λ _. result ≡ true) }
 {

@@ -145,6 +145,7 @@ impl Engine {
     ///
     /// # Errors
     /// The main memory is full before a token that goes into its list; one in front of it may be there, and the frame stands as before.
+    #[inline(always)]
     pub fn feed(&mut self, x: Seen) -> Result<(), Full>
         ensures stands { OnOk result ((sizes : Sizes) (book : Book) → Stands sizes self.old book → Stands sizes self.new (with_work (fed_with (Tok x) book.work) book)) }
         ensures did { OnOk result ((sizes : Sizes) (w : World) (book : Book) (r : Reading) (rs : List Reading) → Stands sizes self.old (with_work (r ∷ rs) book) → Did sizes (state_of self.old (with_work (r ∷ rs) book)) (state_of self.new (with_work (fed_with (Tok x) (r ∷ rs)) book)) w w (feeds_of (r ∷ rs) x)) }
@@ -274,7 +275,7 @@ impl Engine {
         ensures ok { OnOk result (self.new ≡ record self.old { input = record self.old.input { builds = opened_lists opening self.old.input.builds; lists = self.new.input.lists } }) }
         ensures fits { OnOk result (refused self.old.input.sizes (memory (length (opened_lists opening [])) (stored_words self.old.input) ∷ []) ≡ None) }
         ensures refused { IfErr result (λ full. refused self.old.input.sizes (memory (length (opened_lists opening [])) (stored_words self.old.input) ∷ []) ≡ Some full) }
-        ensures all_lists { KeepsShared self.old.input self.new.input }
+        ensures keeps { KeepsShared self.old.input self.new.input }
         ensures err { OnErr result (self.new ≡ self.old) }
     {
         match opening {
@@ -309,7 +310,7 @@ impl Engine {
     /// Begins the list of a reading, if it has one from the beginning, with these tokens. There is room for it.
     fn begin_grown(&mut self, opening: Opening, grown: Grown)
         ensures only { self.new ≡ record self.old { input = record self.old.input { builds = self.new.input.builds; lists = self.new.input.lists } } }
-        ensures all_lists { KeepsShared self.old.input self.new.input }
+        ensures keeps { KeepsShared self.old.input self.new.input }
         ensures grows { (sizes : Sizes) (book : Book) → IsSound sizes self.old book.number book.all_lists → self.old.input.call ≡ NotCalling → HasTop opening grown → refused self.old.sizes (memory (length (opened_lists opening []) + token_count grown) (stored_words self.old.input) ∷ []) ≡ None → self.new.input.builds ≡ on_top grown (opened_lists opening self.old.input.builds) }
     {
         let _begun = self.begin_list(opening);
@@ -335,10 +336,11 @@ impl Engine {
     }
 
     /// The list on top gets these tokens, if there is one.
+    #[inline(always)]
     fn take(&mut self, grown: Grown) -> Result<(), Full>
         ensures ok { OnOk result (self.new ≡ record self.old { input = record self.old.input { builds = with_tokens grown self.old.input.builds; lists = self.new.input.lists } }) }
         ensures only { self.new ≡ record self.old { input = record self.old.input { builds = self.new.input.builds; lists = self.new.input.lists } } }
-        ensures all_lists { KeepsShared self.old.input self.new.input }
+        ensures keeps { KeepsShared self.old.input self.new.input }
         ensures fits { OnOk result (TokensFit grown self.old.input) }
         ensures err { IfErr result (λ full. TokensCut grown full self.old self.new) }
     {
@@ -348,9 +350,10 @@ impl Engine {
     }
 
     /// A token, if there is one, goes onto the list on top, if there is one.
+    #[inline(always)]
     fn grow(&mut self, token: Option<Token>) -> Result<(), Full>
         ensures ok { OnOk result (self.new ≡ record self.old { input = record self.old.input { builds = with_token token self.old.input.builds; lists = self.new.input.lists } }) }
-        ensures all_lists { KeepsShared self.old.input self.new.input }
+        ensures keeps { KeepsShared self.old.input self.new.input }
         ensures fits { OnOk result (IsSome token → (self.old.input.builds ≡ [] → ⊥) → refused self.old.input.sizes (memory 1 (stored_words self.old.input) ∷ []) ≡ None) }
         ensures grows { OnErr result (IsSome token × (self.old.input.builds ≡ [] → ⊥)) }
         ensures refused { IfErr result (λ full. refused self.old.input.sizes (memory 1 (stored_words self.old.input) ∷ []) ≡ Some full) }
@@ -375,7 +378,7 @@ impl Engine {
     /// The list on top goes, if there is one.
     fn drop_top(&mut self)
         ensures after { self.new ≡ record self.old { input = record self.old.input { builds = drop 1 self.old.input.builds; lists = self.new.input.lists } } }
-        ensures all_lists { KeepsShared self.old.input self.new.input }
+        ensures keeps { KeepsShared self.old.input self.new.input }
     {
         if self.input.has_list() {
             self.input.drop_list();

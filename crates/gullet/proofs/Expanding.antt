@@ -166,9 +166,6 @@ module _ (sizes : Sizes) (want : Option Want) (e e' : Engine) (book : Book) (w w
 pub stayed : (n : Once) → n ≡ once.Stays → IsStayed n
 stayed n is = subst IsStayed (sym is) tt
 
-pub once_stays : (want : Option Want) (x : Seen) (n : Once) → n ≡ once.Stays → changes n ≡ expands x.meaning → Stays want x
-once_stays want x n is which = stays_by want x (sym which ∙ ap changes is)
-
 pub stays_expands : (sizes : Sizes) (want : Option Want) (e e' : Engine) (book : Book) (f : FilesTold) (s s' : SinkTold) (x : Seen) → e' ≡ e → s' ≡ s → Takes sizes want e book → Stays want x →
     Expands sizes want (state_of e book) e' book (world_of f s e) (world_of f s' e') (onward_of (page_of e book) want book.work x) x (Unexpandable x)
 stays_expands sizes want e e' book f s s' x same silent takes stays =

@@ -71,7 +71,7 @@ fn begin_call(engine: &mut Engine, name: Name, long: bool) -> Result<(), Full>
     ensures err { OnErr result (engine.new ≡ engine.old) }
     ensures column { engine.new.in_line ≡ engine.old.in_line }
     ensures idle { engine.new.input.making ≡ engine.old.input.making }
-    ensures all_lists { KeepsShared engine.old.input engine.new.input }
+    ensures keeps { KeepsShared engine.old.input engine.new.input }
 {
     if let Some(full) = engine.depth_refusal() {
         return Err(full);

@@ -151,6 +151,17 @@ fn primitive_expansion(token: Token, number: u16) -> Expansion
     }
 }
 
+/// Whether a token of this meaning is expanded.
+fn expands(meaning: Meaning<()>) -> bool
+    ensures { result ≡ expands meaning }
+{
+    match meaning {
+        Meaning::Undefined | Meaning::Macro { .. } => true,
+        Meaning::Prim(number) => is_expandable(number),
+        _ => false,
+    }
+}
+
 /// What becomes of a token by expansion.
 fn expansion_of(seen: Seen) -> Expansion
     ensures to { (page : Page) (moves : List Move) → ExpandsTo result page moves (expanded page seen moves) }
@@ -293,9 +304,13 @@ fn expand<S: Sink>(
     if is_raw(want) {
         return Ok(Stepped::Unexpandable(seen));
     }
+    // Most tokens of a text aren't expanded: known here, before `expand_once` is called, whose cases cost more.
+    if !expands(seen.meaning) {
+        return Ok(Stepped::Unexpandable(seen));
+    }
     match expand_once(engine, out, seen)? {
         Once::Expanded => Ok(Stepped::More),
-        Once::Stays => Ok(Stepped::Unexpandable(seen)),
+        Once::Stays => unreachable!(),
         Once::Over(outcome) => Ok(Stepped::Over(outcome)),
     }
 }

@@ -55,7 +55,7 @@ fn take_token(engine: &mut Engine, seen: Seen) -> Result<CallTold, Full>
     ensures fed { OnErr result (call_work engine.new.input.call ≡ None → engine.new.last ≡ seen) }
     ensures unfed { OnErr result ((work : List Token) → call_work engine.new.input.call ≡ Some work → engine.new.last ≡ engine.old.last) }
     ensures others { engine.new ≡ record engine.old { last = engine.new.last; input = record engine.old.input { call = engine.new.input.call; lists = engine.new.input.lists } } }
-    ensures all_lists { KeepsShared engine.old.input engine.new.input }
+    ensures keeps { KeepsShared engine.old.input engine.new.input }
 {
     let told = engine.input.feed_call(seen.token);
     if told.is_ok() || engine.input.call_list().is_none() {

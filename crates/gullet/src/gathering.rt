@@ -115,7 +115,7 @@ fn put_call(engine: &mut Engine) -> Result<(), Full>
     ensures light { OnOk result ((call : Call) → engine.old.call ≡ Some call → call_asks_more call.ask ≡ false → weight engine.new < weight engine.old) }
     ensures refused { IfErr result (λ full. put_refusal (put_of engine.old.input.lists engine.old.input.groups.now.meanings engine.old.input.call) engine.old.input ≡ Some full) }
     ensures err { OnErr result (engine.new ≡ record engine.old { input = record engine.old.input { pending = end_token_lists engine.old.input.pending; lists = engine.new.input.lists } }) }
-    ensures all_lists { KeepsShared engine.old.input engine.new.input }
+    ensures keeps { KeepsShared engine.old.input engine.new.input }
     ensures idle { engine.new.input.making ≡ engine.old.input.making }
     ensures column { engine.new.in_line ≡ engine.old.in_line }
 {
@@ -203,7 +203,7 @@ fn go_on_behind_brace(engine: &mut Engine, name: Name)
 /// The call ends without its arguments, and its lists go.
 fn close_call(engine: &mut Engine)
     ensures after { engine.new ≡ record engine.old { call = None; input = record engine.old.input { call = NotCalling; lists = engine.new.input.lists } } }
-    ensures all_lists { KeepsShared engine.old.input engine.new.input }
+    ensures keeps { KeepsShared engine.old.input engine.new.input }
 {
     engine.input.drop_call();
     engine.call = None;

@@ -14,16 +14,18 @@ use world_io::{Fault, Files};
 /// How many bytes are read at once.
 const WINDOW: usize = 256;
 
-/// Whether the next rule is the step of a token at hand; `wants`: whether it wants a token. Then no byte of a file is needed for it.
+/// Whether the next rule is the step of a token that a list or a call has left; `wants`: whether it wants a token. Then no byte of a file is needed for it.
+#[inline(always)]
 pub fn has_token(engine: &Engine, wants: bool) -> bool
     requires { wants ≡ all_want engine.now.call (asked engine.now) }
     ensures knows { IsTrue result → (rs : List OpenReader) → Knows engine.now rs }
     ensures step { IsTrue result → needs_step engine.now ≡ true }
 {
-    engine.input.is_at_hand() && !engine.input.has_next() && wants
+    engine.input.has_item() && !engine.input.has_next() && wants
 }
 
 /// Whether the next rule needs bytes of a file that haven't come; `wants`: whether it wants a token.
+#[inline(always)]
 fn needs_bytes(engine: &Engine, readers: &Readers, wants: bool) -> bool
     requires { wants ≡ all_want engine.now.call (asked engine.now) }
     ensures { MatchBool result (Needs engine.now readers.now.readers) (AreTied readers.now engine.now → Knows engine.now readers.now.readers) }
@@ -68,6 +70,7 @@ fn read_window<F: Files>(
 ///
 /// # Errors
 /// A read failed or wanted memory, where no line of the file is whole.
+#[inline(always)]
 pub fn read_ahead<F: Files>(
     engine: &mut Engine,
     readers: &mut Readers,

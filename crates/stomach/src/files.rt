@@ -124,6 +124,7 @@ pub(crate) fn open_file<F: Files, S: Sink>(
 }
 
 /// The readers go of files that have ended.
+#[inline(always)]
 pub(crate) fn close_ended<F: Files>(engine: &Engine, readers: &mut Readers, files: &mut F)
     requires open { AreOpen readers.old.readers (F.told files.old) }
     ensures closed { ReadsTo readers.old.readers readers.new.readers (F.told files.old) (F.told files.new) (λ all left. AreGone all left (length readers.old.readers - length readers.new.readers)) }

@@ -21,6 +21,7 @@ impl Innermost {
     }
 
     /// Becomes that of an engine.
+    #[inline(always)]
     pub fn look(&mut self, engine: &Engine)
         ensures is { IsInnermost engine.now self.new }
         ensures wants { innermost_wants self.new ≡ all_want engine.now.call (asked engine.now) }
@@ -32,6 +33,7 @@ impl Innermost {
     }
 
     /// Whether it wants a token, as the stomach does where no reading is open.
+    #[inline(always)]
     pub fn wants_token(&self) -> bool
         ensures { result ≡ innermost_wants self.now }
     {
@@ -44,6 +46,7 @@ impl Innermost {
     }
 
     /// Whether the next rule opens a file: `\\input` has read its name.
+    #[inline(always)]
     pub fn opens_file(&self) -> bool
         ensures { result ≡ innermost_opens self.now }
     {

@@ -248,6 +248,7 @@ pub(crate) fn obey<S: Sink>(engine: &mut Engine, out: &mut S, x: Seen) -> Result
 }
 
 /// Whether a reading that wants a token so drops this one.
+#[inline(always)]
 fn is_dropped(want: Want, x: Seen) -> bool
     ensures { result ≡ plain_dropped want x }
 {
@@ -262,6 +263,7 @@ fn is_dropped(want: Want, x: Seen) -> bool
 ///
 /// # Errors
 /// There is no room for what comes, or a write failed: the engine stands for the moment before.
+#[inline(always)]
 pub(crate) fn hand_on<S: Sink>(
     engine: &mut Engine,
     out: &mut S,

@@ -28,6 +28,7 @@ pub enum Ended {
 }
 
 /// Whether the next rule needs a step; `wants`: whether it wants a token.
+#[inline(always)]
 fn needs_step(engine: &Engine, wants: bool) -> bool
     requires { wants ≡ all_want engine.now.call (asked engine.now) }
     ensures { result ≡ plain_needs_step engine.now }

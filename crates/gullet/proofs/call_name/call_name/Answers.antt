@@ -42,7 +42,7 @@ returns-in-None-clause-light c =
 
 pub returns-in-AtOnce-clause-ok : goal.returns-in-AtOnce-clause-ok
 returns-in-AtOnce-clause-ok c = let e = c.args.engine.now in let n = c.in_ok-call_at_once.ensures in let name = c.name_of-name.result in let is = sym n.kind ∙ c.in-AtOnce.is in
-    λ sizes w book st. called_went sizes e book c.args.token name c.name_of-name.ensures st (at_once_has e.input.lists (name_meaning e.input.groups.now.meanings name) is) _ w is (ap (λ (i : Stored). record e { input = i }) (n.ok c.in-AtOnce.is)) c.call_at_once.ensures.all_lists (n.refused c.in-AtOnce.is)
+    λ sizes w book st. called_went sizes e book c.args.token name c.name_of-name.ensures st (at_once_has e.input.lists (name_meaning e.input.groups.now.meanings name) is) _ w is (ap (λ (i : Stored). record e { input = i }) (n.ok c.in-AtOnce.is)) c.call_at_once.ensures.keeps (n.refused c.in-AtOnce.is)
 
 pub returns-in-AtOnce-clause-idle : goal.returns-in-AtOnce-clause-idle
 returns-in-AtOnce-clause-idle c = ap (λ (i : Stored). i.making) (c.in_ok-call_at_once.ensures.ok c.in-AtOnce.is)
@@ -80,7 +80,7 @@ returns-in-Gathers-clause-ok c = let was = c.args.engine.now in let same_input =
     let m = gathers_has e.input.lists (name_meaning e.input.groups.now.meanings name) is in
     let long = c.is_long-long.ensures m.long m.outer tt (ap (λ (x : Seen). x.meaning) c.seen.ensures ∙ ap seen_as m.meaning) in
     subst (λ (x : Engine). OnOk n.result (GoesFree x n.new.engine (λ (page : Page). called page c.args.token))) same
-    (on_both n.result (λ ok fits sizes w book st. begun_went sizes e book c.args.token name c.name_of-name.ensures st m c.is_long-long.result n.new.engine long ok n.ensures.all_lists w is (λ number. fits sizes book number (counts_of sizes e book st))) n.ensures.ok n.ensures.fits)
+    (on_both n.result (λ ok fits sizes w book st. begun_went sizes e book c.args.token name c.name_of-name.ensures st m c.is_long-long.result n.new.engine long ok n.ensures.keeps w is (λ number. fits sizes book number (counts_of sizes e book st))) n.ensures.ok n.ensures.fits)
 
 pub returns-in-Gathers-clause-err : goal.returns-in-Gathers-clause-err
 returns-in-Gathers-clause-err c = let was = c.args.engine.now in let same_input = c.in_ok-call_at_once.ensures.others (gathers_stays c.in_ok-call_at_once.field-0 c.in-Gathers.is) in

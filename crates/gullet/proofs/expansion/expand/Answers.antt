@@ -1,10 +1,11 @@
-use Rattle.std.proofs.Common.{◌≡◌, [], sym, ◌∙◌, false}
+use Rattle.std.proofs.Common.{◌≡◌, [], ap, refl, sym, ◌∙◌, false}
+use Rattle.std.proofs.lemmas.Bool.{true≢false}
 use Rattle.plain_machine.specs.Plan.{expanded}
 use Rattle.engine_state.specs.Rules.{world_of, onward_of}
 use Rattle.engine_state.specs.Stands.{state_of, page_of}
-use Rattle.gullet.specs.Stepping.{wants_raw}
+use Rattle.gullet.specs.Stepping.{changes, wants_raw}
 use Rattle.engine_state.proofs.Uncalled.{framed}
-use Rattle.gullet.proofs.Expanding.{onward_expands, went_expands, over_expands, once_stays, stays_expands, stayed}
+use Rattle.gullet.proofs.Expanding.{onward_expands, went_expands, over_expands, stays_by, stays_expands}
 use Rattle.engine_state.proofs.Joining.{same_err}
 use Rattle.engine_state.proofs.CuttingReadings.{in_by}
 use Rattle.gullet.proofs.expansion.expand.Goals as goal
@@ -24,11 +25,8 @@ returns-in-Expanded-clause-rule g c = let e = c.args.engine.now in let e2 = c.ex
     went_expands sizes c.args.want e e2 book (world_of f (g.S.Sink.told c.args.out.now) e) (world_of f (g.S.Sink.told c.expand_once.new.out) e2) x raw n.field-0 n.ensures.which c.in-Expanded.is
     (n.ensures.rule sizes f book [] (framed sizes e book c.requires.uncalled t.1))
 
-pub returns-in-Stays-clause-rule : goal.returns-in-Stays-clause-rule
-returns-in-Stays-clause-rule g c = let e = c.args.engine.now in let e2 = c.expand_once.new.engine in let n = c.in_ok-expand_once in let x = c.args.seen in
-    λ sizes f book t.
-    stays_expands sizes c.args.want e e2 book f (g.S.Sink.told c.args.out.now) (g.S.Sink.told c.expand_once.new.out) x (n.ensures.stays (stayed n.field-0 c.in-Stays.is)) (n.ensures.silent (stayed n.field-0 c.in-Stays.is)) t
-    (once_stays c.args.want x n.field-0 c.in-Stays.is n.ensures.which)
+pub unreachable-requires : goal.unreachable-requires
+unreachable-requires g c = let n = c.in_ok-expand_once in true≢false (sym c.if-not-expands.false ∙ c.expands.ensures ∙ sym n.ensures.which ∙ ap changes c.in-Stays.is)
 
 pub returns-in-Over-clause-rule : goal.returns-in-Over-clause-rule
 returns-in-Over-clause-rule g c = let e = c.args.engine.now in let e2 = c.expand_once.new.engine in let n = c.in_ok-expand_once in let x = c.args.seen in
@@ -36,3 +34,7 @@ returns-in-Over-clause-rule g c = let e = c.args.engine.now in let e2 = c.expand
     λ sizes f book t.
     over_expands sizes c.args.want e e2 book (world_of f (g.S.Sink.told c.args.out.now) e) (world_of f (g.S.Sink.told c.expand_once.new.out) e2) x raw n.field-0 n.ensures.which c.in-Over.outcome c.in-Over.is
     (n.ensures.rule sizes f book [] (framed sizes e book c.requires.uncalled t.1))
+
+pub returns-then-not-expands-clause-rule : goal.returns-then-not-expands-clause-rule
+returns-then-not-expands-clause-rule g c = let e = c.args.engine.now in let x = c.args.seen in let s = g.S.Sink.told c.args.out.now in
+    λ sizes f book t. stays_expands sizes c.args.want e e book f s s x refl refl t (stays_by c.args.want x (sym c.expands.ensures ∙ c.if-not-expands.true))

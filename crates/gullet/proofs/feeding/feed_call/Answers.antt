@@ -17,7 +17,7 @@ returns-then-not-is_taking-clause-ok c =
 pub returns-in_err-told-clause-err : goal.returns-in_err-told-clause-err
 returns-in_err-told-clause-err c = let t = c.take_token in let i = c.in_err-told in
     same_err c.from_residual.result i.field-0.0 _ c.from_residual.ensures.1
-    (λ sizes w book r rs is st. fed_cut sizes c.args.engine.now t.new.engine book r rs c.args.call.name c.args.seen i.field-0.0 w is st t.ensures.others t.ensures.all_lists t.ensures.within i.ensures.full i.ensures.fed i.ensures.unfed i.ensures.err)
+    (λ sizes w book r rs is st. fed_cut sizes c.args.engine.now t.new.engine book r rs c.args.call.name c.args.seen i.field-0.0 w is st t.ensures.others t.ensures.keeps t.ensures.within i.ensures.full i.ensures.fed i.ensures.unfed i.ensures.err)
 
 pub returns-clause-ok : goal.returns-clause-ok
 returns-clause-ok c = let t = c.take_token in let i = c.in_ok-told in let e = c.args.engine.now in
@@ -25,4 +25,4 @@ returns-clause-ok c = let t = c.take_token in let i = c.in_ok-told in let e = c.
     (ap (λ (y : Engine). record y { call = Some (record { name = c.args.call.name; ask = c.told_ask.result }) }) t.ensures.others
     ∙ ap (λ (x : Seen). record e { call = Some (record { name = c.args.call.name; ask = c.told_ask.result }); last = x; input = record e.input { call = t.new.engine.input.call; lists = t.new.engine.input.lists } }) i.ensures.last
     ∙ ap (λ (a : CallAsk). record e { call = Some (record { name = c.args.call.name; ask = a }); last = c.args.seen; input = record e.input { call = t.new.engine.input.call; lists = t.new.engine.input.lists } }) c.told_ask.ensures)
-    t.ensures.all_lists i.ensures.ok w i.ensures.fits t.ensures.within
+    t.ensures.keeps i.ensures.ok w i.ensures.fits t.ensures.within

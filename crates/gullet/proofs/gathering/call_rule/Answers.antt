@@ -78,13 +78,13 @@ pub returns-in-ParEnded-true-clause-rule : goal.returns-in-ParEnded-true-clause-
 returns-in-ParEnded-true-clause-rule g c = let e = c.args.engine.now in let n = c.close_call in let told = g.S.Sink.told c.args.out.now in
     let is = asks_this e c.args.call (asked.ParEnded true) c.requires.call (c.in-ParEnded-true.is ∙ ap asked.ParEnded (grind (arith, common_steps, c.in-ParEnded-true.field-0-test, c.in-ParEnded-true.field-0-is, c.in-ParEnded-true.is))) in
     λ sizes f. by_call sizes e _ (λ book plan. Went sizes (state_of e book) n.new.engine (world_of f told e) (world_of f told n.new.engine) plan 0) is
-    (λ book r rs st k. closed_went sizes e n.new.engine book r rs _ is st n.ensures.after n.ensures.all_lists (state_of e (with_work (r ∷ rs) book)) f told (world_of f told e) [] (did_none sizes (state_of e (with_work (r ∷ rs) book)) (world_of f told e)) refl)
+    (λ book r rs st k. closed_went sizes e n.new.engine book r rs _ is st n.ensures.after n.ensures.keeps (state_of e (with_work (r ∷ rs) book)) f told (world_of f told e) [] (did_none sizes (state_of e (with_work (r ∷ rs) book)) (world_of f told e)) refl)
 
 pub returns-in_ok-put_call-in-Gathered-clause-rule : goal.returns-in_ok-put_call-in-Gathered-clause-rule
 returns-in_ok-put_call-in-Gathered-clause-rule g c = let e = c.args.engine.now in let n = c.put_call in let i = c.in_ok-put_call-in-Gathered.ensures in let told = g.S.Sink.told c.args.out.now in
     let is = asks_this e c.args.call asked.Gathered c.requires.call c.in-Gathered.is in
     λ sizes f. by_call sizes e _ (λ book plan. Went sizes (state_of e book) n.new.engine (world_of f told e) (world_of f told n.new.engine) plan 0) is
-    (λ book r rs st k. put_rule sizes e n.new.engine book r rs c.args.call.name is st k i.ok n.ensures.all_lists i.fits f told)
+    (λ book r rs st k. put_rule sizes e n.new.engine book r rs c.args.call.name is st k i.ok n.ensures.keeps i.fits f told)
 
 pub returns-in_err-put_call-in-Gathered-clause-err : goal.returns-in_err-put_call-in-Gathered-clause-err
 returns-in_err-put_call-in-Gathered-clause-err g c = let e = c.args.engine.now in let n = c.put_call in let i = c.in_err-put_call-in-Gathered in let told = g.S.Sink.told c.args.out.now in

@@ -23,7 +23,7 @@ returns-then-not-branch-clause-rule g c =
 pub returns-clause-rule : goal.returns-clause-rule
 returns-clause-rule g c =
     let yes : c.in_ok-report.field-0 ≡ true = grind (arith, common_steps, c.if-not-branch.false) in let e = c.args.engine.now in let e1 = c.report.new.self in
-    λ sizes f book r rs call is st. failed_went sizes e e1 c.close_call.new.engine book r rs call f _ _ c.args.report is st c.report.ensures.frames c.report.ensures.input (c.in_ok-report.ensures.sized yes sizes) c.close_call.ensures.after c.close_call.ensures.all_lists
+    λ sizes f book r rs call is st. failed_went sizes e e1 c.close_call.new.engine book r rs call f _ _ c.args.report is st c.report.ensures.frames c.report.ensures.input (c.in_ok-report.ensures.sized yes sizes) c.close_call.ensures.after c.close_call.ensures.keeps
     (c.in_ok-report.ensures.on yes sizes f (with_work (r ∷ rs) book) (Closed ∷ []))
 
 pub returns-clause-light : goal.returns-clause-light

@@ -32,7 +32,7 @@ returns-in_err-define-clause-err c = let i = c.in_err-define in
 pub returns-clause-rule : goal.returns-clause-rule
 returns-clause-rule c = let i = c.in_ok-define.ensures in let n = c.end.ensures in
     λ sizes w book r rs st own.
-    macro_went sizes c.args.engine.now book w r rs c.args.call c.args.name c.is_global-global.result c.end.new.self c.define.new.self (c.is_global-global.ensures book) c.requires.token n.rest n.stands n.shallow i.ok i.defines i.all_lists i.refused st own
+    macro_went sizes c.args.engine.now book w r rs c.args.call c.args.name c.is_global-global.result c.end.new.self c.define.new.self (c.is_global-global.ensures book) c.requires.token n.rest n.stands n.shallow i.ok i.defines i.keeps i.refused st own
 
 pub returns-clause-light : goal.returns-clause-light
 returns-clause-light c = let e = c.args.engine.now in let n = c.end.ensures in

@@ -16,4 +16,4 @@ returns-clause-did c = let i = c.in_ok-let_name.ensures in
 
 pub returns-clause-stands : goal.returns-clause-stands
 returns-clause-stands c = let i = c.in_ok-let_name.ensures in
-    λ sizes book st. assigned_stands c.args.engine.now c.let_name.new.self c.args.global c.args.name c.args.x i.ok i.all_lists sizes book st
+    λ sizes book st. assigned_stands c.args.engine.now c.let_name.new.self c.args.global c.args.name c.args.x i.ok i.keeps sizes book st

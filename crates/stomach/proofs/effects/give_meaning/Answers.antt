@@ -15,4 +15,4 @@ returns-clause-did c = let i = c.in_ok-set_meaning.ensures in
 
 pub returns-clause-stands : goal.returns-clause-stands
 returns-clause-stands c = let i = c.in_ok-set_meaning.ensures in
-    λ sizes book st. bare_stands c.args.engine.now c.set_meaning.new.self c.args.global c.args.name c.args.meaning i.ok i.all_lists sizes book st
+    λ sizes book st. bare_stands c.args.engine.now c.set_meaning.new.self c.args.global c.args.name c.args.meaning i.ok i.keeps sizes book st

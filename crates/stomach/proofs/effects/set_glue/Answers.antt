@@ -15,7 +15,7 @@ returns-in_ok-set_glue-clause-did c = let i = c.in_ok-set_glue.ensures in
 
 pub returns-in_ok-set_glue-clause-stands : goal.returns-in_ok-set_glue-clause-stands
 returns-in_ok-set_glue-clause-stands c = let i = c.in_ok-set_glue.ensures in
-    λ sizes book st. value_stands c.args.engine.now c.set_glue.new.self c.args.global c.args.loc (val.Skip c.args.glue) tt i.ok i.all_lists sizes book st
+    λ sizes book st. value_stands c.args.engine.now c.set_glue.new.self c.args.global c.args.loc (val.Skip c.args.glue) tt i.ok i.keeps sizes book st
 
 pub set_glue-requires : goal.set_glue-requires
 set_glue-requires c = let h = when_true _ _ c.takes_glue.result c.if-takes_glue.true c.takes_glue.ensures in record { within = glue_location c.args.engine.now.input.groups c.args.loc c.args.glue h.0 (h.1 c.args.glue); suits = h.1 c.args.glue }

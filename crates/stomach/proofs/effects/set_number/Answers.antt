@@ -19,4 +19,4 @@ returns-in_ok-set_number-clause-did c = let i = c.in_ok-set_number.ensures in
 pub returns-in_ok-set_number-clause-stands : goal.returns-in_ok-set_number-clause-stands
 returns-in_ok-set_number-clause-stands c = let i = c.in_ok-set_number.ensures in
     let after = rw (to_z-of_z w32 c.args.value c.ranges.value) at i.ok in
-    λ sizes book st. value_stands c.args.engine.now c.set_number.new.self c.args.global c.args.loc (val.Number c.args.value) tt after i.all_lists sizes book st
+    λ sizes book st. value_stands c.args.engine.now c.set_number.new.self c.args.global c.args.loc (val.Number c.args.value) tt after i.keeps sizes book st

@@ -56,7 +56,7 @@ returns-clause-rule c =
     let spells : Did sizes (state_of e1 at) (state_of e2 at) w w (Spelt name ∷ []) =
     subst (λ (bs : List (List Token)). Did sizes (state_of e1 at) (state_of e2 at) w w (Spelt (file_name (character_codes (kept_list_of c.args.listed bs))) ∷ [])) p.frames.lists (n.ensures.did sizes w at st1.sound) in
     sought sizes e e1 e2 book w r rs c.args.back name (k.did sizes w at (counts_of sizes e at st) st.idle) e3 i n.count spells (l.state sizes book r rs st2) (l.stands sizes book r rs st2)
-    c.end_token_lists.ensures.after c.end_token_lists.ensures.all_lists
+    c.end_token_lists.ensures.after c.end_token_lists.ensures.keeps
     (sought_name e2 e3 i l.same c.end_token_lists.ensures.after n.count l.buffer ∙ (n.ensures.name ∙ ap (λ (bs : List (List Token)). file_name (character_codes (kept_list_of c.args.listed bs))) p.frames.lists))
     (sought_room e2 e3 i l.same c.end_token_lists.ensures.after e1 n.count only n.ensures.room)
 

@@ -32,7 +32,7 @@ returns-in_err-set_list-clause-err c = let i = c.in_err-set_list in
 pub returns-clause-rule : goal.returns-clause-rule
 returns-clause-rule c = let i = c.in_ok-set_list.ensures in let n = c.end.ensures in
     λ takes sizes w book r rs st own.
-    list_went sizes c.args.engine.now book w r rs c.args.call c.args.loc c.is_global-global.result c.end.new.self c.set_list.new.self (c.is_global-global.ensures book) c.requires.token n.rest n.stands n.shallow i.ok i.sets i.all_lists i.refused st own
+    list_went sizes c.args.engine.now book w r rs c.args.call c.args.loc c.is_global-global.result c.end.new.self c.set_list.new.self (c.is_global-global.ensures book) c.requires.token n.rest n.stands n.shallow i.ok i.sets i.keeps i.refused st own
 
 pub returns-clause-light : goal.returns-clause-light
 returns-clause-light c = let e = c.args.engine.now in let n = c.end.ensures in

@@ -34,7 +34,7 @@ returns-in_ok-set_no_list-clause-rule c = let i = c.in_ok-set_no_list.ensures in
     λ takes sizes w book r rs st. let s = state_of e (with_work (r ∷ rs) book) in let left = with_work rs book in let after = l.stands sizes book r rs st in
     set_went sizes e e1 book w rs s (did_one sizes Closed s (state_of e1 left) w w refl (l.state sizes book r rs st) (quiet_here Closed w tt)) c.args.call c.args.loc (val.Tokens None) global (c.is_global-global.ensures book) _
     (value_did e1 c.set_no_list.new.self global c.args.loc (val.Tokens None) tt i.ok sizes w left after i.refused)
-    (value_stands e1 c.set_no_list.new.self global c.args.loc (val.Tokens None) tt i.ok i.all_lists sizes left after)
+    (value_stands e1 c.set_no_list.new.self global c.args.loc (val.Tokens None) tt i.ok i.keeps sizes left after)
 
 pub returns-in_ok-set_no_list-clause-light : goal.returns-in_ok-set_no_list-clause-light
 returns-in_ok-set_no_list-clause-light c = let e = c.args.engine.now in let e1 = c.close_reading.new.self in let l = c.close_reading.ensures in let i = c.in_ok-set_no_list.ensures in

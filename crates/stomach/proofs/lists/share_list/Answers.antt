@@ -19,7 +19,7 @@ returns-clause-did c = let i = c.in_ok-share_list.ensures in
 
 pub returns-clause-stands : goal.returns-clause-stands
 returns-clause-stands c = let i = c.in_ok-share_list.ensures in
-    λ sizes book st. shared_stands c.args.engine.now c.share_list.new.self c.args.global c.args.loc c.args.from i.ok i.all_lists sizes book st
+    λ sizes book st. shared_stands c.args.engine.now c.share_list.new.self c.args.global c.args.loc c.args.from i.ok i.keeps sizes book st
 
 pub returns-then-not-takes_list-clause-did : goal.returns-then-not-takes_list-clause-did
 returns-then-not-takes_list-clause-did c = λ takes shares. absurd (c.if-not-takes_list.ensures takes)

@@ -69,7 +69,7 @@ returns-then-taken-n-clause-run g c =
     reads_map (CameTo rs0 e0 s0 rs e s l.taken) rs0.readers rs.readers _ _ (RanTo rs0 e0 s0 e' s n ended.Steps)
     (came_settled rs0 l.readers rs e0 l.engine e s0 (g.S.Sink.told l.out) s l.taken _ _ _ k.field-0 none l.invariant.1.1 k.ensures.run)
     (λ all left may may' p. subst (λ (j : ℕ). RanTo rs0 e0 s0 e' s j ended.Steps all left) at
-    (came_steps rs0 rs e0 e s0 s l.taken (k.ensures.knows none) all left may' p i c.end_token_lists.ensures.after c.end_token_lists.ensures.all_lists (k.ensures.waits none)))
+    (came_steps rs0 rs e0 e s0 s l.taken (k.ensures.knows none) all left may' p i c.end_token_lists.ensures.after c.end_token_lists.ensures.keeps (k.ensures.waits none)))
 
 pub one_rule-requires-clause-innermost : goal.one_rule-requires-clause-innermost
 one_rule-requires-clause-innermost g c = c.in_ok-outcome.ensures.innermost (none_of c.in_ok-outcome.field-0 c.in_default.not-Some)

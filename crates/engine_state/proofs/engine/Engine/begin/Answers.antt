@@ -18,5 +18,5 @@ returns-clause-fits c = λ sizes book counts. let e = c.args.self.now in let o =
 
 pub returns-clause-stands : goal.returns-clause-stands
 returns-clause-stands c = λ sizes book st. let e = c.args.self.now in let o = c.args.opening in let b = c.in_default-begin.ensures in
-    opens sizes e c.begin_list.new.self book (opened (kind_of o) book.work) c.begin.new.self (opened_lists o e.input.builds) c.in_default-begin_list.ensures.ok b.size c.begin_list.ensures.all_lists
+    opens sizes e c.begin_list.new.self book (opened (kind_of o) book.work) c.begin.new.self (opened_lists o e.input.builds) c.in_default-begin_list.ensures.ok b.size c.begin_list.ensures.keeps
     (b.begins e.input.builds book.work st.readings.frames) (b.shallow e.input.builds st.readings.shallow) st

@@ -16,7 +16,7 @@ returns-in_err-begin_file-clause-err c = let e = c.args.self.now in let i = c.en
 
 pub returns-in_err-begin_file-clause-stands : goal.returns-in_err-begin_file-clause-stands
 returns-in_err-begin_file-clause-stands c = let e = c.args.self.now in let i = c.end_token_lists.new.self in let j = c.begin_file.new.self in let k = c.end_token_lists.ensures in
-    λ sizes book st. unbegun_stands e i j k.after c.begin_file.ensures.others k.all_lists c.begin_file.ensures.all_lists sizes book c.in_err-begin_file.ensures.err st
+    λ sizes book st. unbegun_stands e i j k.after c.begin_file.ensures.others k.keeps c.begin_file.ensures.keeps sizes book c.in_err-begin_file.ensures.err st
 
 pub returns-clause-did : goal.returns-clause-did
 returns-clause-did c = let e = c.args.self.now in let i = c.end_token_lists.new.self in let j = c.begin_file.new.self in let first = c.end_token_lists.ensures.after in let n = c.in_ok-begin_file in let o = c.begin_file.ensures.others in
@@ -24,4 +24,4 @@ returns-clause-did c = let e = c.args.self.now in let i = c.end_token_lists.new.
 
 pub returns-clause-stands : goal.returns-clause-stands
 returns-clause-stands c = let e = c.args.self.now in let i = c.end_token_lists.new.self in let j = c.begin_file.new.self in let k = c.end_token_lists.ensures in
-    λ sizes book st. begun_stands e i j k.after c.begin_file.ensures.others k.all_lists c.begin_file.ensures.all_lists sizes book c.in_ok-begin_file.ensures.ok st
+    λ sizes book st. begun_stands e i j k.after c.begin_file.ensures.others k.keeps c.begin_file.ensures.keeps sizes book c.in_ok-begin_file.ensures.ok st

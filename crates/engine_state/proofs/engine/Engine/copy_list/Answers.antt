@@ -7,15 +7,15 @@ use Rattle.engine_state.proofs.engine.Engine.copy_list.Goals as goal
 pub returns-in_err-copy_list-clause-refused : goal.returns-in_err-copy_list-clause-refused
 returns-in_err-copy_list-clause-refused c = let e = c.args.self.now in let n = c.copy_list in let i = c.in_err-copy_list in
     same_err c.from_residual.result i.field-0.0 _ c.from_residual.ensures.1
-    (λ copies sizes w book st. copied_cut sizes e (record e { input = n.new.self }) book c.args.loc st copies n.ensures.all_lists i.field-0.0 w refl i.ensures.err)
+    (λ copies sizes w book st. copied_cut sizes e (record e { input = n.new.self }) book c.args.loc st copies n.ensures.keeps i.field-0.0 w refl i.ensures.err)
 
 pub returns-in_ok-copy_list-clause-stands : goal.returns-in_ok-copy_list-clause-stands
 returns-in_ok-copy_list-clause-stands c = let e = c.args.self.now in let n = c.copy_list in let i = c.in_ok-copy_list.ensures in
-    λ copies sizes book st. copied_stands sizes e (record e { input = n.new.self }) book c.args.loc st copies n.ensures.all_lists (ap (λ (x : Stored). record e { input = x }) i.ok) i.fits
+    λ copies sizes book st. copied_stands sizes e (record e { input = n.new.self }) book c.args.loc st copies n.ensures.keeps (ap (λ (x : Stored). record e { input = x }) i.ok) i.fits
 
 pub returns-in_ok-copy_list-clause-did : goal.returns-in_ok-copy_list-clause-did
 returns-in_ok-copy_list-clause-did c = let e = c.args.self.now in let n = c.copy_list in let i = c.in_ok-copy_list.ensures in
-    λ copies sizes w book st. copied_did sizes e (record e { input = n.new.self }) book c.args.loc st copies n.ensures.all_lists (ap (λ (x : Stored). record e { input = x }) i.ok) i.fits w
+    λ copies sizes w book st. copied_did sizes e (record e { input = n.new.self }) book c.args.loc st copies n.ensures.keeps (ap (λ (x : Stored). record e { input = x }) i.ok) i.fits w
 
 -- an expanded text has its list
 

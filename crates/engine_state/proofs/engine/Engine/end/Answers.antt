@@ -8,13 +8,13 @@ use Rattle.engine_state.proofs.engine.Engine.end.Goals.{else-listed-via-then-lis
 pub returns-then-not-kept-clause-stands : goal.returns-then-not-kept-clause-stands
 returns-then-not-kept-clause-stands c = λ sizes book r rs back st asks. let e = c.args.self.now in let n = c.end-listed.ensures in let v = c.feed_value-kept.ensures in
     (ends sizes e c.drop_top.new.self book r rs c.args.value c.end-listed.result c.feed_value-kept.result c.is_value_empty-is_empty.result c.end-listed.new.self.frames c.feed_value-kept.new.self (drop 1 e.input.builds)
-    c.drop_top.ensures.after (v.size ∙ ap (λ (s : Stack). s.size) n.rest) c.drop_top.ensures.all_lists (sym (left_true c.end-listed.result c.feed_value-kept.result e.input.builds c.if-listed.true c.if-not-kept.true))
+    c.drop_top.ensures.after (v.size ∙ ap (λ (s : Stack). s.size) n.rest) c.drop_top.ensures.keeps (sym (left_true c.end-listed.result c.feed_value-kept.result e.input.builds c.if-listed.true c.if-not-kept.true))
     n.list v.kept c.is_value_empty-is_empty.ensures n.stands n.shallow v.stands v.shallow v.beneath st).0
 
 pub returns-then-not-kept-clause-state : goal.returns-then-not-kept-clause-state
 returns-then-not-kept-clause-state c = λ sizes book r rs back st asks. let e = c.args.self.now in let n = c.end-listed.ensures in let v = c.feed_value-kept.ensures in
     (ends sizes e c.drop_top.new.self book r rs c.args.value c.end-listed.result c.feed_value-kept.result c.is_value_empty-is_empty.result c.end-listed.new.self.frames c.feed_value-kept.new.self (drop 1 e.input.builds)
-    c.drop_top.ensures.after (v.size ∙ ap (λ (s : Stack). s.size) n.rest) c.drop_top.ensures.all_lists (sym (left_true c.end-listed.result c.feed_value-kept.result e.input.builds c.if-listed.true c.if-not-kept.true))
+    c.drop_top.ensures.after (v.size ∙ ap (λ (s : Stack). s.size) n.rest) c.drop_top.ensures.keeps (sym (left_true c.end-listed.result c.feed_value-kept.result e.input.builds c.if-listed.true c.if-not-kept.true))
     n.list v.kept c.is_value_empty-is_empty.ensures n.stands n.shallow v.stands v.shallow v.beneath st).1
 
 pub returns-else-listed-clause-stands : goal.returns-else-listed-clause-stands

@@ -10,7 +10,7 @@ returns-in_err-put_made-clause-err c = let e = c.args.self.now in let i = c.in_e
     (λ sizes w book more sound. unput_cuts sizes e w book sound (made o) (some_made o c.requires.making) c.put_made.new.self (when_true _ _ c.args.some c.if-some.true c.requires.some) i.field-0.0 more i.ensures.err i.ensures.refused)
 
 pub returns-in_err-put_made-clause-front : goal.returns-in_err-put_made-clause-front
-returns-in_err-put_made-clause-front c = same_front c.args.self.now c.put_made.new.self c.in_err-put_made.ensures.err c.put_made.ensures.all_lists
+returns-in_err-put_made-clause-front c = same_front c.args.self.now c.put_made.new.self c.in_err-put_made.ensures.err c.put_made.ensures.keeps
 
 pub returns-in_ok-put_made-clause-did : goal.returns-in_ok-put_made-clause-did
 returns-in_ok-put_made-clause-did c = let e = c.args.self.now in let o = e.input.making in

@@ -17,7 +17,7 @@ returns-then-not-has_few_groups-clause-did c = λ sizes w book r rs st.
 pub returns-clause-stands : goal.returns-clause-stands
 returns-clause-stands c = λ sizes book st. let e = c.args.self.now in let t = c.feed-grown.ensures in
     feeds_stands sizes e c.feed-grown.new.self c.feed-grown.result (Tok c.args.x) t.stands t.shallow t.beneath t.listed t.size (record c.take.new.self { last = c.args.x }) book
-    (ap (λ (x : Engine). record x { last = c.args.x }) c.in_default.ensures.ok) c.take.ensures.all_lists st
+    (ap (λ (x : Engine). record x { last = c.args.x }) c.in_default.ensures.ok) c.take.ensures.keeps st
 
 pub returns-clause-did : goal.returns-clause-did
 returns-clause-did c = λ sizes w book r rs st. let e = c.args.self.now in let t = c.feed-grown.ensures in
@@ -28,4 +28,4 @@ returns-clause-did c = λ sizes w book r rs st. let e = c.args.self.now in let t
 pub returns-in-Err-clause-refused : goal.returns-in-Err-clause-refused
 returns-in-Err-clause-refused c = λ sizes w book r rs st. let e = c.args.self.now in let t = c.feed-grown.ensures in
     let room : words e.input + 2 ≤ e.sizes.main_memory_size = c.if-not-has_room.ensures in
-    feeds_fit sizes e c.feed-grown.new.self c.feed-grown.result (Tok c.args.x) t.stands t.shallow t.beneath t.listed t.size book r rs st c.take.new.self c.in-Err.full room c.take.ensures.all_lists c.in-Err.ensures.err
+    feeds_fit sizes e c.feed-grown.new.self c.feed-grown.result (Tok c.args.x) t.stands t.shallow t.beneath t.listed t.size book r rs st c.take.new.self c.in-Err.full room c.take.ensures.keeps c.in-Err.ensures.err

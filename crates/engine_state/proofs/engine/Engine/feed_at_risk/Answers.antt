@@ -13,7 +13,7 @@ use Rattle.engine_state.proofs.engine.Engine.feed_at_risk.Goals as goal
 pub returns-clause-stands : goal.returns-clause-stands
 returns-clause-stands c = λ sizes book st. let e = c.args.self.now in let t = c.feed-grown.ensures in
     feeds_stands sizes e c.feed-grown.new.self c.feed-grown.result (Tok c.args.x) t.stands t.shallow t.beneath t.listed t.size (record c.take.new.self { last = c.args.x }) book
-    (ap (λ (x : Engine). record x { last = c.args.x }) c.in_default.ensures.ok) c.take.ensures.all_lists st
+    (ap (λ (x : Engine). record x { last = c.args.x }) c.in_default.ensures.ok) c.take.ensures.keeps st
 
 pub returns-clause-did : goal.returns-clause-did
 returns-clause-did c = λ sizes w book r rs st. let e = c.args.self.now in let t = c.feed-grown.ensures in
@@ -25,4 +25,4 @@ pub returns-in-Err-clause-refused : goal.returns-in-Err-clause-refused
 returns-in-Err-clause-refused c = λ sizes w book r rs st. let e = c.args.self.now in let t = c.feed-grown.ensures in
     subst (λ (x : Stack). CutsIn sizes (state_of e (with_work (r ∷ rs) book)) (record c.take.new.self { readings = x }) w w (feeding r c.args.x) (broken.Full c.in-Err.full)) (sym c.restore.ensures)
     (moves_in sizes _ _ w _ _ _ (feeding_moves e.readings.frames e.input.builds r rs c.args.x st.readings.frames)
-    (feeds_cut sizes e c.feed-grown.new.self c.feed-grown.result (Tok c.args.x) t.stands t.shallow t.beneath t.listed t.size book r rs st c.frame_at_risk-kept.result c.take.new.self c.in-Err.full w c.frame_at_risk-kept.ensures t.rest t.count c.take.ensures.all_lists c.in-Err.ensures.err))
+    (feeds_cut sizes e c.feed-grown.new.self c.feed-grown.result (Tok c.args.x) t.stands t.shallow t.beneath t.listed t.size book r rs st c.frame_at_risk-kept.result c.take.new.self c.in-Err.full w c.frame_at_risk-kept.ensures t.rest t.count c.take.ensures.keeps c.in-Err.ensures.err))

@@ -15,4 +15,4 @@ returns-in_ok-after_group-clause-did c = let i = c.in_ok-after_group.ensures in
 
 pub returns-in_ok-after_group-clause-stands : goal.returns-in_ok-after_group-clause-stands
 returns-in_ok-after_group-clause-stands c = let i = c.in_ok-after_group.ensures in
-    λ sizes book st. kept_stands c.args.self.now c.args.token c.after_group.new.self (omega arith) i.ok i.all_lists sizes book st
+    λ sizes book st. kept_stands c.args.self.now c.args.token c.after_group.new.self (omega arith) i.ok i.keeps sizes book st

@@ -11,7 +11,7 @@ use Rattle.engine_state.proofs.engine.Engine.note.Goals as goal
 
 pub returns-clause-stands : goal.returns-clause-stands
 returns-clause-stands c = λ sizes book st. let e = c.args.self.now in let t = c.told-grown.ensures in
-    feeds_stands sizes e c.told-grown.new.self c.told-grown.result Told t.stands t.shallow t.beneath t.listed t.size c.take.new.self book c.in_default.ensures.ok c.take.ensures.all_lists st
+    feeds_stands sizes e c.told-grown.new.self c.told-grown.result Told t.stands t.shallow t.beneath t.listed t.size c.take.new.self book c.in_default.ensures.ok c.take.ensures.keeps st
 
 pub returns-clause-did : goal.returns-clause-did
 returns-clause-did c = λ sizes w book r rs st. let e = c.args.self.now in let t = c.told-grown.ensures in
@@ -22,4 +22,4 @@ pub returns-in-Err-clause-refused : goal.returns-in-Err-clause-refused
 returns-in-Err-clause-refused c = λ sizes w book r rs st. let e = c.args.self.now in let t = c.told-grown.ensures in
     subst (λ (x : Stack). CutsIn sizes (state_of e (with_work (r ∷ rs) book)) (record c.take.new.self { readings = x }) w w (noting r) (broken.Full c.in-Err.full)) (sym c.restore.ensures)
     (moves_in sizes _ _ w _ _ _ (noting_moves e.readings.frames e.input.builds r rs st.readings.frames)
-    (feeds_cut sizes e c.told-grown.new.self c.told-grown.result Told t.stands t.shallow t.beneath t.listed t.size book r rs st c.frame_at_risk-kept.result c.take.new.self c.in-Err.full w c.frame_at_risk-kept.ensures t.rest t.count c.take.ensures.all_lists c.in-Err.ensures.err))
+    (feeds_cut sizes e c.told-grown.new.self c.told-grown.result Told t.stands t.shallow t.beneath t.listed t.size book r rs st c.frame_at_risk-kept.result c.take.new.self c.in-Err.full w c.frame_at_risk-kept.ensures t.rest t.count c.take.ensures.keeps c.in-Err.ensures.err))

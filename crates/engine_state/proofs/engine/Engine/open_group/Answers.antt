@@ -14,4 +14,4 @@ returns-clause-did c = let i = c.in_ok-open_group.ensures in
 
 pub returns-clause-stands : goal.returns-clause-stands
 returns-clause-stands c = let i = c.in_ok-open_group.ensures in
-    λ sizes book st. opened_stands c.args.self.now c.args.kind c.open_group.new.self i.ok i.all_lists sizes book st
+    λ sizes book st. opened_stands c.args.self.now c.args.kind c.open_group.new.self i.ok i.keeps sizes book st

@@ -15,14 +15,14 @@ returns-in_err-put_list-clause-err c = let e = c.args.self.now in let i = c.in_e
 
 pub returns-clause-did : goal.returns-clause-did
 returns-clause-did c = let e = c.args.self.now in let i = c.in_ok-put_list.ensures in
-    λ sizes w book sound. given_did sizes e book sound c.args.loc (record e { input = c.put_list.new.self }) (ap (λ (x : Stored). record e { input = x }) i.ok) c.put_list.ensures.all_lists w i.refused
+    λ sizes w book sound. given_did sizes e book sound c.args.loc (record e { input = c.put_list.new.self }) (ap (λ (x : Stored). record e { input = x }) i.ok) c.put_list.ensures.keeps w i.refused
 
 pub returns-clause-sound : goal.returns-clause-sound
 returns-clause-sound c = let e = c.args.self.now in let i = c.in_ok-put_list.ensures in
-    λ sizes book sound. given_sound sizes e book sound c.args.loc (record e { input = c.put_list.new.self }) (ap (λ (x : Stored). record e { input = x }) i.ok) c.put_list.ensures.all_lists
+    λ sizes book sound. given_sound sizes e book sound c.args.loc (record e { input = c.put_list.new.self }) (ap (λ (x : Stored). record e { input = x }) i.ok) c.put_list.ensures.keeps
 
 pub returns-clause-stands : goal.returns-clause-stands
 returns-clause-stands c = let e = c.args.self.now in let i = c.in_ok-put_list.ensures in let e2 = record e { input = c.put_list.new.self } in
     λ sizes book st.
     let is = ap (λ (x : Stored). record e { input = x }) i.ok in
-    pending_stands sizes e e2 book (after_call (standing_put e.input.lists e.input.groups c.args.loc) e.input.pending) is (given_sound sizes e book st.sound c.args.loc e2 is c.put_list.ensures.all_lists) st
+    pending_stands sizes e e2 book (after_call (standing_put e.input.lists e.input.groups c.args.loc) e.input.pending) is (given_sound sizes e book st.sound c.args.loc e2 is c.put_list.ensures.keeps) st
