@@ -438,3 +438,37 @@ fn are_due(rows: &[(Stage, Manner, Due)]) -> bool {
 fn stages_tell_what_is_due(rt: HostRuntime) {
     assert!(rt; opens_group() && are_as_deep(&DEPTHS) && are_due(&DUES));
 }
+
+// The body of a balanced text.
+const TEXT: Body = Body {
+    places: None,
+    brace: None,
+};
+
+// Stages, the categories and codes of characters, and whether such a character goes into the list and changes nothing else.
+const KEPT: [(Stage, u8, u8, bool); 8] = [
+    (Stage::InBody(BODY, 1), 11, 97, true),
+    (Stage::InBody(BODY, 1), 1, 123, false),
+    (Stage::InBody(BODY, 1), 2, 125, false),
+    (Stage::InBody(BODY, 1), 6, 35, false),
+    (Stage::InBody(TEXT, 1), 6, 35, true),
+    (Stage::Parameters(0), 11, 97, false),
+    (Stage::Reference(BODY, 1, CHARACTER), 11, 97, false),
+    (Stage::BodyMissing, 11, 97, false),
+];
+
+// Whether these stages keep what they are fed.
+fn are_kept(rows: &[(Stage, u8, u8, bool)]) -> bool {
+    for (stage, cat, code, kept) in rows {
+        if stage.keeps(read(*cat, *code)) != *kept {
+            return false;
+        }
+    }
+    true
+}
+
+// Of the tokens of a body all but braces and the parameter characters of a macro go into the list and change nothing else.
+#[test]
+fn tokens_of_a_body_are_kept(rt: HostRuntime) {
+    assert!(rt; are_kept(&KEPT));
+}

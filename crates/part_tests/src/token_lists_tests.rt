@@ -264,7 +264,7 @@ fn first_kind(lists: &Lists, list: &ListRef) -> (bool, bool)
     requires { IsHeld lists.now (id_of list.now) }
 {
     match lists.first(list) {
-        Some(place) => (lists.is_number(place), lists.is_end(place)),
+        Some(place) => (lists.is_parameter_number(place), lists.is_end_mark(place)),
         None => (false, false),
     }
 }
