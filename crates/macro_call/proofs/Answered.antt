@@ -11,21 +11,21 @@ use Rattle.token_lists.specs.Table.{Entry, tokens_at, holders_at}
 use Rattle.token_lists.specs.Accounts.{Moves, Keeps, none}
 use Rattle.macro_call.specs.declared.par_mode.ParMode.{ParMode}
 use Rattle.macro_call.specs.declared.par_mode.ParMode.TheVariants.{Short}
-use Rattle.plain_tokens.specs.Arguments.{Fed, Tok, Ended, arguments, is_checked, work_in, case_at}
+use Rattle.plain_tokens.specs.Arguments.{Fed, Tok, Ended, arguments, is_checked, arguments_in, work_in, case_at}
 use Rattle.macro_call.specs.declared.cursor.Cursor.{Cursor}
 use Rattle.macro_call.specs.declared.present.Present.{Present}
 use Rattle.macro_call.specs.declared.present.Step.{Step}
 use Rattle.macro_call.specs.declared.present.Step.TheVariants as step
 use Rattle.macro_call.specs.declared.scan.ArgScan.{ArgScan}
-use Rattle.macro_call.specs.declared.scan.ArgAsk.{ArgAsk}
-use Rattle.macro_call.specs.declared.scan.ArgAsk.TheVariants as ask
+use Rattle.macro_call.specs.declared.ask.CallAsk.{CallAsk}
+use Rattle.macro_call.specs.declared.ask.CallAsk.TheVariants as ask
 use Rattle.macro_args.specs.Args.{args_in}
 use Rattle.macro_call.specs.Cursors.{delimiter_at}
 use Rattle.macro_call.specs.Modes.{par_mode}
 use Rattle.macro_call.specs.Stages.{Stage, stage_of, kept_in, read_in, gained}
 use Rattle.macro_call.specs.Tables.{IsGrownByPart}
 use Rattle.macro_call.specs.PlainScans.{Scan, with_work, places_behind}
-use Rattle.macro_call.specs.Scans.{resume, left_at, behind_at, scan_holds, IsSound, Answers, TookIn, CutIn, IsCutShort, Completes, Enters, args_left, args_with, work_by, work_tokens}
+use Rattle.macro_call.specs.Scans.{resume, left_at, behind_at, scan_holds, IsSound, Answers, TookIn, CutIn, IsCutShort, Completes, Enters, args_with, work_by, work_tokens}
 use Rattle.macro_call.specs.Growths.{target_of}
 use Rattle.macro_call.proofs.Growths.{arguments-more}
 use Rattle.macro_call.proofs.Completed.{args_stay, macro_tokens, shared_kept}
@@ -48,15 +48,15 @@ parts_at old_table table macro cursor mode x s r o n e h = subst (λ (t : Step).
 
 module _ (old_table table : List (Option Entry)) (macro : ℕ) (old : ArgScan) (x : Token) (n : Option Present) (sound : IsSound old_table macro old) (account : Moves old_table table none none) where
   pub going : Parts old_table table macro old.cursor old.mode x step.Going old.present n → Answers old_table table macro old (record { cursor = old.cursor; mode = old.mode; braced = false; present = n; args = old.args }) x ask.More
-  going t = goes old_table table macro old x t.p t.was sound t.took.2 account t.q n t.now t.took.0 t.took.1 old.mode false _ _ t.took.3.goes_on.2 t.took.3.goes_on.0 t.took.3.goes_on.1 t.took.4 ask.More (λ args ts. refl) (λ h. refl) (λ left. tt)
+  going t = goes old_table table macro old x t.p t.was sound t.took.2 account t.q n t.now t.took.0 t.took.1 old.mode false _ _ t.took.3.goes_on.2 t.took.3.goes_on.0 t.took.3.goes_on.1 t.took.4 ask.More refl (λ args ts. refl)
       (case_on old_table table macro old x t.p t.was sound t.took.2 account _ t.took.3.met)
 
   pub skipped : Parts old_table table macro old.cursor old.mode x step.Skipped old.present n → Answers old_table table macro old (record { cursor = old.cursor; mode = old.mode; braced = false; present = n; args = old.args }) x ask.More
-  skipped t = goes old_table table macro old x t.p t.was sound t.took.2 account t.q n t.now t.took.0 t.took.1 old.mode false _ _ t.took.3.goes_on.2 t.took.3.goes_on.0 t.took.3.goes_on.1 t.took.4 ask.More (λ args ts. refl) (λ h. refl) (λ left. tt)
+  skipped t = goes old_table table macro old x t.p t.was sound t.took.2 account t.q n t.now t.took.0 t.took.1 old.mode false _ _ t.took.3.goes_on.2 t.took.3.goes_on.0 t.took.3.goes_on.1 t.took.4 ask.More refl (λ args ts. refl)
       (case_on old_table table macro old x t.p t.was sound t.took.2 account _ t.took.3.met)
 
   pub braced : Parts old_table table macro old.cursor old.mode x step.ExtraBrace old.present n → Answers old_table table macro old (record { cursor = old.cursor; mode = Short; braced = true; present = n; args = old.args }) x ask.ExtraBrace
-  braced t = goes old_table table macro old x t.p t.was sound t.took.2 account t.q n t.now t.took.0 t.took.1 Short true _ _ t.took.3.goes_on.2 t.took.3.goes_on.0 t.took.3.goes_on.1 t.took.4 ask.ExtraBrace (λ args ts. refl) (λ h. refl) (λ left. tt)
+  braced t = goes old_table table macro old x t.p t.was sound t.took.2 account t.q n t.now t.took.0 t.took.1 Short true _ _ t.took.3.goes_on.2 t.took.3.goes_on.0 t.took.3.goes_on.1 t.took.4 ask.ExtraBrace refl (λ args ts. refl)
       (case_on old_table table macro old x t.p t.was sound t.took.2 account _ t.took.3.met)
 
   pub ended : (silent : Bool) → silent ≡ is_checked (par_mode old.mode) → Parts old_table table macro old.cursor old.mode x step.ParEnded old.present n → Answers old_table table macro old (record { cursor = old.cursor; mode = old.mode; braced = false; present = n; args = old.args }) x (ask.ParEnded silent)
@@ -66,11 +66,11 @@ module _ (old_table table : List (Option Entry)) (macro : ℕ) (old : ArgScan) (
         (args_stay old_table table macro old t.p t.was (here old_table table macro old x t.p t.was sound t.took.2 account).0 sound.owns sound.outside t.took.2)
         ∙ sym (case_on old_table table macro old x t.p t.was sound t.took.2 account _ t.took.3.met []);
     args = args_stay old_table table macro old t.p t.was (here old_table table macro old x t.p t.was sound t.took.2 account).0 sound.owns sound.outside t.took.2
-        ∙ sym (ap args_left (case_on old_table table macro old x t.p t.was sound t.took.2 account _ t.took.3.met []));
+        ∙ sym (ap arguments_in (case_on old_table table macro old x t.p t.was sound t.took.2 account _ t.took.3.met []));
     work = ap (work_by table) t.now ∙ ap Some t.took.3.goes_on ∙ sym (ap work_in (case_on old_table table macro old x t.p t.was sound t.took.2 account _ t.took.3.met []));
+    braced = refl;
     goes_on = λ o. absurd o;
     owns = now_owns old_table table macro old x t.p t.was sound t.took.2 account t.q n t.now t.took.0 t.took.1 old.mode false;
-    hands = tt;
     moves = λ h. omega (arith, now_moves old_table table macro old x t.p t.was sound t.took.2 account t.q n t.now t.took.0 t.took.1 old.mode false h);
     gains =
         let g = now_gains old_table table macro old x t.p t.was sound t.took.2 account t.q n t.now t.took.0 t.took.1 old.mode false in
@@ -128,14 +128,14 @@ module _ (old_table table : List (Option Entry)) (macro : ℕ) (old : ArgScan) (
         ∙ ap (λ (m : ParMode). arguments (par_mode m) (args_in old_table old.args ++ tokens_at table (build_id t.q.build) ∷ []) (behind_at old_table macro old) fed) (sym taken_mode)
         ∙ ap₂ (λ (us ps : List (List Token)). arguments (par_mode mid.mode) us ps fed) (sym mid_args) (sym (done.places ∙ taken_places))
 
-    pub whole_answers : (new_table : List (Option Entry)) (new : ArgScan) (a : ArgAsk) → Enters between_table new_table macro mid new a → Answers old_table new_table macro old new x a
+    pub whole_answers : (new_table : List (Option Entry)) (new : ArgScan) (a : CallAsk) → Enters between_table new_table macro mid new a → Answers old_table new_table macro old new x a
     whole_answers new_table new a e = record {
       answers = e.answers ∙ sym (whole_on []);
-      args = e.args ∙ sym (ap args_left (whole_on []));
+      args = e.args ∙ sym (ap arguments_in (whole_on []));
       work = e.work ∙ sym (ap work_in (whole_on []));
+      braced = e.braced;
       goes_on = λ o. record { sound = e.sound o; same = λ fed. whole_on fed ∙ e.same o fed };
       owns = e.owns;
-      hands = e.hands;
       moves = λ h. omega (arith, mid_moves h, e.moves h);
       gains = record {
         others = λ h l. elim (cases_lt 0 (holders_at between_table h)) [
@@ -177,11 +177,11 @@ module _ (old_table table : List (Option Entry)) (macro : ℕ) (old : ArgScan) (
     pub whole_cut : (new_table : List (Option Entry)) (new : ArgScan) → new_table ≡ between_table → new ≡ mid → 0 < length (left_at between_table macro mid) → IsCutShort old_table new_table macro old new x
     whole_cut new_table new e f some = subst (λ (u : List (Option Entry)). IsCutShort old_table u macro old new x) (sym e) (subst (λ (s : ArgScan). IsCutShort old_table between_table macro old s x) (sym f) (whole_cut_mid some))
 
-    pub whole_ok : (new_table : List (Option Entry)) (new : ArgScan) (r : Result ArgAsk Full) → IfOk r (λ a. Enters between_table new_table macro mid new a) → IfOk r (λ a. Answers old_table new_table macro old new x a)
+    pub whole_ok : (new_table : List (Option Entry)) (new : ArgScan) (r : Result CallAsk Full) → IfOk r (λ a. Enters between_table new_table macro mid new a) → IfOk r (λ a. Answers old_table new_table macro old new x a)
     whole_ok new_table new (Ok a) h = whole_answers new_table new a h
     whole_ok new_table new (Err f) h = tt
 
-    pub whole_err : (new_table : List (Option Entry)) (new : ArgScan) (r : Result ArgAsk Full) → OnErr r (new_table ≡ between_table) → OnErr r (new ≡ mid) → OnErr r (0 < length (left_at between_table macro mid)) → OnErr r (IsCutShort old_table new_table macro old new x)
+    pub whole_err : (new_table : List (Option Entry)) (new : ArgScan) (r : Result CallAsk Full) → OnErr r (new_table ≡ between_table) → OnErr r (new ≡ mid) → OnErr r (0 < length (left_at between_table macro mid)) → OnErr r (IsCutShort old_table new_table macro old new x)
     whole_err new_table new (Ok a) e f some = tt
     whole_err new_table new (Err g) e f some = whole_cut new_table new e f some
 

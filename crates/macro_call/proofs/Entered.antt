@@ -10,13 +10,13 @@ use Rattle.token_lists.specs.declared.ListRef.{ListRef}
 use Rattle.token_lists.specs.Ids.{id_of, build_id, IsBuilding}
 use Rattle.token_lists.specs.Table.{Entry, entry_at, tokens_of, tokens_at, places_of, holders_of, holders_at, empty}
 use Rattle.token_lists.specs.Accounts.{Moves, Covers, none, holds, cell_holds, cells_hold}
-use Rattle.plain_tokens.specs.Arguments.{start_of, Fed, More, search, behind, arguments, work_in}
+use Rattle.plain_tokens.specs.Arguments.{start_of, Fed, More, search, behind, arguments, arguments_in, work_in}
 use Rattle.macro_call.proofs.ArgumentRuns.{arguments_behind}
 use Rattle.macro_args.specs.declared.args.Args.{Args}
 use Rattle.macro_call.specs.declared.cursor.Cursor.{Cursor}
 use Rattle.macro_call.specs.declared.present.Present.{Present}
 use Rattle.macro_call.specs.declared.scan.ArgScan.{ArgScan}
-use Rattle.macro_call.specs.declared.scan.ArgAsk.TheVariants as ask
+use Rattle.macro_call.specs.declared.ask.CallAsk.TheVariants as ask
 use Rattle.macro_args.specs.Args.{cell_tokens, args_in, args_hold}
 use Rattle.macro_call.specs.Cursors.{IsOn, IsAhead, rest_at, delimiter_at}
 use Rattle.macro_call.specs.Holds.{present_holds}
@@ -24,7 +24,7 @@ use Rattle.macro_call.specs.Modes.{par_mode}
 use Rattle.macro_call.specs.Stages.{Stands, stage_of, kept_in, read_in}
 use Rattle.macro_call.specs.Tables.{IsOnly}
 use Rattle.macro_call.specs.PlainScans.{places_behind}
-use Rattle.macro_call.specs.Scans.{resume, args_left, left_at, scan_holds, IsSound, IsBetween, NextPlace, Enters}
+use Rattle.macro_call.specs.Scans.{resume, left_at, scan_holds, IsSound, IsBetween, NextPlace, Enters}
 use Rattle.macro_call.proofs.Delimited.{at_begin}
 use Rattle.macro_args.proofs.Releases.{holds_own}
 use Rattle.macro_call.proofs.Listed.{listed_kept}
@@ -148,12 +148,12 @@ module _ (old_table table : List (Option Entry)) (macro : ℕ) (old : ArgScan) (
   pub entered : Enters old_table table macro old (record { cursor = next; mode = old.mode; braced = old.braced; present = Some p; args = old.args }) ask.More
   entered = record {
     answers = ap₂ (λ (us : List (List Token)) (ts : List Token). More us (Some ts)) same_args nothing ∙ sym (ap (λ (ps : List (List Token)). arguments (par_mode old.mode) (args_in old_table old.args) ps []) places);
-    args = same_args ∙ sym (ap (λ (ps : List (List Token)). args_left (arguments (par_mode old.mode) (args_in old_table old.args) ps [])) places);
+    args = same_args ∙ sym (ap (λ (ps : List (List Token)). arguments_in (arguments (par_mode old.mode) (args_in old_table old.args) ps [])) places);
     work = ap Some nothing ∙ sym (ap (λ (ps : List (List Token)). work_in (arguments (par_mode old.mode) (args_in old_table old.args) ps [])) places);
+    braced = between.settled;
     sound = λ o. is_sound;
     same = λ o. goes_on;
     owns = record { covered = covers; building = λ q e. subst (λ (r : Present). IsBuilding table r.build) (same_Some p q e) is_building; filled = is_sound.filled; listed = is_sound.listed };
-    hands = tt;
     moves = λ h. omega (arith, account h, old_holds h, new_holds h);
     gains = record {
       others = λ h l.

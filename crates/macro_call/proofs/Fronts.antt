@@ -114,3 +114,9 @@ behind_bound n x = by (is_begin x) (is_end x)
 pub past_next : (ds whole : List Token) (depth i groups after : ℕ) (cur : List Token) (y : Token) (ys : List Token) → after ≡ open_behind groups y → IsPast ds whole depth i groups cur → cur ≡ y ∷ ys → ((groups == 0) && is_prefix cur ds) ≡ false →
     IsPast ds whole depth (i + 1) after ys
 past_next ds whole depth i groups after cur y ys a past e fails = subst (λ (n : ℕ). IsPast ds whole depth (i + 1) n ys) (sym a) (past_on ds whole depth i groups cur y ys past e fails)
+
+-- a token behind no match, which begins none: nothing is matched then
+pub first_fails : (ds : List Token) (matched depth : ℕ) (x : Token) → matched ≡ 0 → ((depth == 0) && is_prefix (take matched ds ++ x ∷ []) ds) ≡ false →
+    (partial ds depth (take matched ds ++ x ∷ []) ≡ drop 1 (take matched ds ++ x ∷ [])) × (unmatched ds depth (take matched ds ++ x ∷ []) ≡ take 1 (take matched ds ++ x ∷ []))
+first_fails ds zero depth x none fails = (rw fails refl, rw fails refl)
+first_fails ds (suc n) depth x none fails = absurd (omega (arith, none))

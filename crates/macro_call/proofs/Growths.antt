@@ -5,7 +5,6 @@ use Rattle.tex_defs.specs.declared.Token.{Token}
 use Rattle.plain_tokens.specs.Arguments.{ParMode, Case, Argument, ExtraBrace, ParEnded, Skipped, Going, in_work, More, sought, arguments, behind, arguments_in, work_in}
 use Rattle.macro_call.specs.Growths.{target_by, target_of, growth_of}
 use Rattle.macro_call.specs.Stages.{target_at}
-use Rattle.macro_call.specs.Scans.{args_left}
 use Rattle.macro_call.proofs.ArgumentRuns.{found_after}
 
 -- what is answered in a place has the list in work and the arguments so far
@@ -21,10 +20,6 @@ arguments-sought args false ts = refl
 pub arguments-more : (mode : ParMode) (args places : List (List Token)) → 0 < length places → arguments mode args places [] ≡ More args (Some [])
 arguments-more mode args [] some = absurd (omega (arith, some))
 arguments-more mode args (ds ∷ places) some = refl
-
-pub args-left-sought : (args : List (List Token)) (braced : Bool) (ts : List Token) → args_left (sought args braced ts) ≡ args
-args-left-sought args true ts = refl
-args-left-sought args false ts = refl
 
 arguments-begun : (mode : ParMode) (args places : List (List Token)) → arguments_in (arguments mode args places []) ≡ args
 arguments-begun mode args [] = refl

@@ -13,7 +13,7 @@ use Rattle.plain_tokens.specs.Arguments as plain
 use Rattle.macro_call.proofs.ArgumentRuns.{search_at, found_after}
 use Rattle.macro_call.specs.declared.present.Present.{Present}
 use Rattle.macro_call.specs.declared.scan.ArgScan.{ArgScan}
-use Rattle.macro_call.specs.declared.scan.ArgAsk.{ArgAsk}
+use Rattle.macro_call.specs.declared.ask.CallAsk.{CallAsk}
 use Rattle.macro_args.specs.Args.{cell_tokens, args_in, args_hold}
 use Rattle.macro_call.specs.Cursors.{IsAhead, rest_at, delimiter_at}
 use Rattle.macro_call.specs.Holds.{present_holds}
@@ -22,9 +22,9 @@ use Rattle.macro_call.specs.Growths.{target_of, growth_of}
 use Rattle.macro_call.specs.Stages.{Stage, Stands, stage_of, kept_in, read_in, target_at, gained}
 use Rattle.macro_call.specs.Tables.{IsOnly}
 use Rattle.macro_call.specs.PlainScans.{resume_at, places_behind}
-use Rattle.macro_call.specs.Scans.{scan_of, resume, behind_at, scan_holds, Owns, Gains, IsSound, IsInPlace, Answers, answer_of, work_of, work_by, args_left, handed, HandsOut, ScannersHaveLists}
+use Rattle.macro_call.specs.Scans.{scan_of, resume, behind_at, scan_holds, Owns, Gains, IsSound, IsInPlace, Answers, answer_of, asks_brace, work_of, work_by, ScannersHaveLists}
 use Rattle.macro_call.proofs.Completed.{holds_both, args_stay, args_listed, macro_apart, macro_tokens, shared_kept}
-use Rattle.macro_call.proofs.Growths.{work-sought, arguments-sought, args-left-sought, whole_met, growth_met}
+use Rattle.macro_call.proofs.Growths.{work-sought, arguments-sought, whole_met, growth_met}
 use Rattle.macro_call.proofs.Tables.{on_kept}
 use Rattle.macro_call.proofs.Undelimited.{plain_kept, plain_read, unmatched_nil}
 
@@ -148,18 +148,17 @@ module _ (old_table table : List (Option Entry)) (macro : ℕ) (old : ArgScan) (
       work = ap (work_by table) now_present
           ∙ ap Some (sym (works (delimiter_at old_table macro old.cursor) (stage_of table q) stands) ∙ ap₂ (λ (u v : List Token). in_work (delimiter_at old_table macro old.cursor) u v) k r)
 
-      pub goes : (a : ArgAsk) → ((args : List (List Token)) (ts : List Token) → answer_of table a args (Some ts) ≡ sought args braced ts) →
-          ((h : ℕ) → handed a h ≡ 0) → ((left : ℕ → ℕ) → HandsOut table a left) →
+      pub goes : (a : CallAsk) → braced ≡ asks_brace a → ((args : List (List Token)) (ts : List Token) → answer_of a args (Some ts) ≡ sought args braced ts) →
           ((fed : List Fed) → resume old_table macro old (Tok x ∷ fed) ≡ behind (args_in old_table old.args) (behind_at old_table macro old) (search (delimiter_at old_table macro old.cursor) braced (par_mode mode) kept t fed)) →
           Answers old_table table macro old (record { cursor = old.cursor; mode = mode; braced = braced; present = n; args = old.args }) x a
-      goes a is gives hands on = record {
-        answers = ap₂ (answer_of table a) old_args work ∙ is (args_in old_table old.args) (in_work (delimiter_at old_table macro old.cursor) kept t) ∙ sym (on []);
-        args = old_args ∙ sym (ap args_left (on []) ∙ args-left-sought (args_in old_table old.args) braced (in_work (delimiter_at old_table macro old.cursor) kept t));
+      goes a asked is on = record {
+        answers = ap₂ (answer_of a) old_args work ∙ is (args_in old_table old.args) (in_work (delimiter_at old_table macro old.cursor) kept t) ∙ sym (on []);
+        args = old_args ∙ sym (ap arguments_in (on []) ∙ arguments-sought (args_in old_table old.args) braced (in_work (delimiter_at old_table macro old.cursor) kept t));
         work = work ∙ sym (ap work_in (on []) ∙ work-sought (args_in old_table old.args) braced (in_work (delimiter_at old_table macro old.cursor) kept t));
+        braced = asked;
         goes_on = λ o. record { sound = now_sound; same = λ fed. on fed ∙ sym (resumed fed) };
         owns = now_owns mode braced;
-        hands = hands _;
-        moves = λ h. omega (arith, now_moves mode braced h, gives h);
-        gains = record { others = λ h l. omega (arith, now_holds h, gives h); fresh = λ h l. omega (arith, now_holds h, gives h, sound.owns h, l) };
+        moves = now_moves mode braced;
+        gains = now_gains mode braced;
         kept = shared_kept old_table table macro old p present here.0 sound.owns sound.outside others;
       }

@@ -1,18 +1,17 @@
 -- A scanner, what it has of the call, and what a token does to it.
-use Rattle.std.specs.Prelude.{false, ◌≡◌, ◌≢◌, ℕ, ◌+◌, ◌<◌, ◌≤◌, List, [], ◌∷◌, ◌++◌, ◌⊎◌, Option, None, Some, option_map, unwrap_or, length}
+use Rattle.std.specs.Prelude.{Bool, true, false, ◌≡◌, ◌≢◌, ℕ, ◌+◌, ◌<◌, ◌≤◌, List, [], ◌∷◌, ◌++◌, ◌⊎◌, Option, None, Some, option_map, unwrap_or, length}
 use Rattle.tex_defs.specs.declared.Token.{Token}
 use Rattle.token_lists.specs.Table.{Entry, holders_at, tokens_at}
 use Rattle.token_lists.specs.Accounts.{Covers, Moves, Keeps}
 use Rattle.token_lists.specs.Ids.{build_id, IsBuilding}
+use Rattle.macro_call.specs.declared.ask.CallAsk.{CallAsk}
+use Rattle.macro_call.specs.declared.ask.CallAsk.TheVariants as ask
 use Rattle.macro_call.specs.declared.par_mode.ParMode.{ParMode}
 use Rattle.plain_tokens.specs.Arguments.{Fed, Tok, Answer, More, ExtraBraceFound, Called, Mismatch, Ended, case_at, arguments, arguments_in, work_in}
-use Rattle.macro_args.specs.declared.args.Args.{Args}
 use Rattle.macro_call.specs.declared.cursor.Cursor.{Cursor}
 use Rattle.macro_call.specs.declared.present.Present.{Present}
 use Rattle.macro_call.specs.declared.present.Step.{Step}
 use Rattle.macro_call.specs.declared.scan.ArgScan.{ArgScan}
-use Rattle.macro_call.specs.declared.scan.ArgAsk.{ArgAsk}
-use Rattle.macro_call.specs.declared.scan.ArgAsk.TheVariants as ask
 use Rattle.macro_args.specs.Args.{args_in, args_hold, IsFilled}
 use Rattle.macro_call.specs.Cursors.{IsOn, IsAhead, rest_at, delimiter_at}
 use Rattle.macro_call.specs.Holds.{present_holds}
@@ -83,48 +82,24 @@ abbrev pub ScannersHaveLists : Type 0
 ScannersHaveLists = (table : List (Option Entry)) (macro : ℕ) (scan : ArgScan) → IsSound table macro scan → HasLists table macro scan
 
 -- what an answer says, where the scanner has these arguments and this list in work
-abbrev pub answer_of : List (Option Entry) → ArgAsk → (args : List (List Token)) → (work : Option (List Token)) → Answer
-answer_of table ask.More args work = More args work
-answer_of table ask.ExtraBrace args work = ExtraBraceFound args (unwrap_or work [])
-answer_of table (ask.Called called) args work = Called (args_in table called)
-answer_of table ask.Mismatch args work = Mismatch
-answer_of table (ask.ParEnded silent) args work = Ended silent args (unwrap_or work [])
+abbrev pub answer_of : CallAsk → (args : List (List Token)) → (work : Option (List Token)) → Answer
+answer_of ask.More args work = More args work
+answer_of ask.ExtraBrace args work = ExtraBraceFound args (unwrap_or work [])
+answer_of ask.Gathered args work = Called args
+answer_of ask.Mismatch args work = Mismatch
+answer_of (ask.ParEnded silent) args work = Ended silent args (unwrap_or work [])
 
--- what the answer hands out
-abbrev pub handed : ArgAsk → ℕ → ℕ
-handed ask.More h = 0
-handed ask.ExtraBrace h = 0
-handed (ask.Called args) h = args_hold args h
-handed ask.Mismatch h = 0
-handed (ask.ParEnded silent) h = 0
-
--- arguments that are handed out, and what is left: an argument without tokens has no list, and the scanner holds nothing
-pub record HandsAll (table : List (Option Entry)) (args : Args) (left : ℕ → ℕ) : Type 0 where
-  pub filled : IsFilled args
-  pub listed : AreListed table args
-  pub spent : (h : ℕ) → left h ≡ 0
-
-abbrev pub HandsOut : List (Option Entry) → ArgAsk → (ℕ → ℕ) → Type 0
-HandsOut table ask.More left = Unit {0}
-HandsOut table ask.ExtraBrace left = Unit {0}
-HandsOut table (ask.Called args) left = HandsAll table args left
-HandsOut table ask.Mismatch left = Unit {0}
-HandsOut table (ask.ParEnded silent) left = Unit {0}
-
-abbrev pub IsOpen : ArgAsk → Type 0
+abbrev pub IsOpen : CallAsk → Type 0
 IsOpen ask.More = Unit {0}
 IsOpen ask.ExtraBrace = Unit {0}
-IsOpen (ask.Called args) = ⊥
+IsOpen ask.Gathered = ⊥
 IsOpen ask.Mismatch = ⊥
 IsOpen (ask.ParEnded silent) = ⊥
 
--- the arguments that a scanner has left: those of its answer, or none once they are handed out
-abbrev pub args_left : Answer → List (List Token)
-args_left (More args work) = args
-args_left (ExtraBraceFound args work) = args
-args_left (Called args) = []
-args_left Mismatch = []
-args_left (Ended silent args work) = args
+-- an extra brace is answered
+abbrev pub asks_brace : CallAsk → Bool
+asks_brace ask.ExtraBrace = true
+asks_brace a = false
 
 -- the scanner stands behind x: what comes after any further tokens is what the one before would have answered
 pub record Next (old_table new_table : List (Option Entry)) (macro : ℕ) (old new : ArgScan) (x : Token) : Type 0 where
@@ -137,16 +112,16 @@ pub record Gains (old_table : List (Option Entry)) (before after : ℕ → ℕ) 
   pub fresh : (h : ℕ) → holders_at old_table h ≡ 0 → after h ≤ 1
 
 -- Behind the tokens in front of the first place, or behind a delimiter: the next place is entered, or the call is made.
-pub record Enters (old_table new_table : List (Option Entry)) (macro : ℕ) (old new : ArgScan) (answer : ArgAsk) : Type 0 where
-  pub answers : answer_of new_table answer (args_in new_table new.args) (work_of new_table new) ≡ arguments (par_mode old.mode) (args_in old_table old.args) (left_at old_table macro old) []
-  pub args : args_in new_table new.args ≡ args_left (arguments (par_mode old.mode) (args_in old_table old.args) (left_at old_table macro old) [])
+pub record Enters (old_table new_table : List (Option Entry)) (macro : ℕ) (old new : ArgScan) (answer : CallAsk) : Type 0 where
+  pub answers : answer_of answer (args_in new_table new.args) (work_of new_table new) ≡ arguments (par_mode old.mode) (args_in old_table old.args) (left_at old_table macro old) []
+  pub args : args_in new_table new.args ≡ arguments_in (arguments (par_mode old.mode) (args_in old_table old.args) (left_at old_table macro old) [])
   pub work : work_of new_table new ≡ work_in (arguments (par_mode old.mode) (args_in old_table old.args) (left_at old_table macro old) [])
+  pub braced : new.braced ≡ asks_brace answer
   pub sound : IsOpen answer → IsSound new_table macro new
   pub same : IsOpen answer → (fed : List Fed) → arguments (par_mode old.mode) (args_in old_table old.args) (left_at old_table macro old) fed ≡ resume new_table macro new fed
   pub owns : Owns new_table new
-  pub hands : HandsOut new_table answer (scan_holds new)
-  pub moves : Moves old_table new_table (scan_holds old) (λ h. scan_holds new h + handed answer h)
-  pub gains : Gains old_table (scan_holds old) (λ h. scan_holds new h + handed answer h)
+  pub moves : Moves old_table new_table (scan_holds old) (scan_holds new)
+  pub gains : Gains old_table (scan_holds old) (scan_holds new)
   pub kept : Keeps old_table new_table (scan_holds old)
 
 -- a scanner that may enter the next place
@@ -167,16 +142,16 @@ NextPlace table macro scan (Some next) =
     (scan.args.count < 9) × (left_at table macro scan ≡ delimiter_at table macro next ∷ places_behind (args_in table scan.args) (rest_at table macro next)) × IsOn table macro next
 
 -- What a token comes to: the answer is what the definition asks for after it, the arguments and the list in work are the
--- definition's, and the scanner goes on behind the token.
-pub record Answers (old_table new_table : List (Option Entry)) (macro : ℕ) (old new : ArgScan) (x : Token) (answer : ArgAsk) : Type 0 where
-  pub answers : answer_of new_table answer (args_in new_table new.args) (work_of new_table new) ≡ resume old_table macro old (Tok x ∷ [])
-  pub args : args_in new_table new.args ≡ args_left (resume old_table macro old (Tok x ∷ []))
+-- definition's, it is kept whether an extra brace is answered, and the scanner goes on behind the token.
+pub record Answers (old_table new_table : List (Option Entry)) (macro : ℕ) (old new : ArgScan) (x : Token) (answer : CallAsk) : Type 0 where
+  pub answers : answer_of answer (args_in new_table new.args) (work_of new_table new) ≡ resume old_table macro old (Tok x ∷ [])
+  pub args : args_in new_table new.args ≡ arguments_in (resume old_table macro old (Tok x ∷ []))
   pub work : work_of new_table new ≡ work_in (resume old_table macro old (Tok x ∷ []))
+  pub braced : new.braced ≡ asks_brace answer
   pub goes_on : IsOpen answer → Next old_table new_table macro old new x
   pub owns : Owns new_table new
-  pub hands : HandsOut new_table answer (scan_holds new)
-  pub moves : Moves old_table new_table (scan_holds old) (λ h. scan_holds new h + handed answer h)
-  pub gains : Gains old_table (scan_holds old) (λ h. scan_holds new h + handed answer h)
+  pub moves : Moves old_table new_table (scan_holds old) (scan_holds new)
+  pub gains : Gains old_table (scan_holds old) (scan_holds new)
   pub kept : Keeps old_table new_table (scan_holds old)
 
 -- The memory is full within a growth: the list in work has some of the tokens that go into it, from the first on, and not all,

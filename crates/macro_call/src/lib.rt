@@ -4,6 +4,7 @@
 //! keeps a place in it. The arguments are lists of their own.
 #![tactic(auto)]
 
+mod ask;
 mod braces;
 mod builds;
 mod cursor;
@@ -14,6 +15,7 @@ mod present;
 mod scan;
 mod tokens;
 
+pub use ask::CallAsk;
 pub use cursor::{Cursor, at_first, at_first_built};
 pub use laws::{
     arguments_are_shortest, calls_end_at_once, checks_show_at_pars, delimited_lists_are_balanced,
@@ -22,4 +24,4 @@ pub use laws::{
 };
 pub use par_mode::ParMode;
 pub use present::{Present, Step};
-pub use scan::{ArgAsk, ArgScan};
+pub use scan::ArgScan;

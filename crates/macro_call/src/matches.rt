@@ -116,5 +116,9 @@ pub fn go_on(
     if depth == 0 && same(x, wanted) {
         return (0, behind);
     }
+    // Most tokens neither go on with a match nor begin one.
+    if matched == 0 {
+        return (1, delimiter);
+    }
     begin_again(lists, list, delimiter, matched, depth, x)
 }

@@ -10,8 +10,9 @@ ghost use Rattle.macro_args.specs.Args.{IsFilled};
 ghost use Rattle.macro_call.specs.Cursors.{IsOn, delimiter_at};
 ghost use Rattle.macro_call.specs.Modes.{mode_of};
 ghost use Rattle.macro_call.specs.PlainScans.{first_scan, cut_scan, settled_scan};
-ghost use Rattle.macro_call.specs.Scans.{scan_of, resume, scan_holds, Owns, IsSound, answer_of, handed, IsOpen, Gains, Next, IsBetween, NextPlace, left_at, Enters, Answers, IsCutShort, TookIn, CutIn, IsReady, IsWhole, Completes};
+ghost use Rattle.macro_call.specs.Scans.{scan_of, resume, scan_holds, Owns, IsSound, answer_of, IsOpen, Gains, Next, IsBetween, NextPlace, left_at, Enters, Answers, IsCutShort, TookIn, CutIn, IsReady, IsWhole, Completes};
 
+use crate::ask::CallAsk;
 use crate::cursor::{Cursor, at_first};
 use crate::par_mode::ParMode;
 use crate::present::{Present, Step, abandon};
@@ -31,22 +32,6 @@ pub struct ArgScan {
     braced: bool,
     present: Option<Present>,
     args: Args,
-}
-
-/// What the scanner answers to a token.
-#[must_use]
-pub enum ArgAsk {
-    /// More tokens are needed.
-    More,
-    /// All arguments are gathered.
-    Called(Args),
-    /// The tokens in front of the first place don't match: "Use of \a doesn't match its definition".
-    Mismatch,
-    /// A right brace that closes nothing came: "Argument of \a has an extra }". It is put back behind a `\par`.
-    ExtraBrace,
-    /// A `\par` ended the call: "Paragraph ended before \a was complete", or, where this is true, without a report. The
-    /// list in work is all that was read of the present argument in front of the `\par`, for the runaway text.
-    ParEnded(bool),
 }
 
 // A token to the present argument, where there is one.
@@ -90,7 +75,7 @@ impl ArgScan {
     // Behind the tokens in front of the first place, or behind a delimiter: the next argument's list is begun as its
     // place is reached.
     #[inline(always)]
-    fn enter(&mut self, lists: &mut Lists, list: &ListRef) -> Result<ArgAsk, Full>
+    fn enter(&mut self, lists: &mut Lists, list: &ListRef) -> Result<CallAsk, Full>
         requires { IsBetween lists.old (id_of list.now) self.old }
         ensures enters { IfOk result (λ answer. Enters lists.old lists.new (id_of list.now) self.old self.new answer) }
         ensures err { OnErr result (lists.new ≡ lists.old) }
@@ -100,8 +85,7 @@ impl ArgScan {
         ensures length { length lists.new ≡ length lists.old }
     {
         let Some(next) = self.next_place(lists, list) else {
-            let args = mem::replace(&mut self.args, Args::none());
-            return Ok(ArgAsk::Called(args));
+            return Ok(CallAsk::Gathered);
         };
         let build = match lists.begin() {
             Ok(build) => build,
@@ -110,11 +94,11 @@ impl ArgScan {
         let none = mem::replace(&mut self.present, Some(Present::new(build, next)));
         abandon(lists, none);
         self.cursor = next;
-        Ok(ArgAsk::More)
+        Ok(CallAsk::More)
     }
 
     // A token in front of the first place.
-    fn feed_start(&mut self, lists: &mut Lists, list: &ListRef, x: Token) -> Result<ArgAsk, Full>
+    fn feed_start(&mut self, lists: &mut Lists, list: &ListRef, x: Token) -> Result<CallAsk, Full>
         requires sound { IsSound lists.old (id_of list.now) self.old }
         requires start { self.old.present ≡ None }
         ensures answers { IfOk result (λ answer. Answers lists.old lists.new (id_of list.now) self.old self.new x answer) }
@@ -124,11 +108,11 @@ impl ArgScan {
     {
         let (wanted, next) = self.cursor.delimiting(lists, list);
         if !same(x, wanted) {
-            return Ok(ArgAsk::Mismatch);
+            return Ok(CallAsk::Mismatch);
         }
         self.cursor = next;
         if next.next_along(lists).is_some() {
-            return Ok(ArgAsk::More);
+            return Ok(CallAsk::More);
         }
         self.enter(lists, list)
     }
@@ -150,7 +134,7 @@ impl ArgScan {
 
     // A token in a place.
     #[inline(always)]
-    fn feed_place(&mut self, lists: &mut Lists, list: &ListRef, x: Token) -> Result<ArgAsk, Full>
+    fn feed_place(&mut self, lists: &mut Lists, list: &ListRef, x: Token) -> Result<CallAsk, Full>
         requires sound { IsSound lists.old (id_of list.now) self.old }
         requires in_place { self.old.present ≢ None }
         ensures answers { IfOk result (λ answer. Answers lists.old lists.new (id_of list.now) self.old self.new x answer) }
@@ -171,11 +155,11 @@ impl ArgScan {
             Step::ExtraBrace => {
                 self.mode = ParMode::Short;
                 self.braced = true;
-                Ok(ArgAsk::ExtraBrace)
+                Ok(CallAsk::ExtraBrace)
             }
-            Step::ParEnded => Ok(ArgAsk::ParEnded(self.mode.is_checked())),
-            Step::Skipped => Ok(ArgAsk::More),
-            Step::Going => Ok(ArgAsk::More),
+            Step::ParEnded => Ok(CallAsk::ParEnded(self.mode.is_checked())),
+            Step::Skipped => Ok(CallAsk::More),
+            Step::Going => Ok(CallAsk::More),
         }
     }
 
@@ -223,12 +207,13 @@ impl ArgScan {
     }
 
     /// Takes a token. What comes is what the definition of arguments asks for after all that was fed, and the scanner
-    /// stands behind it. After an answer that ends the call, or a refusal, it may only lend its list and be abandoned.
+    /// stands behind it. After an answer that ends the call, or a refusal, it may only lend its list and be abandoned; where
+    /// all arguments are there, it gives them (`into_args`).
     ///
     /// # Errors
     /// All words are used: some of the tokens that go into the list in work are in it, from the first on, and not all, and
     /// nothing else has changed; or the argument is whole, and the next one's list isn't begun.
-    pub fn feed(&mut self, lists: &mut Lists, list: &ListRef, token: Token) -> Result<ArgAsk, Full>
+    pub fn feed(&mut self, lists: &mut Lists, list: &ListRef, token: Token) -> Result<CallAsk, Full>
         requires { IsSound lists.old (id_of list.now) self.old }
         ensures answers { IfOk result (λ answer. Answers lists.old lists.new (id_of list.now) self.old self.new token answer) }
         ensures cut_short { OnErr result (IsCutShort lists.old lists.new (id_of list.now) self.old self.new token) }
@@ -263,6 +248,13 @@ impl ArgScan {
         self.braced = false;
     }
 
+    /// Whether an extra brace was answered last, and isn't settled yet.
+    pub fn is_braced(&self) -> bool
+        ensures { result ≡ self.now.braced }
+    {
+        self.braced
+    }
+
     /// The list of the present argument, if there is one: what was read of it without a partial match, for the
     /// runaway text.
     pub fn built(&self) -> Option<&Build>
@@ -271,6 +263,24 @@ impl ArgScan {
         match &self.present {
             Some(present) => Some(present.built()),
             None => None,
+        }
+    }
+
+    /// The arguments so far, where no list is in work: all of them, once `feed` has answered so.
+    pub fn into_args(self) -> Args
+        requires { self.present ≡ None }
+        ensures { result ≡ self.args }
+    {
+        let ArgScan {
+            cursor: _,
+            mode: _,
+            braced: _,
+            present,
+            args,
+        } = self;
+        match present {
+            None => args,
+            Some(_present) => unreachable!(),
         }
     }
 

@@ -3,7 +3,7 @@ use Rattle.token_lists.specs.Ids.{id_of}
 use Rattle.plain_tokens.specs.Arguments.{is_prefix, same}
 use Rattle.macro_call.specs.Cursors.{delimiter_at}
 use Rattle.macro_call.proofs.Cursors.{delimiter_ahead}
-use Rattle.macro_call.proofs.Fronts.{past_none, past_stops, here, not_inside, not_fitting, prefix_next}
+use Rattle.macro_call.proofs.Fronts.{first_fails, past_none, past_stops, here, not_inside, not_fitting, prefix_next}
 use Rattle.macro_call.proofs.matches.go_on.Goals as goal
 use Rattle.macro_call.proofs.matches.go_on.Goals.{Then-same, After-delimiting-wanted, else-depth-eq0-via-then-depth-eq0+else-same, else-depth-eq0-via-else-depth-eq0}
 
@@ -34,4 +34,16 @@ pub begin_again-requires-clause-fails : goal.begin_again-requires-clause-fails
 begin_again-requires-clause-fails c = elim c.else-depth-eq0.branch [
   | else-depth-eq0-via-then-depth-eq0+else-same w ↦ not_fitting c.args.depth _ (fits (goal.at.begin_again-requires-clause-fails c).After-delimiting-wanted ∙ sym w.same.ensures ∙ w.if-same.false)
   | else-depth-eq0-via-else-depth-eq0 w ↦ not_inside c.args.depth _ w.if-depth-eq0.false
+]
+
+pub returns-then-matched-eq0-clause-part : goal.returns-then-matched-eq0-clause-part
+returns-then-matched-eq0-clause-part c = elim c.else-depth-eq0.branch [
+  | else-depth-eq0-via-then-depth-eq0+else-same w ↦ (first_fails _ c.args.matched c.args.depth c.args.x c.if-matched-eq0.true (not_fitting c.args.depth _ (fits (goal.at.returns-then-matched-eq0-clause-part c).After-delimiting-wanted ∙ sym w.same.ensures ∙ w.if-same.false))).0
+  | else-depth-eq0-via-else-depth-eq0 w ↦ (first_fails _ c.args.matched c.args.depth c.args.x c.if-matched-eq0.true (not_inside c.args.depth _ w.if-depth-eq0.false)).0
+]
+
+pub returns-then-matched-eq0-clause-rest : goal.returns-then-matched-eq0-clause-rest
+returns-then-matched-eq0-clause-rest c = elim c.else-depth-eq0.branch [
+  | else-depth-eq0-via-then-depth-eq0+else-same w ↦ (first_fails _ c.args.matched c.args.depth c.args.x c.if-matched-eq0.true (not_fitting c.args.depth _ (fits (goal.at.returns-then-matched-eq0-clause-rest c).After-delimiting-wanted ∙ sym w.same.ensures ∙ w.if-same.false))).1
+  | else-depth-eq0-via-else-depth-eq0 w ↦ (first_fails _ c.args.matched c.args.depth c.args.x c.if-matched-eq0.true (not_inside c.args.depth _ w.if-depth-eq0.false)).1
 ]

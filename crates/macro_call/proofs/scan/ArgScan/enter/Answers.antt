@@ -2,7 +2,7 @@ use Rattle.std.proofs.Common.{◌≡◌, List, Option, sym, subst, ◌∙◌}
 use Rattle.token_lists.specs.Table.{Entry}
 use Rattle.token_lists.specs.Ids.{id_of}
 use Rattle.macro_call.specs.declared.present.Present.{Present}
-use Rattle.macro_call.specs.declared.scan.ArgAsk.TheVariants as ask
+use Rattle.macro_call.specs.declared.ask.CallAsk.TheVariants as ask
 use Rattle.macro_call.specs.Scans.{Enters}
 use Rattle.macro_call.proofs.Entered.{entered}
 use Rattle.macro_call.proofs.scan.ArgScan.enter.Goals as goal
