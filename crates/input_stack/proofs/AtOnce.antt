@@ -1,5 +1,5 @@
 -- What is handed on at once is what is pulled.
-use Rattle.std.proofs.Common.{◌≡◌, ℕ, List, [], ◌∷◌, ◌++◌, map, length, reverse, Option, None, Some, Bool, true, false, cond, refl, sym, ap, ◌∙◌, subst, arith}
+use Rattle.std.proofs.Common.{◌≡◌, ℕ, List, [], ◌∷◌, ◌++◌, map, length, reverse, Option, None, Some, Bool, false, cond, refl, sym, ap, ◌∙◌, subst, arith}
 use Rattle.std.specs.Prelude.{IfSome, IsSome, IsTrue, MatchOption, Ok, is_some, slice_get}
 use Rattle.std.proofs.lemmas.Option.{none-some}
 use Rattle.tex_defs.specs.declared.Token.{Token}
@@ -12,7 +12,7 @@ use Rattle.input_stack.specs.WholeLevel as level
 use Rattle.input_stack.specs.declared.level.Pulled.{Pulled}
 use Rattle.input_stack.specs.declared.level.Pulled.TheVariants as pulled_as
 use Rattle.input_stack.specs.declared.stack.InputStack.{InputStack}
-use Rattle.input_stack.specs.Puts.{Item, Text, First, Later, Gap, first, without_gaps, is_empty, next_item, pulled}
+use Rattle.input_stack.specs.Puts.{Item, Text, First, Later, Gap, first, without_gaps, is_empty, has_item, next_item, pulled}
 use Rattle.input_stack.specs.Calls.{Argument, IsText, token_items, substituted}
 use Rattle.input_stack.specs.Rest.{number, rest, IsAt}
 use Rattle.input_stack.specs.CallViews.{cells_in, open_items, open_number, items_of, met, met_of, opens, is_opening, opened, IsCall, IsSettled, CallPulls}
@@ -90,12 +90,28 @@ pub body_at_hand : (table : List (Option Entry)) (c : WholeCall) (p : Option Tok
 body_at_hand table c None b is at text some = absurd (text some)
 body_at_hand table c (Some t) b is at text some = subst (λ (xs : List Item). IsSome (first xs)) (sym (text_front table c _ t is (get_drop (rest table c.body) 0 t (sym at)) (text some))) refl
 
-text_at_hand : (ts : List Token) → is_some (slice_get ts 0) ≡ true → IsSome (first (map Text ts))
-text_at_hand [] is = cc
-text_at_hand (t ∷ ts) is = refl
+texts_left : (ts : List Token) → is_some (slice_get ts 0) ≡ is_some (first (map Text ts))
+texts_left [] = refl
+texts_left (t ∷ ts) = refl
 
-pub list_at_hand : (table : List (Option Entry)) (l : WholeLevel) (r : Reader) (b : Bool) → l ≡ level.List r → b ≡ is_some (slice_get (rest table r) 0) → IsTrue b → IsSome (level_item table l)
-list_at_hand table l r b is at some = subst (λ (k : WholeLevel). IsSome (level_item table k)) (sym is) (text_at_hand (rest table r) (sym at ∙ true_is b some))
+pub list_at_hand : (table : List (Option Entry)) (l : WholeLevel) (r : Reader) (b : Bool) → l ≡ level.List r → b ≡ is_some (slice_get (rest table r) 0) → b ≡ is_some (level_item table l)
+list_at_hand table l r b is at = at ∙ texts_left (rest table r) ∙ ap (λ (k : WholeLevel). is_some (level_item table k)) (sym is)
+
+no_gaps : (ts : List Token) → is_some (first (map Text ts)) ≡ is_some (first (without_gaps (map Text ts)))
+no_gaps [] = refl
+no_gaps (t ∷ ts) = refl
+
+level_at_hand : (table : List (Option Entry)) (l : WholeLevel) (ls : List WholeLevel) → is_some (level_item table l) ≡ has_item (pending_in table (l ∷ ls)).puts
+level_at_hand table (level.List r) ls = no_gaps (rest table r)
+level_at_hand table (level.Call c) ls = refl
+level_at_hand table (level.Source s) ls = refl
+
+pub top_at_hand : (table : List (Option Entry)) (xs ls : List WholeLevel) (l : WholeLevel) → xs ≡ l ∷ ls → is_some (level_item table l) ≡ has_item (pending_in table xs).puts
+top_at_hand table xs ls l is = level_at_hand table l ls ∙ ap (λ (ys : List WholeLevel). has_item (pending_in table ys).puts) (sym is)
+
+pub none_at_hand : (table : List (Option Entry)) (xs : List WholeLevel) → length xs ≡ 0 → false ≡ has_item (pending_in table xs).puts
+none_at_hand table [] none = refl
+none_at_hand table (x ∷ xs) none = absurd (omega (arith, none))
 
 item_some : (l : WholeLevel) (table : List (Option Entry)) → IsSome (level_item table l) → is_level_passed table l ≡ false
 item_some (level.List r) table some = some_front (rest table r) some

@@ -1,6 +1,6 @@
 -- What was put in front of a line: lists that are being read, and what counts as used of them
 -- (TeX: The Program, part 22, input stacks and states).
-use Rattle.std.specs.Prelude.{ℕ, ◌+◌, List, [], ◌∷◌, ◌++◌, length, Option, None, Some, Bool, true, false, sum_by}
+use Rattle.std.specs.Prelude.{ℕ, ◌+◌, List, [], ◌∷◌, ◌++◌, length, Option, None, Some, Bool, true, false, is_some, sum_by}
 use Rattle.tex_defs.specs.declared.Token.{Token}
 
 -- What is still to be read: a token of the list that was put, the first token of an argument and a further one, each
@@ -111,6 +111,11 @@ first (x ∷ xs) = Some x
 -- the item that is next handed on: the first that is no gap
 abbrev pub next_item : List Put → Option Item
 next_item puts = first (without_gaps (flat puts))
+
+-- the innermost Put has an item left that is no gap
+abbrev pub has_item : List Put → Bool
+has_item [] = false
+has_item (p ∷ ps) = is_some (first (without_gaps p.items))
 
 -- after the gaps in front and the first item behind them
 abbrev pub pulled_top : Put → List Item → List Put → List Put → List Put

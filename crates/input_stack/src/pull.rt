@@ -1,5 +1,5 @@
 // What one level gives.
-ghost use Rattle.std.specs.Prelude.{◌≡◌, length, false, List, Option, None, Some, IfSome, IsSome, IsTrue, cond};
+ghost use Rattle.std.specs.Prelude.{◌≡◌, length, false, List, Option, None, Some, IfSome, is_some, cond};
 ghost use Rattle.token_lists.specs.declared.ListRef.{ListRef};
 ghost use Rattle.line_lexer.specs.declared.Ahead.TheVariants as ahead;
 ghost use Rattle.input_stack.specs.Pulls.{answer_of};
@@ -46,7 +46,7 @@ pub fn quick_level(level: &mut Level, lists: &Lists) -> Option<Token>
 #[inline(always)]
 pub fn has_item(level: &Level, args: &[Option<ListRef>], lists: &Lists) -> bool
     requires { IsLevel lists.now (whole args.now level.now) }
-    ensures { IsTrue result → IsSome (level_item lists.now (whole args.now level.now)) }
+    ensures { result ≡ is_some (level_item lists.now (whole args.now level.now)) }
 {
     match level {
         Level::List(reader) => reader.is_left(lists),

@@ -8,7 +8,7 @@ ghost use Rattle.input_stack.specs.Whole.{WholeCall};
 ghost use Rattle.input_stack.specs.WholeLevel.{WholeLevel};
 ghost use Rattle.input_stack.specs.WholeLevel as whole_as;
 ghost use Rattle.input_stack.specs.Wholes.{whole, level_count, count_in};
-ghost use Rattle.input_stack.specs.Puts.{is_finished, next_item, Text};
+ghost use Rattle.input_stack.specs.Puts.{is_finished, has_item, next_item, Text};
 ghost use Rattle.input_stack.specs.Calls.{call_put};
 ghost use Rattle.input_stack.specs.CallViews.{arguments_in, met, is_opening, opened, Shares, IsCountable};
 ghost use Rattle.input_stack.specs.Pushes.{pushed_holds, call_refused};
@@ -684,7 +684,8 @@ impl InputStack {
     #[inline(always)]
     pub fn has_item(&self, lists: &Lists) -> bool
         requires { Stands lists.now self.now }
-        ensures { IsTrue result → IsSome (next_item (pending lists.now self.now).puts) }
+        ensures is { result ≡ has_item (pending lists.now self.now).puts }
+        ensures next { IsTrue result → IsSome (next_item (pending lists.now self.now).puts) }
     {
         let count = self.levels.len();
         if count == 0 {

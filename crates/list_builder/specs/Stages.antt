@@ -1,16 +1,20 @@
 -- What a stage of the scanner stands for.
-use Rattle.std.specs.Prelude.{ℕ, ◌+◌, List, Option, Some, None}
+use Rattle.std.specs.Prelude.{ℕ, ◌+◌, ◌&&◌, List, Option, Some, None, Bool, false, not}
 use Rattle.tex_syntax.specs.declared.words.Manner.{Manner}
 use Rattle.tex_defs.specs.declared.Token.{Token}
+use Rattle.tex_defs.specs.declared.Seen.{Seen}
+use Rattle.plain_tokens.specs.Categories.{begin_group, end_group}
+use Rattle.plain_tokens.specs.Tokens.{has_category}
 use Rattle.list_builder.specs.Plain.{body_of}
 use Rattle.list_builder.specs.declared.ask.Due.{Due}
 use Rattle.list_builder.specs.declared.ask.Due.TheVariants as due
+use Rattle.list_builder.specs.declared.stage.Body.{Body}
 use Rattle.list_builder.specs.declared.stage.Stage.{Stage}
 use Rattle.list_builder.specs.declared.stage.Stage.TheVariants as stage
 use Rattle.list_builder.specs.declared.stage.Next.{Next}
 use Rattle.list_builder.specs.declared.stage.Next.TheVariants.{On, Finished}
 use Rattle.list_builder.specs.declared.stage.Step.{Step}
-use Rattle.plain_state.specs.Definitions.{Fed, Answer, More, Tells, Done, with_cell, body, reference, illegal, no_body, parameters, place, tenth, misnumbered, missing, first}
+use Rattle.plain_state.specs.Definitions.{Fed, Answer, More, Tells, Done, with_cell, body, reference, illegal, no_body, parameters, place, tenth, misnumbered, missing, first, is_reference}
 
 -- what is answered on what is still to come, where this list has been built
 abbrev pub resume : Manner → Stage → List Token → List Fed → Answer
@@ -36,6 +40,15 @@ depth_of (stage.InBody b depth) = depth
 depth_of (stage.Reference b depth character) = depth
 depth_of (stage.Illegal b depth character) = depth
 depth_of s = 0
+
+-- a token of a body that is no brace and no parameter character that stands for a parameter
+abbrev pub is_kept : Body → Seen → Bool
+is_kept b x = (not (has_category begin_group x.token) && not (has_category end_group x.token)) && not (is_reference (body_of b) x)
+
+-- a token of a body goes into the list as it is, and the stage stays; in other stages this is told of none
+abbrev pub keeps_token : Stage → Seen → Bool
+keeps_token (stage.InBody b depth) x = is_kept b x
+keeps_token s x = false
 
 -- a report is due
 abbrev pub IsTelling : Stage → Type 0

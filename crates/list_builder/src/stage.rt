@@ -1,14 +1,13 @@
 // Where a scanner stands, apart from its list.
-ghost use Rattle.std.specs.Prelude.{◌≡◌, ◌≤◌, ◌<◌, ◌+◌, ◌^◌, List, [], ◌∷◌, ◌++◌, ◌&&◌, ℕ, Option, None, Some, IfSome, IsTrue, not, true, false};
+ghost use Rattle.std.specs.Prelude.{◌≡◌, ◌≤◌, ◌<◌, ◌+◌, ◌^◌, List, [], ◌∷◌, ◌++◌, ℕ, Option, None, Some, IfSome, IsTrue, true, false};
 ghost use Rattle.tex_syntax.specs.declared.words.Manner.{Manner};
 ghost use Rattle.list_builder.specs.declared.stage.Next.TheVariants.{On};
 ghost use Rattle.tex_defs.specs.declared.Token.{Token};
 ghost use Rattle.token_lists.specs.Table.{Entry};
-ghost use Rattle.plain_tokens.specs.Categories.{begin_group, end_group};
 ghost use Rattle.plain_tokens.specs.Tokens.{has_category, is_other, means_category};
 ghost use Rattle.plain_state.specs.Definitions.{Fed, Tok, Told, is_parameter, character_of, is_number, place_digit, is_reference, first, parameters, place, body, reference};
 ghost use Rattle.list_builder.specs.Plain.{body_of};
-ghost use Rattle.list_builder.specs.Stages.{resume, depth_of, due_of, IsReport, IsTelling, TellsNext, goes, depth_after, growth};
+ghost use Rattle.list_builder.specs.Stages.{resume, depth_of, due_of, is_kept, keeps_token, IsReport, IsTelling, TellsNext, goes, depth_after, growth};
 ghost use Rattle.list_builder.specs.Scans.{answer_of, IsOpen};
 
 use crate::ask::{Ask, Due};
@@ -142,7 +141,7 @@ impl Body {
 
     // Whether a token of it stands for itself, and is no brace.
     fn keeps(self, x: Seen) -> bool
-        ensures { result ≡ (not (has_category begin_group x.token) && not (has_category end_group x.token)) && not (is_reference (body_of self) x) }
+        ensures { result ≡ is_kept self x }
     {
         !has_category(x.token, 1) && !has_category(x.token, 2) && !self.is_reference(x)
     }
@@ -319,10 +318,11 @@ impl Stage {
         }
     }
 
-    /// Whether a token goes into the list and nothing else changes, as most tokens of a body: it is neither a brace nor a
+    /// Whether a body is read and a token goes into the list as it is and nothing else changes: it is neither a brace nor a
     /// parameter character that stands for a parameter.
     pub fn keeps(&self, x: Seen) -> bool
-        ensures { IsTrue result → (m : Manner) (list : List Token) (fed : List Fed) → resume m self.now list (Tok x ∷ fed) ≡ resume m self.now (list ++ x.token ∷ []) fed }
+        ensures is { result ≡ keeps_token self.now x }
+        ensures stays { IsTrue result → (m : Manner) (list : List Token) (fed : List Fed) → resume m self.now list (Tok x ∷ fed) ≡ resume m self.now (list ++ x.token ∷ []) fed }
     {
         match self {
             Stage::InBody(inside, _) => inside.keeps(x),

@@ -28,7 +28,7 @@ none_of false false false is = record { first = refl; second = refl; third = ref
 stays : (b : Body) (d : ℕ) (x : Seen) → AreFalse (has_category begin_group x.token) (has_category end_group x.token) (is_reference (body_of b) x) → (m : Manner) (list : List Token) (fed : List Fed) → resume m (InBody b d) list (Tok x ∷ fed) ≡ resume m (InBody b d) (list ++ x.token ∷ []) fed
 stays b d x h m list fed = rw (h.first, h.second, h.third) refl
 
-pub returns-in-InBody : goal.returns-in-InBody
-returns-in-InBody c = λ kept m list fed.
+pub returns-in-InBody-clause-stays : goal.returns-in-InBody-clause-stays
+returns-in-InBody-clause-stays c = λ kept m list fed.
     subst (λ (s : Stage). resume m s list (Tok c.args.x ∷ fed) ≡ resume m s (list ++ c.args.x.token ∷ []) fed) (sym c.in-InBody.is)
     (stays c.in-InBody.inside _ c.args.x (none_of _ _ _ (sym c.keeps.ensures ∙ kept)) m list fed)
