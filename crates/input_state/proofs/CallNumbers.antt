@@ -117,19 +117,19 @@ scan_shown table o args listed =
 pub call_numbers : code.Gathering → List ℕ
 call_numbers call.None = []
 call_numbers (call.Gathers name scan) = work_numbers scan.present ++ args_numbers scan.args
-call_numbers (call.Stopped name scan) = work_numbers scan.present ++ args_numbers scan.args
+call_numbers (call.Stopped name why scan) = work_numbers scan.present ++ args_numbers scan.args
 call_numbers (call.Gathered name args) = args_numbers args
 
 pub call_times : (table : List (Option Entry)) (m : Table) (k : code.Gathering) (h : ℕ) → IsCall table m k → times h (call_numbers k) ≡ call_holds k h
 unfolding call_numbers
 call_times table m call.None h is = refl
 call_times table m (call.Gathers name scan) h is = omega (arith, times_append h (work_numbers scan.present) (args_numbers scan.args), work_times scan.present h, args_times scan.args h is.sound.filled)
-call_times table m (call.Stopped name scan) h is = omega (arith, times_append h (work_numbers scan.present) (args_numbers scan.args), work_times scan.present h, args_times scan.args h is.filled)
+call_times table m (call.Stopped name why scan) h is = omega (arith, times_append h (work_numbers scan.present) (args_numbers scan.args), work_times scan.present h, args_times scan.args h is.filled)
 call_times table m (call.Gathered name args) h is = args_times args h is.filled
 
 pub call_shown : (table : List (Option Entry)) (m : Table) (k : code.Gathering) → IsCall table m k → map (tokens_at table) (call_numbers k) ≡ call_lists (calling_of table k)
 unfolding call_numbers
 call_shown table m call.None is = refl
 call_shown table m (call.Gathers name scan) is = scan_shown table scan.present scan.args is.sound.listed
-call_shown table m (call.Stopped name scan) is = scan_shown table scan.present scan.args is.listed
+call_shown table m (call.Stopped name why scan) is = scan_shown table scan.present scan.args is.listed
 call_shown table m (call.Gathered name args) is = args_shown table args is.listed

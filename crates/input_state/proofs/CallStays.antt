@@ -134,7 +134,7 @@ module _ (old new : List (Option Entry)) (scan : ArgScan) (s : Stay old new (sca
 pub calling_stays : (old new : List (Option Entry)) (k : code.Gathering) → Stay old new (call_holds k) → calling_of new k ≡ calling_of old k
 calling_stays old new call.None s = refl
 calling_stays old new (call.Gathers name scan) s = ap (Gathering name) (scan_stays old new scan s)
-calling_stays old new (call.Stopped name scan) s = ap (Stopped name) (scan_stays old new scan s)
+calling_stays old new (call.Stopped name why scan) s = ap (Stopped name why) (scan_stays old new scan s)
 calling_stays old new (call.Gathered name args) s = ap (Gathered name) (args_stay old new args s)
 
 -- each list that is held keeps its tokens
@@ -158,7 +158,7 @@ call_stays old new m n (call.Gathers name scan) same s meant_stay counted is =
       list = list;
       sound = sound_stays old new scan s is.id (meant_stay.tokens is.id some) (meant_stay.places is.id some) (counted.outside is.id some) counted.covers is.sound;
     }
-call_stays old new m n (call.Stopped name scan) same s meant_stay counted is = owned_stays old new scan s counted.covers is
+call_stays old new m n (call.Stopped name why scan) same s meant_stay counted is = owned_stays old new scan s counted.covers is
 call_stays old new m n (call.Gathered name args) same s meant_stay counted is = record {
   id = is.id;
   list = ap (λ (ms : List (Meaning (Option ℕ))). list_of (name_meaning ms name)) same ∙ is.list;

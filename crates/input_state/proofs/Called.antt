@@ -1,6 +1,6 @@
 -- A call begins and takes tokens.
 use Rattle.std.proofs.Common.{◌≡◌, ℕ, ◌+◌, ◌<◌, ◌≤◌, List, [], ◌∷◌, length, drop, map, take, Bool, true, Option, None, Some, Result, Ok, Err, inl, inr, refl, sym, ap, ap₂, ◌∙◌, subst, arith}
-use Rattle.std.specs.Prelude.{if◌then◌else◌, IfOk, OnOk, IfErr, option_map}
+use Rattle.std.specs.Prelude.{if◌then◌else◌, OnOk, IfErr, option_map}
 use Rattle.std.proofs.lemmas.Option.{none-some, same_Some}
 use Rattle.std.proofs.lemmas.List.Sums.{sum_by-append}
 use Rattle.tex_defs.specs.declared.Token.{Token}
@@ -9,23 +9,22 @@ use Rattle.tex_defs.specs.declared.Full.{Full}
 use Rattle.tex_defs.specs.declared.Sizes.{Sizes}
 use Rattle.tex_defs.specs.declared.Meaning.{Meaning}
 use Rattle.tex_defs.specs.declared.Meaning.TheVariants as means
-use Rattle.plain_tokens.specs.Arguments.{ParMode, Called, arguments, begins_with_place, start_of}
+use Rattle.plain_tokens.specs.Arguments.{ParMode, Tok, arguments, begins_with_place, start_of}
 use Rattle.plain_tokens.specs.Meanings.{name_meaning}
 use Rattle.plain_tokens.specs.Tables.{lists_words, list_words, memory, refused}
 use Rattle.token_lists.specs.declared.Build.{Build}
-use Rattle.token_lists.specs.Table.{Entry, tokens_at, holders_at}
-use Rattle.token_lists.specs.Accounts.{Keeps, Moves, none}
+use Rattle.token_lists.specs.Table.{Entry, tokens_at}
+use Rattle.token_lists.specs.Accounts.{none}
 use Rattle.token_lists.specs.Refusals.{IsFull}
-use Rattle.macro_args.specs.declared.args.Args.{Args}
-use Rattle.macro_args.specs.Args.{args_in, args_hold, cell_tokens}
+use Rattle.macro_args.specs.Args.{args_in, cell_tokens}
 use Rattle.macro_call.specs.declared.present.Present.{Present}
 use Rattle.macro_call.specs.declared.scan.ArgScan.{ArgScan}
-use Rattle.macro_call.specs.declared.scan.ArgAsk.{ArgAsk}
-use Rattle.macro_call.specs.declared.scan.ArgAsk.TheVariants as ask
+use Rattle.macro_call.specs.declared.ask.CallAsk.{CallAsk}
+use Rattle.macro_call.specs.declared.ask.CallAsk.TheVariants as ask
 use Rattle.macro_call.specs.Stages.{stage_of}
 use Rattle.macro_call.specs.Modes.{par_mode}
 use Rattle.macro_call.specs.PlainScans.{Scan, first_scan, resume_scan, with_work, places_left}
-use Rattle.macro_call.specs.Scans.{Answers, IsCutShort, IsSound as IsStanding, IsInPlace, scan_of, scan_holds}
+use Rattle.macro_call.specs.Scans.{Answers, asks_brace, IsCutShort, IsSound as IsStanding, IsInPlace, scan_of, scan_holds}
 use Rattle.macro_call.proofs.Resumed.{has_lists}
 use Rattle.eqtb_save.specs.Table.{Table}
 use Rattle.equivalents.specs.Groups.{Groups}
@@ -35,16 +34,14 @@ use Rattle.input_stack.specs.declared.stack.InputStack.{InputStack}
 use Rattle.input_state.specs.HeldLists.{HeldLists, words_held}
 use Rattle.input_state.specs.Macros.{list_at}
 use Rattle.input_state.specs.Calls.{macro_text, text_of, begun_lists}
-use Rattle.input_state.specs.Callings.{Calling, NotCalling, Gathering, Stopped, Gathered, call_lists, scan_lists}
-use Rattle.input_state.specs.CallFeeds.{Comes, Feeds, CutTo, CutShort, InGrowth, Between, growth, scan_growth, IsTaking}
+use Rattle.input_state.specs.Callings.{Calling, NotCalling, Gathering, Stopped, Gathered, asks_where, scan_asks, call_lists, scan_lists}
+use Rattle.input_state.specs.CallFeeds.{Says, Stands, Comes, Feeds, CutTo, CutShort, InGrowth, Between, growth, scan_growth, IsTaking}
+use Rattle.input_state.specs.declared.answer.CallEnd.TheVariants as end
 use Rattle.input_state.specs.Recalls.{Recalls}
 use Rattle.input_state.specs.declared.gathering.Gathering as code
 use Rattle.input_state.specs.declared.gathering.Gathering.TheVariants as call
-use Rattle.input_state.specs.declared.answer.CallTold.{CallTold}
-use Rattle.input_state.specs.declared.answer.CallTold.TheVariants as tell
 use Rattle.input_state.specs.HeldViews.{Named, calling_of, texts, lists_of, IsCall, IsScanning, IsSound}
-use Rattle.input_state.proofs.CallStays.{args_stay}
-use Rattle.input_state.proofs.Sharing.{Stay, text_at}
+use Rattle.input_state.proofs.Sharing.{text_at}
 use Rattle.input_state.proofs.Sounds.{full_now}
 use Rattle.input_state.proofs.Growing.{begun_words, growth_fits}
 use Rattle.input_state.proofs.Refusing.{memory_room}
@@ -86,46 +83,45 @@ begun_full v text f is full = ap (λ (n : ℕ). refused v.sizes (memory n (words
 
 -- The scanner stands over the list of this macro, which stays.
 module _ (table after : List (Option Entry)) (id : ℕ) (name : Name) (scan next : ArgScan) (t : Token) (sound : IsStanding table id scan) where
-  more_comes : Answers table after id scan next t ask.More → Comes (tokens_at table id) t tell.More name (scan_of table scan) (Gathering name (scan_of after next))
+  -- it asks for what it answers
+  asking : (asks : CallAsk) → Answers table after id scan next t asks → scan_asks (scan_of after next) ≡ asks_where (asks_brace asks)
+  asking asks a = ap asks_where a.braced
+
+  -- and stands so
+  standing_so : (asks : CallAsk) → asks_where (asks_brace asks) ≡ asks → Answers table after id scan next t asks → Says asks (scan_of after next) (resume_scan (tokens_at table id) (scan_of table scan) (Tok t ∷ [])) →
+      Stands (tokens_at table id) t (scan_asks (scan_of after next)) (scan_of table scan) (scan_of after next)
+  standing_so asks is a says = subst (λ (b : CallAsk). Stands (tokens_at table id) t b (scan_of table scan) (scan_of after next)) (sym (asking asks a ∙ is)) (record { says = says; args = a.args; work = a.work })
+
+  more_comes : Answers table after id scan next t ask.More → Comes (tokens_at table id) t name (scan_of table scan) (Gathering name (scan_of after next))
   more_comes a = (
     refl,
     record {
-      stands = record { says = sym a.answers; args = a.args; work = a.work };
-      more = refl;
+      stands = standing_so ask.More refl a (sym a.answers);
       same = λ fed. (a.goes_on tt).same fed ∙ ap (λ (ts : List Token). resume_scan ts (scan_of after next) fed) (a.kept.tokens id sound.outside);
     },
   )
 
-  brace_comes : Answers table after id scan next t ask.ExtraBrace → Comes (tokens_at table id) t tell.ExtraBrace name (scan_of table scan) (Gathering name (scan_of after next))
+  brace_comes : Answers table after id scan next t ask.ExtraBrace → Comes (tokens_at table id) t name (scan_of table scan) (Gathering name (scan_of after next))
   brace_comes a = (
     refl,
     record {
-      stands = record { says = sym a.answers; args = a.args; work = a.work };
-      more = refl;
+      stands = standing_so ask.ExtraBrace refl a (sym a.answers);
       same = λ fed. (a.goes_on tt).same fed ∙ ap (λ (ts : List Token). resume_scan ts (scan_of after next) fed) (a.kept.tokens id sound.outside);
     },
   )
 
-  mismatch_comes : Answers table after id scan next t ask.Mismatch → Comes (tokens_at table id) t tell.Mismatch name (scan_of table scan) (Stopped name (scan_of after next))
+  mismatch_comes : Answers table after id scan next t ask.Mismatch → Comes (tokens_at table id) t name (scan_of table scan) (Stopped name end.Mismatch (scan_of after next))
   mismatch_comes a = (refl, record { stands = record { says = sym a.answers; args = a.args; work = a.work }; closed = refl })
 
-  ended_comes : (silent : Bool) → Answers table after id scan next t (ask.ParEnded silent) → Comes (tokens_at table id) t (tell.ParEnded silent) name (scan_of table scan) (Stopped name (scan_of after next))
+  ended_comes : (silent : Bool) → Answers table after id scan next t (ask.ParEnded silent) → Comes (tokens_at table id) t name (scan_of table scan) (Stopped name (end.ParEnded silent) (scan_of after next))
   ended_comes silent a = (refl, record { stands = record { says = sym a.answers; args = a.args; work = a.work }; closed = refl })
 
-  -- what is left of the scanner goes
-  called_comes : (args : Args) (last : List (Option Entry)) → Answers table after id scan next t (ask.Called args) → Moves after last (scan_holds next) none → Keeps after last (scan_holds next) →
-      Comes (tokens_at table id) t tell.Gathered name (scan_of table scan) (Gathered name (args_in last args))
-  called_comes args last a moves kept =
-      let counted : (h : ℕ) → 0 < args_hold args h → scan_holds next h < holders_at after h = λ h some. omega (arith, some, a.hands.spent h, a.moves h, sound.owns h) in
-      let stay : Stay after last (args_hold args) = record {
-        tokens = λ h some. kept.tokens h (counted h some);
-        places = λ h some. kept.places h (counted h some);
-        holders = λ h some. omega (arith, counted h some, moves h, a.hands.spent h);
-      } in
-      (refl, refl, sym a.answers ∙ ap (λ (all : List (List Token)). Called all) (sym (args_stay after last args stay)))
+  gathered_comes : Answers table after id scan next t ask.Gathered → Comes (tokens_at table id) t name (scan_of table scan) (Gathered name (args_in after next.args))
+  gathered_comes a = (refl, sym a.answers)
 
-  cut_comes : IsCutShort table after id scan next t → CutTo (tokens_at table id) t name (scan_of table scan) (Stopped name (scan_of after next))
+  cut_comes : IsCutShort table after id scan next t → CutTo (tokens_at table id) t name (scan_of table scan) (Stopped name end.Full (scan_of after next))
   cut_comes c = (
+    refl,
     refl,
     elim c.stage [
       | inl g ↦ InGrowth (record { was = g.was; front = g.part.front; behind = g.part.behind; before = g.before; whole = g.part.whole; some = g.part.some; after = g.scan ∙ ap (λ (ts : List Token). with_work (scan_of table scan) ts) g.part.grown })
@@ -145,7 +141,7 @@ module _ (table after : List (Option Entry)) (id : ℕ) (name : Name) (scan next
 pub is_scanning : (table : List (Option Entry)) (k : code.Gathering) → IsTaking (calling_of table k) → IsScanning k
 is_scanning table call.None is = is
 is_scanning table (call.Gathers name scan) is = tt
-is_scanning table (call.Stopped name scan) is = is
+is_scanning table (call.Stopped name why scan) is = is
 is_scanning table (call.Gathered name args) is = is
 
 growth_is : (text : Name → List Token) (here : List Token) (t : Token) (name : Name) (scan : Scan) (old : Calling) → old ≡ Gathering name scan → here ≡ text name → growth text t old ≡ scan_growth here t scan
@@ -160,42 +156,37 @@ module _ (table after : List (Option Entry)) (m : Table) (k : code.Gathering) (i
   standing : IsStanding table id scan
   standing = same_sound table m name id scan list (subst (IsCall table m) was is)
 
-  said : (a b : ArgAsk) → a ≡ b → Answers table after id scan next t a → Answers table after id scan next t b
-  said a b says answers = subst (λ (c : ArgAsk). Answers table after id scan next t c) says answers
+  said : (a b : CallAsk) → a ≡ b → Answers table after id scan next t a → Answers table after id scan next t b
+  said a b says answers = subst (λ (c : CallAsk). Answers table after id scan next t c) says answers
 
-  feeds : (told : CallTold) (l n : code.Gathering) → l ≡ n → Comes (tokens_at table id) t told name (scan_of table scan) (calling_of after n) → Feeds (text_of (texts table) m.groups.now.meanings) t told (calling_of table k) (calling_of after l)
-  feeds told l n now comes =
-      subst (λ (g : code.Gathering). Feeds (text_of (texts table) m.groups.now.meanings) t told (calling_of table g) (calling_of after l)) (sym was)
-      (subst (λ (g : code.Gathering). Comes (text_of (texts table) m.groups.now.meanings name) t told name (scan_of table scan) (calling_of after g)) (sym now)
-      (subst (λ (ts : List Token). Comes ts t told name (scan_of table scan) (calling_of after n)) (own_text table m name id list) comes))
+  feeds : (l n : code.Gathering) → l ≡ n → Comes (tokens_at table id) t name (scan_of table scan) (calling_of after n) → Feeds (text_of (texts table) m.groups.now.meanings) t (calling_of table k) (calling_of after l)
+  feeds l n now comes =
+      subst (λ (g : code.Gathering). Feeds (text_of (texts table) m.groups.now.meanings) t (calling_of table g) (calling_of after l)) (sym was)
+      (subst (λ (g : code.Gathering). Comes (text_of (texts table) m.groups.now.meanings name) t name (scan_of table scan) (calling_of after g)) (sym now)
+      (subst (λ (ts : List Token). Comes ts t name (scan_of table scan) (calling_of after n)) (own_text table m name id list) comes))
 
-  pub more_feeds : (a : ArgAsk) → a ≡ ask.More → Answers table after id scan next t a → Feeds (text_of (texts table) m.groups.now.meanings) t tell.More (calling_of table k) (calling_of after (call.Gathers name next))
-  more_feeds a says answers = feeds tell.More (call.Gathers name next) (call.Gathers name next) refl (more_comes table after id name scan next t standing (said a ask.More says answers))
+  pub more_feeds : (a : CallAsk) → a ≡ ask.More → Answers table after id scan next t a → Feeds (text_of (texts table) m.groups.now.meanings) t (calling_of table k) (calling_of after (call.Gathers name next))
+  more_feeds a says answers = feeds (call.Gathers name next) (call.Gathers name next) refl (more_comes table after id name scan next t standing (said a ask.More says answers))
 
-  pub brace_feeds : (a : ArgAsk) → a ≡ ask.ExtraBrace → Answers table after id scan next t a → Feeds (text_of (texts table) m.groups.now.meanings) t tell.ExtraBrace (calling_of table k) (calling_of after (call.Gathers name next))
-  brace_feeds a says answers = feeds tell.ExtraBrace (call.Gathers name next) (call.Gathers name next) refl (brace_comes table after id name scan next t standing (said a ask.ExtraBrace says answers))
+  pub brace_feeds : (a : CallAsk) → a ≡ ask.ExtraBrace → Answers table after id scan next t a → Feeds (text_of (texts table) m.groups.now.meanings) t (calling_of table k) (calling_of after (call.Gathers name next))
+  brace_feeds a says answers = feeds (call.Gathers name next) (call.Gathers name next) refl (brace_comes table after id name scan next t standing (said a ask.ExtraBrace says answers))
 
-  module _ (l : code.Gathering) (stops : l ≡ call.Stopped name next) where
-    pub mismatch_feeds : (a : ArgAsk) → a ≡ ask.Mismatch → Answers table after id scan next t a → Feeds (text_of (texts table) m.groups.now.meanings) t tell.Mismatch (calling_of table k) (calling_of after l)
-    mismatch_feeds a says answers = feeds tell.Mismatch l (call.Stopped name next) stops (mismatch_comes table after id name scan next t standing (said a ask.Mismatch says answers))
+  module _ (l : code.Gathering) where
+    pub mismatch_feeds : l ≡ call.Stopped name end.Mismatch next → (a : CallAsk) → a ≡ ask.Mismatch → Answers table after id scan next t a → Feeds (text_of (texts table) m.groups.now.meanings) t (calling_of table k) (calling_of after l)
+    mismatch_feeds stops a says answers = feeds l (call.Stopped name end.Mismatch next) stops (mismatch_comes table after id name scan next t standing (said a ask.Mismatch says answers))
 
-    pub ended_feeds : (silent : Bool) → (a : ArgAsk) → a ≡ ask.ParEnded silent → Answers table after id scan next t a → Feeds (text_of (texts table) m.groups.now.meanings) t (tell.ParEnded silent) (calling_of table k) (calling_of after l)
-    ended_feeds silent a says answers = feeds (tell.ParEnded silent) l (call.Stopped name next) stops (ended_comes table after id name scan next t standing silent (said a (ask.ParEnded silent) says answers))
+    pub ended_feeds : (silent : Bool) → l ≡ call.Stopped name (end.ParEnded silent) next → (a : CallAsk) → a ≡ ask.ParEnded silent → Answers table after id scan next t a → Feeds (text_of (texts table) m.groups.now.meanings) t (calling_of table k) (calling_of after l)
+    ended_feeds silent stops a says answers = feeds l (call.Stopped name (end.ParEnded silent) next) stops (ended_comes table after id name scan next t standing silent (said a (ask.ParEnded silent) says answers))
 
-    pub cut_feeds : IsCutShort table after id scan next t → CutShort (text_of (texts table) m.groups.now.meanings) t (calling_of table k) (calling_of after l)
-    cut_feeds cut =
+    pub cut_feeds : l ≡ call.Stopped name end.Full next → IsCutShort table after id scan next t → CutShort (text_of (texts table) m.groups.now.meanings) t (calling_of table k) (calling_of after l)
+    cut_feeds stops cut =
         subst (λ (g : code.Gathering). CutShort (text_of (texts table) m.groups.now.meanings) t (calling_of table g) (calling_of after l)) (sym was)
         (subst (λ (g : code.Gathering). CutTo (text_of (texts table) m.groups.now.meanings name) t name (scan_of table scan) (calling_of after g)) (sym stops)
-        (subst (λ (ts : List Token). CutTo ts t name (scan_of table scan) (Stopped name (scan_of after next))) (own_text table m name id list)
+        (subst (λ (ts : List Token). CutTo ts t name (scan_of table scan) (Stopped name end.Full (scan_of after next))) (own_text table m name id list)
         (cut_comes table after id name scan next t standing cut)))
 
-  pub called_feeds : (args : Args) (last : List (Option Entry)) (l : code.Gathering) → l ≡ call.Gathered name args → Moves after last (scan_holds next) none → Keeps after last (scan_holds next) → (a : ArgAsk) → a ≡ ask.Called args → Answers table after id scan next t a →
-      Feeds (text_of (texts table) m.groups.now.meanings) t tell.Gathered (calling_of table k) (calling_of last l)
-  called_feeds args last l has moves kept a says answers =
-      subst (λ (g : code.Gathering). Feeds (text_of (texts table) m.groups.now.meanings) t tell.Gathered (calling_of table g) (calling_of last l)) (sym was)
-      (subst (λ (g : code.Gathering). Comes (text_of (texts table) m.groups.now.meanings name) t tell.Gathered name (scan_of table scan) (calling_of last g)) (sym has)
-      (subst (λ (ts : List Token). Comes ts t tell.Gathered name (scan_of table scan) (Gathered name (args_in last args))) (own_text table m name id list)
-      (called_comes table after id name scan next t standing args last (said a (ask.Called args) says answers) moves kept)))
+  pub gathered_feeds : (l : code.Gathering) → l ≡ call.Gathered name next.args → (a : CallAsk) → a ≡ ask.Gathered → Answers table after id scan next t a → Feeds (text_of (texts table) m.groups.now.meanings) t (calling_of table k) (calling_of after l)
+  gathered_feeds l has a says answers = feeds l (call.Gathered name next.args) has (gathered_comes table after id name scan next t standing (said a ask.Gathered says answers))
 
 -- ROOM
 
@@ -213,32 +204,32 @@ split_words : (v : HeldLists) → words_held v ≡ words_held (record v { call =
 split_words v = omega (arith, sum_by-append list_words (call_lists v.call) v.builds, sum_by-append list_words (call_lists NotCalling) v.builds)
 
 module _ (table : List (Option Entry)) (id : ℕ) (scan : ArgScan) (sound : IsStanding table id scan) (name : Name) (v : HeldLists) (was : v.call ≡ Gathering name (scan_of table scan)) (t : Token) (new : Calling) (used size : ℕ) (all : used + lists_words (call_lists v.call) ≡ words_held v + lists_words (call_lists new)) (before : words_held v ≤ size) (within : used ≤ size) where
-  fits_one : (told : CallTold) → Comes (tokens_at table id) t told name (scan_of table scan) new → words_held v + length (scan_growth (tokens_at table id) t (scan_of table scan)) ≤ size
-  fits_one told comes =
+  fits_one : Comes (tokens_at table id) t name (scan_of table scan) new → words_held v + length (scan_growth (tokens_at table id) t (scan_of table scan)) ≤ size
+  fits_one comes =
       let w = words_held (record v { call = NotCalling }) in
       let lists : lists_words (call_lists v.call) ≡ lists_words (scan_lists (scan_of table scan)) = ap (λ (c : Calling). lists_words (call_lists c)) was in
       let has = has_lists table id scan sound in
-      let k = growth_fits (tokens_at table id) t told name (scan_of table scan) new comes has.args has.work w size (omega (arith, split_words v, lists, before)) (omega (arith, split_words v, all, within)) (scan_of table scan).present refl (in_front table id scan sound) in
+      let k = growth_fits (tokens_at table id) t name (scan_of table scan) new comes has.args has.work w size (omega (arith, split_words v, lists, before)) (omega (arith, split_words v, all, within)) (scan_of table scan).present refl (in_front table id scan sound) in
       omega (arith, k, split_words v, lists)
 
-  pub fed_fits : (r : Result CallTold Full) (grows : List Token) → grows ≡ scan_growth (tokens_at table id) t (scan_of table scan) → IfOk r (λ told. Comes (tokens_at table id) t told name (scan_of table scan) new) → OnOk r (words_held v + length grows ≤ size)
-  fed_fits (Ok told) grows is comes = omega (arith, fits_one told comes, ap length is)
+  pub fed_fits : (r : Result Unit Full) (grows : List Token) → grows ≡ scan_growth (tokens_at table id) t (scan_of table scan) → OnOk r (Comes (tokens_at table id) t name (scan_of table scan) new) → OnOk r (words_held v + length grows ≤ size)
+  fed_fits (Ok u) grows is comes = omega (arith, fits_one comes, ap length is)
   fed_fits (Err f) grows is comes = tt
 
 -- what is fed to a call that takes tokens has room
 pub fed_room : (table : List (Option Entry)) (m : Table) (k : code.Gathering) (is : IsCall table m k) (v : HeldLists) → texts table ≡ v.lists → m.groups ≡ v.groups → calling_of table k ≡ v.call → (t : Token) (new : Calling) (used size : ℕ) → used + lists_words (call_lists v.call) ≡ words_held v + lists_words (call_lists new) → words_held v ≤ size → used ≤ size →
-    (r : Result CallTold Full) → IfOk r (λ told. Feeds (text_of (texts table) m.groups.now.meanings) t told (calling_of table k) new) → OnOk r (words_held v + length (growth (text_of v.lists v.groups.now.meanings) t v.call) ≤ size)
+    (r : Result Unit Full) → OnOk r (Feeds (text_of (texts table) m.groups.now.meanings) t (calling_of table k) new) → OnOk r (words_held v + length (growth (text_of v.lists v.groups.now.meanings) t v.call) ≤ size)
 fed_room table m k is v lists groups calls t new used size all before within (Err f) fed = tt
-fed_room table m call.None is v lists groups calls t new used size all before within (Ok told) fed = absurd fed
-fed_room table m (call.Stopped name scan) is v lists groups calls t new used size all before within (Ok told) fed = absurd fed
-fed_room table m (call.Gathered name args) is v lists groups calls t new used size all before within (Ok told) fed = absurd fed
-fed_room table m (call.Gathers name scan) is v lists groups calls t new used size all before within (Ok told) fed =
+fed_room table m call.None is v lists groups calls t new used size all before within (Ok u) fed = absurd fed
+fed_room table m (call.Stopped name why scan) is v lists groups calls t new used size all before within (Ok u) fed = absurd fed
+fed_room table m (call.Gathered name args) is v lists groups calls t new used size all before within (Ok u) fed = absurd fed
+fed_room table m (call.Gathers name scan) is v lists groups calls t new used size all before within (Ok u) fed =
     let text : tokens_at table is.id ≡ text_of v.lists v.groups.now.meanings name = named_text table m name is.id v is.list lists groups in
     let own : text_of (texts table) m.groups.now.meanings name ≡ tokens_at table is.id = sym (own_text table m name is.id is.list) in
-    fed_fits table is.id scan is.sound name v (sym calls) t new used size all before within (Ok told) _ (growth_is (text_of v.lists v.groups.now.meanings) (tokens_at table is.id) t name (scan_of table scan) v.call (sym calls) text)
-    (subst (λ (ts : List Token). Comes ts t told name (scan_of table scan) new) own fed)
+    fed_fits table is.id scan is.sound name v (sym calls) t new used size all before within (Ok u) _ (growth_is (text_of v.lists v.groups.now.meanings) (tokens_at table is.id) t name (scan_of table scan) v.call (sym calls) text)
+    (subst (λ (ts : List Token). Comes ts t name (scan_of table scan) new) own fed)
 
-pub fed_full : (r : Result CallTold Full) (table : List (Option Entry)) (s : InputStack) (making : Option Build) (gathered : List Build) (m : Named) (sizes : Sizes) (capacity : ℕ) → IsSound table s making gathered m sizes capacity → IfErr r (λ f. IsFull f table) →
+pub fed_full : (r : Result Unit Full) (table : List (Option Entry)) (s : InputStack) (making : Option Build) (gathered : List Build) (m : Named) (sizes : Sizes) (capacity : ℕ) → IsSound table s making gathered m sizes capacity → IfErr r (λ f. IsFull f table) →
     IfErr r (λ f. refused sizes (memory 1 (words_held (lists_of table (pending table s) making gathered m sizes)) ∷ []) ≡ Some f)
 fed_full (Ok told) table s making gathered m sizes capacity sound is = tt
 fed_full (Err f) table s making gathered m sizes capacity sound is = full_now table s making gathered m sizes capacity sound (lists_of table (pending table s) making gathered m sizes) refl f is

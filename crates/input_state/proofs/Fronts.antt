@@ -1,14 +1,16 @@
 -- Lists in front as plain lists: what is finished, what comes next, and what counts.
 use Rattle.std.proofs.Common.{◌≡◌, ℕ, ◌+◌, List, [], ◌∷◌, ◌++◌, map, Option, None, Some, refl, ap, ◌∙◌, sym, arith}
+use Rattle.std.specs.Prelude.{is_some}
 use Rattle.std.proofs.lemmas.Option.{none-some, same_Some}
 use Rattle.std.proofs.lemmas.List.Sums.{sum_by-cons}
 use Rattle.tex_defs.specs.declared.Token.{Token}
 use Rattle.plain_tokens.specs.Puts as plain
 use Rattle.plain_tokens.specs.Pending.{read_on}
 use Rattle.token_lists.specs.Table.{Entry, tokens_at}
-use Rattle.input_stack.specs.Puts.{Put, Item, Text, First, Later, Gap, later_of, count_of, used, used_of, without_ended, settled_top, put_top, put_in_front, first, flat, without_gaps, next_item, pulled, pulled_top}
+use Rattle.input_stack.specs.Puts.{Put, Item, Text, First, Later, Gap, later_of, count_of, used, used_of, without_ended, settled_top, put_top, put_in_front, first, flat, without_gaps, has_item, next_item, pulled, pulled_top}
 use Rattle.input_stack.specs.Pending.{plain_put}
 use Rattle.input_stack.specs.Pulls.{token_in}
+use Rattle.input_state.specs.HeldLists as held
 use Rattle.input_state.specs.HeldViews.{plain_item, whole_of, argument_text, front, fronts}
 
 -- ITEMS
@@ -26,6 +28,18 @@ texts_are (t ∷ ts) = ap (λ (xs : List plain.Item). plain.Text t ∷ xs) (text
 -- a list of tokens
 pub token_front : (table : List (Option Entry)) (n : ℕ) (ts : List Token) → tokens_at table n ≡ ts → front table (plain_put n ts) ≡ plain.token_put ts
 token_front table n ts is = rw (is, texts_are ts) refl
+
+items_left : (xs : List Item) → is_some (first (without_gaps xs)) ≡ is_some (plain.first_item (plain.without_gaps (map plain_item xs)))
+items_left [] = refl
+items_left (Text t ∷ xs) = refl
+items_left (First n t ∷ xs) = refl
+items_left (Later n t ∷ xs) = refl
+items_left (Gap ∷ xs) = items_left xs
+
+-- whether the list in front has one
+pub front_item : (table : List (Option Entry)) (ps : List Put) → has_item ps ≡ held.has_item (fronts table ps)
+front_item table [] = refl
+front_item table (p ∷ ps) = items_left p.items
 
 -- LEVELS
 

@@ -41,7 +41,7 @@ module _ (table : List (Option Entry)) (s : InputStack) (making : Option Build) 
   still_called : (j : code.Gathering) → IsCall table m j → IsCall table n j
   still_called call.None is = tt
   still_called (call.Gathers name scan) is = record { id = is.id; list = ap (λ (ms : List (Meaning (Option ℕ))). list_of (name_meaning ms name)) keeps.names ∙ is.list; sound = is.sound }
-  still_called (call.Stopped name scan) is = is
+  still_called (call.Stopped name why scan) is = is
   still_called (call.Gathered name args) is = record { id = is.id; list = ap (λ (ms : List (Meaning (Option ℕ))). list_of (name_meaning ms name)) keeps.names ∙ is.list; filled = is.filled; listed = is.listed }
 
   pub still_sound : IsSound table s making gathered (named n k) sizes capacity

@@ -9,7 +9,7 @@ use Rattle.plain_tokens.specs.Puts.{Put, list_of_tokens}
 use Rattle.plain_tokens.specs.Tables.{list_words, lists_words}
 use Rattle.equivalents.specs.Holding.{lists_held, shared_words}
 use Rattle.plain_tokens.specs.Arguments as arg
-use Rattle.plain_tokens.specs.Arguments.{ParMode, Answer, More, Mismatch, Tok, arguments, arguments_in, work_in, behind, call, start_of, places_of, case_at, same, begins_with_place}
+use Rattle.plain_tokens.specs.Arguments.{ParMode, Answer, Mismatch, Tok, arguments, arguments_in, work_in, behind, call, start_of, places_of, case_at, same, begins_with_place}
 use Rattle.macro_call.specs.Stages.{Stage, kept_in, read_in}
 use Rattle.macro_call.specs.Growths.{target_by}
 use Rattle.macro_call.specs.PlainScans.{Scan, scan_work, resume_scan, resume_at, places_behind, first_scan, first_by}
@@ -17,11 +17,9 @@ use Rattle.macro_call.proofs.ArgumentRuns.{search_at, found_after}
 use Rattle.input_state.specs.HeldLists.{HeldLists, puts_held, words_held}
 use Rattle.input_state.specs.Macros.{list_at, is_shared, KeepsLists}
 use Rattle.input_state.specs.Calls.{begun_lists}
-use Rattle.input_state.specs.Callings.{Calling, NotCalling, Gathering, Stopped, Gathered, last_first, scan_lists, call_lists}
-use Rattle.input_state.specs.declared.answer.CallTold.{CallTold}
-use Rattle.input_state.specs.declared.answer.CallTold.TheVariants as told
-use Rattle.input_state.specs.CallFeeds.{Comes, Says, Stands, scan_growth}
-use Rattle.macro_call.specs.Scans.{args_left}
+use Rattle.input_state.specs.Callings.{Calling, NotCalling, Gathering, Stopped, Gathered, scan_asks, ended_asks, last_first, scan_lists, call_lists}
+use Rattle.macro_call.specs.declared.ask.CallAsk.{CallAsk}
+use Rattle.input_state.specs.CallFeeds.{Comes, Stands, scan_growth}
 
 -- MACROS THAT KEEP THEIR LISTS
 
@@ -115,14 +113,6 @@ start_target : (mode : ParMode) (ds : List Token) (places : List (List Token)) (
 start_target mode [] places x some = absurd (omega (arith, some))
 start_target mode (d ∷ ds) places x some = start_by (same x d) mode ds places
 
--- what is left out of an answer's arguments is none of them
-left_whole : (answer : CallTold) (next : Scan) (after : Answer) → Says answer next after → args_left after ≡ arguments_in after
-left_whole told.More next after says = ap args_left says ∙ sym (ap arguments_in says)
-left_whole told.ExtraBrace next after says = ap args_left says ∙ sym (ap arguments_in says)
-left_whole told.Gathered next after says = absurd says
-left_whole told.Mismatch next after says = ap args_left says ∙ sym (ap arguments_in says)
-left_whole (told.ParEnded silent) next after says = ap args_left says ∙ sym (ap arguments_in says)
-
 scan_words : (scan : Scan) → lists_words (scan_lists scan) ≡ lists_words (option_to_list (scan_work scan)) + lists_words (last_first scan.args [])
 scan_words scan = sum_by-append list_words (option_to_list (scan_work scan)) (last_first scan.args [])
 
@@ -130,18 +120,18 @@ work_words : (o : Option (List Token)) (ts : List Token) → o ≡ Some ts → l
 work_words o ts is = ap (λ (p : Option (List Token)). lists_words (option_to_list p)) is ∙ omega (arith, sum_by-cons list_words ts [])
 
 -- what the lists of a call take then
-pub stood_words : (text : List Token) (t : Token) (answer : CallTold) (scan next : Scan) → Stands text t answer scan next →
+pub stood_words : (text : List Token) (t : Token) (answer : CallAsk) (scan next : Scan) → Stands text t answer scan next →
     lists_words (scan_lists next) ≡ lists_words (option_to_list (work_in (resume_scan text scan (Tok t ∷ [])))) + lists_words (last_first (arguments_in (resume_scan text scan (Tok t ∷ []))) [])
 stood_words text t answer scan next is =
-    omega (arith, scan_words next, ap (λ (o : Option (List Token)). lists_words (option_to_list o)) is.work, ap (λ (us : List (List Token)). lists_words (last_first us [])) (is.args ∙ left_whole answer next (resume_scan text scan (Tok t ∷ [])) is.says))
+    omega (arith, scan_words next, ap (λ (o : Option (List Token)). lists_words (option_to_list o)) is.work, ap (λ (us : List (List Token)). lists_words (last_first us [])) is.args)
 
-pub come_words : (text : List Token) (t : Token) (answer : CallTold) (name : Name) (scan : Scan) (new : Calling) → Comes text t answer name scan new →
+pub come_words : (text : List Token) (t : Token) (name : Name) (scan : Scan) (new : Calling) → Comes text t name scan new →
     lists_words (call_lists new) ≡ lists_words (option_to_list (work_in (resume_scan text scan (Tok t ∷ [])))) + lists_words (last_first (arguments_in (resume_scan text scan (Tok t ∷ []))) [])
-come_words text t answer name scan NotCalling is = absurd is
-come_words text t answer name scan (Gathering n next) is = stood_words text t answer scan next is.1.stands
-come_words text t answer name scan (Stopped n next) is = stood_words text t answer scan next is.1.stands
-come_words text t answer name scan (Gathered n args) is =
-    omega (arith, ap (λ (a : Answer). lists_words (option_to_list (work_in a))) is.2, ap (λ (a : Answer). lists_words (last_first (arguments_in a) [])) is.2)
+come_words text t name scan NotCalling is = absurd is
+come_words text t name scan (Gathering n next) is = stood_words text t (scan_asks next) scan next is.1.stands
+come_words text t name scan (Stopped n why next) is = stood_words text t (ended_asks why) scan next is.1.stands
+come_words text t name scan (Gathered n args) is =
+    omega (arith, ap (λ (a : Answer). lists_words (option_to_list (work_in a))) is.1, ap (λ (a : Answer). lists_words (last_first (arguments_in a) [])) is.1)
 
 -- a list that becomes this one, and takes some words more, or none
 drop_words : (n rest size : ℕ) (ts : List Token) → rest + (1 + length ts) ≤ size → rest + (1 + n) ≤ size → rest + (1 + n) + length (drop n ts) ≤ size
@@ -156,7 +146,7 @@ argument_words : (n rest size : ℕ) (a : List Token) → rest + lists_words (li
 argument_words n rest size [] now was = omega (arith, was, ap length (none_dropped n))
 argument_words n rest size (t ∷ ts) now was = drop_words n rest size (t ∷ ts) (omega (arith, now, own_words (t ∷ ts) (omega arith))) was
 
-module _ (text : List Token) (t : Token) (answer : CallTold) (name : Name) (scan : Scan) (new : Calling) (comes : Comes text t answer name scan new) (args : scan.args ≡ arguments_in (resume_scan text scan [])) (work : scan_work scan ≡ work_in (resume_scan text scan [])) (w size : ℕ) (was : w + lists_words (scan_lists scan) ≤ size) (now : w + lists_words (call_lists new) ≤ size) where
+module _ (text : List Token) (t : Token) (name : Name) (scan : Scan) (new : Calling) (comes : Comes text t name scan new) (args : scan.args ≡ arguments_in (resume_scan text scan [])) (work : scan_work scan ≡ work_in (resume_scan text scan [])) (w size : ℕ) (was : w + lists_words (scan_lists scan) ≤ size) (now : w + lists_words (call_lists new) ≤ size) where
   in_all : scan_growth text t scan ≡ drop (length (unwrap_or (scan_work scan) [])) (target_by (drop (length scan.args) (arguments_in (resume_scan text scan (Tok t ∷ [])))) (work_in (resume_scan text scan (Tok t ∷ []))))
   in_all =
       ap₂ (λ (o : Option (List Token)) (us : List (List Token)). drop (length (unwrap_or o [])) (target_by (drop (length us) (arguments_in (resume_scan text scan (Tok t ∷ [])))) (work_in (resume_scan text scan (Tok t ∷ []))))) (sym work) (sym args)
@@ -172,7 +162,7 @@ module _ (text : List Token) (t : Token) (answer : CallTold) (name : Name) (scan
       ∙ ap₂ (λ (us : List (List Token)) (o : Option (List Token)). drop (length (unwrap_or (scan_work scan) [])) (target_by (drop (length scan.args) us) o)) args_are works
       ∙ ap₂ (λ (o : Option (List Token)) (us : List (List Token)). drop (length (unwrap_or o [])) (target_by us (Some ts))) own (none_left scan.args) in
       let before : lists_words (scan_lists scan) ≡ 1 + length s.list + lists_words (last_first scan.args []) = omega (arith, scan_words scan, work_words (scan_work scan) s.list own) in
-      let behind_it : lists_words (call_lists new) ≡ 1 + length ts + lists_words (last_first scan.args []) = omega (arith, come_words text t answer name scan new comes, work_words (work_in (resume_scan text scan (Tok t ∷ []))) ts works, ap (λ (us : List (List Token)). lists_words (last_first us [])) args_are) in
+      let behind_it : lists_words (call_lists new) ≡ 1 + length ts + lists_words (last_first scan.args []) = omega (arith, come_words text t name scan new comes, work_words (work_in (resume_scan text scan (Tok t ∷ []))) ts works, ap (λ (us : List (List Token)). lists_words (last_first us [])) args_are) in
       omega (arith, before, ap length grows, drop_words (length s.list) (w + lists_words (last_first scan.args [])) size ts (omega (arith, now, behind_it)) (omega (arith, was, before)))
   in_place s present (Adds a args_are) =
       let own : scan_work scan ≡ Some s.list = ap (λ o. option_map (λ (k : Stage). k.list) o) present in
@@ -181,7 +171,7 @@ module _ (text : List Token) (t : Token) (answer : CallTold) (name : Name) (scan
       ∙ ap (λ (us : List (List Token)). drop (length (unwrap_or (scan_work scan) [])) (target_by (drop (length scan.args) us) (work_in (resume_scan text scan (Tok t ∷ []))))) args_are
       ∙ ap₂ (λ (o : Option (List Token)) (us : List (List Token)). drop (length (unwrap_or o [])) (target_by us (work_in (resume_scan text scan (Tok t ∷ []))))) own (drop_at scan.args (a ∷ []) (length scan.args) refl) in
       let before : lists_words (scan_lists scan) ≡ 1 + length s.list + lists_words (last_first scan.args []) = omega (arith, scan_words scan, work_words (scan_work scan) s.list own) in
-      let behind_it : lists_words (list_of_tokens a) + lists_words (last_first scan.args []) ≤ lists_words (call_lists new) = omega (arith, come_words text t answer name scan new comes, ap (λ (us : List (List Token)). lists_words (last_first us [])) args_are, one_more scan.args a) in
+      let behind_it : lists_words (list_of_tokens a) + lists_words (last_first scan.args []) ≤ lists_words (call_lists new) = omega (arith, come_words text t name scan new comes, ap (λ (us : List (List Token)). lists_words (last_first us [])) args_are, one_more scan.args a) in
       omega (arith, before, ap length grows, argument_words (length s.list) (w + lists_words (last_first scan.args [])) size a (omega (arith, now, behind_it)) (omega (arith, was, before)))
 
   in_front : scan.present ≡ None → scan.args ≡ [] → 0 < length (start_of (drop scan.at text)) → w + lists_words (scan_lists scan) + length (scan_growth text t scan) ≤ size

@@ -66,7 +66,7 @@ shared_size old mid o after = ap length after ∙ with_length o old
 pub no_call : (table : List (Option Entry)) (k : code.Gathering) → calling_of table k ≡ NotCalling → k ≡ call.None
 no_call table call.None is = refl
 no_call table (call.Gathers name scan) is = cc
-no_call table (call.Stopped name scan) is = cc
+no_call table (call.Stopped name why scan) is = cc
 no_call table (call.Gathered name args) is = cc
 
 module _ (old mid new : List (Option Entry)) (s : InputStack) (m n : Named) (making : Option Build) (items : List Build) (sizes : Sizes) (capacity : ℕ) (sound : IsSound old s making items m sizes capacity) (v : HeldLists) (is : lists_of old (pending old s) making items m sizes ≡ v) (value : V) (within : (h : ℕ) → val_holds value h ≤ eqtb.held m.table h) (shares : Moves old mid none (val_holds value)) (still_kept : Keeps old mid none) (same_size : length mid ≡ length old) (global : Bool) (place : Loc) (after : n.table ≡ record m.table { groups = set global m.table.groups place value }) (same_gathering : n.call ≡ m.call) (assigned : Assigned mid new m.table n.table value) where

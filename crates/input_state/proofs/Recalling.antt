@@ -11,6 +11,7 @@ use Rattle.token_lists.specs.Ids.{IsBuilding}
 use Rattle.token_lists.specs.Table.{Entry, words, tokens_of, holders_at}
 use Rattle.token_lists.specs.Accounts.{Moves, Keeps, none}
 use Rattle.macro_call.specs.declared.present.Present.{Present}
+use Rattle.input_state.specs.declared.answer.CallEnd.{CallEnd}
 use Rattle.macro_call.specs.declared.scan.ArgScan.{ArgScan}
 use Rattle.macro_call.specs.Scans as scans
 use Rattle.macro_call.specs.Scans.{Gains}
@@ -167,8 +168,8 @@ gathering_owned table m k name scan is h =
     let g : IsCall table m (call.Gathers name scan) = subst (IsCall table m) is h in
     scan_owned table g.id scan g.sound
 
-pub stopped_owned : (table : List (Option Entry)) (m : Table) (k : code.Gathering) (name : Name) (scan : ArgScan) → k ≡ call.Stopped name scan → IsCall table m k → scans.Owns table scan
-stopped_owned table m k name scan is h = subst (IsCall table m) is h
+pub stopped_owned : (table : List (Option Entry)) (m : Table) (k : code.Gathering) (name : Name) (why : CallEnd) (scan : ArgScan) → k ≡ call.Stopped name why scan → IsCall table m k → scans.Owns table scan
+stopped_owned table m k name why scan is h = subst (IsCall table m) is h
 
 -- A NAME IS ENTERED
 
@@ -200,5 +201,5 @@ enter_sound table s making gathered m n k sizes capacity sound after same = reco
     entered_call : (j : code.Gathering) → IsCall table m j → IsCall table (name_entered m) j
     entered_call call.None is = tt
     entered_call (call.Gathers name scan) is = record { id = is.id; list = ap list_of (appended_at m.groups.now.meanings (location name) (fixed_meaning name)) ∙ is.list; sound = is.sound }
-    entered_call (call.Stopped name scan) is = is
+    entered_call (call.Stopped name why scan) is = is
     entered_call (call.Gathered name args) is = record { id = is.id; list = ap list_of (appended_at m.groups.now.meanings (location name) (fixed_meaning name)) ∙ is.list; filled = is.filled; listed = is.listed }

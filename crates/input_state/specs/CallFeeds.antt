@@ -2,67 +2,67 @@
 use Rattle.std.specs.Prelude.{◌≡◌, ◌<◌, List, [], ◌∷◌, ◌++◌, length, drop, Bool, true, false, Option, None, Some, unwrap_or}
 use Rattle.tex_defs.specs.declared.Token.{Token}
 use Rattle.tex_defs.specs.declared.Name.{Name}
-use Rattle.plain_tokens.specs.Arguments.{Fed, Tok, Answer, More, ExtraBraceFound, Called, Mismatch, Ended, arguments, work_in}
+use Rattle.plain_tokens.specs.Arguments.{Fed, Tok, Answer, More, ExtraBraceFound, Called, Mismatch, Ended, arguments, arguments_in, work_in}
+use Rattle.macro_call.specs.declared.ask.CallAsk.{CallAsk}
+use Rattle.macro_call.specs.declared.ask.CallAsk.TheVariants as ask
 use Rattle.macro_call.specs.PlainScans.{Scan, scan_work, with_work, resume_scan, places_left}
-use Rattle.macro_call.specs.Scans.{args_left, args_with}
+use Rattle.macro_call.specs.Scans.{args_with}
 use Rattle.macro_call.specs.Growths.{target_of, growth_of}
-use Rattle.input_state.specs.Callings.{Calling, NotCalling, Gathering, Stopped, Gathered}
-use Rattle.input_state.specs.declared.answer.CallTold.{CallTold}
-use Rattle.input_state.specs.declared.answer.CallTold.TheVariants as told
+use Rattle.input_state.specs.Callings.{Calling, NotCalling, Gathering, Stopped, Gathered, scan_asks, ended_asks}
+use Rattle.input_state.specs.declared.answer.CallEnd.TheVariants as end
 
 -- the call takes tokens
 abbrev pub IsTaking : Calling → Type 0
 IsTaking NotCalling = ⊥
 IsTaking (Gathering name scan) = Unit {0}
-IsTaking (Stopped name scan) = ⊥
+IsTaking (Stopped name why scan) = ⊥
 IsTaking (Gathered name args) = ⊥
 
 -- THE ANSWER
 
--- what is told where the scanner then stands so; with all arguments the call has none
-abbrev pub Says : CallTold → Scan → Answer → Type 0
-Says told.More scan a = a ≡ More scan.args (scan_work scan)
-Says told.ExtraBrace scan a = a ≡ ExtraBraceFound scan.args (unwrap_or (scan_work scan) [])
-Says told.Gathered scan a = ⊥
-Says told.Mismatch scan a = a ≡ Mismatch
-Says (told.ParEnded silent) scan a = a ≡ Ended silent scan.args (unwrap_or (scan_work scan) [])
+-- what the answer says where the scanner then stands so; a call with all its arguments has no scanner
+abbrev pub Says : CallAsk → Scan → Answer → Type 0
+Says ask.More scan a = a ≡ More scan.args (scan_work scan)
+Says ask.ExtraBrace scan a = a ≡ ExtraBraceFound scan.args (unwrap_or (scan_work scan) [])
+Says ask.Gathered scan a = ⊥
+Says ask.Mismatch scan a = a ≡ Mismatch
+Says (ask.ParEnded silent) scan a = a ≡ Ended silent scan.args (unwrap_or (scan_work scan) [])
 
-abbrev pub goes_on : CallTold → Bool
-goes_on told.More = true
-goes_on told.ExtraBrace = true
-goes_on told.Gathered = false
-goes_on told.Mismatch = false
-goes_on (told.ParEnded silent) = false
+abbrev pub goes_on : CallAsk → Bool
+goes_on ask.More = true
+goes_on ask.ExtraBrace = true
+goes_on ask.Gathered = false
+goes_on ask.Mismatch = false
+goes_on (ask.ParEnded silent) = false
 
 -- The arguments and the list in work are those of the definition's answer.
-pub record Stands (text : List Token) (t : Token) (answer : CallTold) (scan next : Scan) : Type 0 where
+pub record Stands (text : List Token) (t : Token) (answer : CallAsk) (scan next : Scan) : Type 0 where
   pub says : Says answer next (resume_scan text scan (Tok t ∷ []))
-  pub args : next.args ≡ args_left (resume_scan text scan (Tok t ∷ []))
+  pub args : next.args ≡ arguments_in (resume_scan text scan (Tok t ∷ []))
   pub work : scan_work next ≡ work_in (resume_scan text scan (Tok t ∷ []))
 
 -- Where more is taken, all that follows comes to what the definition says.
-pub record GoesOn (text : List Token) (t : Token) (answer : CallTold) (scan next : Scan) : Type 0 where
-  pub stands : Stands text t answer scan next
-  pub more : goes_on answer ≡ true
+pub record GoesOn (text : List Token) (t : Token) (scan next : Scan) : Type 0 where
+  pub stands : Stands text t (scan_asks next) scan next
   pub same : (fed : List Fed) → resume_scan text scan (Tok t ∷ fed) ≡ resume_scan text next fed
 
-pub record Ends (text : List Token) (t : Token) (answer : CallTold) (scan next : Scan) : Type 0 where
+pub record Ends (text : List Token) (t : Token) (answer : CallAsk) (scan next : Scan) : Type 0 where
   pub stands : Stands text t answer scan next
   pub closed : goes_on answer ≡ false
 
 -- the call of this name, whose scanner stood so
-abbrev pub Comes : (text : List Token) → Token → CallTold → Name → Scan → Calling → Type 0
-Comes text t answer name scan NotCalling = ⊥
-Comes text t answer name scan (Gathering n next) = (n ≡ name) × GoesOn text t answer scan next
-Comes text t answer name scan (Stopped n next) = (n ≡ name) × Ends text t answer scan next
-Comes text t answer name scan (Gathered n args) = (n ≡ name) × (answer ≡ told.Gathered) × (resume_scan text scan (Tok t ∷ []) ≡ Called args)
+abbrev pub Comes : (text : List Token) → Token → Name → Scan → Calling → Type 0
+Comes text t name scan NotCalling = ⊥
+Comes text t name scan (Gathering n next) = (n ≡ name) × GoesOn text t scan next
+Comes text t name scan (Stopped n why next) = (n ≡ name) × Ends text t (ended_asks why) scan next
+Comes text t name scan (Gathered n args) = (n ≡ name) × (resume_scan text scan (Tok t ∷ []) ≡ Called args)
 
--- where the names have these lists
-abbrev pub Feeds : (text : Name → List Token) → Token → CallTold → (old new : Calling) → Type 0
-Feeds text t answer NotCalling new = ⊥
-Feeds text t answer (Gathering name scan) new = Comes (text name) t answer name scan new
-Feeds text t answer (Stopped name scan) new = ⊥
-Feeds text t answer (Gathered name args) new = ⊥
+-- it comes to this, where the names have these lists
+abbrev pub Feeds : (text : Name → List Token) → Token → (old new : Calling) → Type 0
+Feeds text t NotCalling new = ⊥
+Feeds text t (Gathering name scan) new = Comes (text name) t name scan new
+Feeds text t (Stopped name why scan) new = ⊥
+Feeds text t (Gathered name args) new = ⊥
 
 -- the tokens that go into the list in work
 abbrev pub scan_growth : (text : List Token) → Token → Scan → List Token
@@ -71,7 +71,7 @@ scan_growth text t scan = growth_of (resume_scan text scan []) (resume_scan text
 abbrev pub growth : (text : Name → List Token) → Token → Calling → List Token
 growth text t NotCalling = []
 growth text t (Gathering name scan) = scan_growth (text name) t scan
-growth text t (Stopped name scan) = []
+growth text t (Stopped name why scan) = []
 growth text t (Gathered name args) = []
 
 -- THE MEMORY IS FULL
@@ -102,13 +102,13 @@ pub data IsCut (text : List Token) (t : Token) (scan next : Scan) : Type 0 where
 abbrev pub CutTo : (text : List Token) → Token → Name → Scan → Calling → Type 0
 CutTo text t name scan NotCalling = ⊥
 CutTo text t name scan (Gathering n next) = ⊥
-CutTo text t name scan (Stopped n next) = (n ≡ name) × IsCut text t scan next
+CutTo text t name scan (Stopped n why next) = (n ≡ name) × (why ≡ end.Full) × IsCut text t scan next
 CutTo text t name scan (Gathered n args) = ⊥
 
 abbrev pub CutShort : (text : Name → List Token) → Token → (old new : Calling) → Type 0
 CutShort text t NotCalling new = ⊥
 CutShort text t (Gathering name scan) new = CutTo (text name) t name scan new
-CutShort text t (Stopped name scan) new = ⊥
+CutShort text t (Stopped name why scan) new = ⊥
 CutShort text t (Gathered name args) new = ⊥
 
 -- CHECKS AND REPORTS
@@ -117,12 +117,12 @@ CutShort text t (Gathered name args) new = ⊥
 abbrev pub with_scan : (Scan → Scan) → Calling → Calling
 with_scan f NotCalling = NotCalling
 with_scan f (Gathering name scan) = Gathering name (f scan)
-with_scan f (Stopped name scan) = Stopped name scan
+with_scan f (Stopped name why scan) = Stopped name why scan
 with_scan f (Gathered name args) = Gathered name args
 
 -- the list in work, for the runaway text
 abbrev pub call_work : Calling → Option (List Token)
 call_work NotCalling = None
 call_work (Gathering name scan) = scan_work scan
-call_work (Stopped name scan) = scan_work scan
+call_work (Stopped name why scan) = scan_work scan
 call_work (Gathered name args) = None

@@ -71,7 +71,7 @@ macro_put lists m args = token_put []
 abbrev pub put_of : List (List Token) → List (Meaning (Option ℕ)) → Calling → Put
 put_of lists meanings NotCalling = token_put []
 put_of lists meanings (Gathering name scan) = token_put []
-put_of lists meanings (Stopped name scan) = token_put []
+put_of lists meanings (Stopped name why scan) = token_put []
 put_of lists meanings (Gathered name args) = macro_put lists (name_meaning meanings name) args
 
 -- a list without items asks for nothing

@@ -1,11 +1,11 @@
 -- The lists that are held, and the lines of the files beneath those in front.
-use Rattle.std.specs.Prelude.{◌≡◌, ℕ, ◌+◌, ◌≤◌, List, [], ◌∷◌, ◌++◌, length, drop, Option, None, Some, Bool, true, false}
+use Rattle.std.specs.Prelude.{◌≡◌, ℕ, ◌+◌, ◌≤◌, List, [], ◌∷◌, ◌++◌, length, drop, Option, None, Some, Bool, true, false, is_some}
 use Rattle.tex_defs.specs.declared.Token.{Token}
 use Rattle.tex_defs.specs.declared.Full.{Full}
 use Rattle.tex_defs.specs.declared.Sizes.{Sizes}
 use Rattle.tex_defs.specs.declared.Table.TheVariants.{InputStackSize, ParameterStackSize}
 use Rattle.plain_tokens.specs.Lex as plain
-use Rattle.plain_tokens.specs.Puts.{Put, put_levels, put_parameters, without_ended, passed}
+use Rattle.plain_tokens.specs.Puts.{Put, put_levels, put_parameters, without_ended, without_gaps, passed, first_item}
 use Rattle.plain_tokens.specs.Pending.{Pending, Source}
 use Rattle.plain_tokens.specs.Tables.{Demand, refused, held_words}
 use Rattle.save_stack.specs.declared.GroupKind.{GroupKind}
@@ -159,6 +159,11 @@ pub record AreFurther (b : Covered) (old new : List Covered) : Type 0 where
 abbrev pub GoFurther : List Covered → List Covered → Type 0
 GoFurther [] new = new ≡ []
 GoFurther (b ∷ bs) new = AreFurther b bs new
+
+-- the list or the call in front has an item left that is no gap
+abbrev pub has_item : List Put → Bool
+has_item [] = false
+has_item (p ∷ ps) = is_some (first_item (without_gaps p.items))
 
 abbrev pub front_ahead : List ℕ → Pending → List Put → Ahead
 front_ahead categories p [] = looks_of (plain.lexed categories p.lex p.line)

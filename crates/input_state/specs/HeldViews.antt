@@ -89,7 +89,7 @@ named t gathering = record { table = t; call = gathering }
 abbrev pub calling_of : List (Option Entry) → code.Gathering → Calling
 calling_of table call.None = NotCalling
 calling_of table (call.Gathers name scan) = Gathering name (scans.scan_of table scan)
-calling_of table (call.Stopped name scan) = Stopped name (scans.scan_of table scan)
+calling_of table (call.Stopped name why scan) = Stopped name why (scans.scan_of table scan)
 calling_of table (call.Gathered name args) = Gathered name (args_in table args)
 
 abbrev pub lists_of : List (Option Entry) → Pending → Option Build → List Build → Named → Sizes → HeldLists
@@ -166,21 +166,21 @@ opens (p ∷ ps) = numbers (p.reading ∷ []) ++ opens ps
 abbrev pub IsScanning : code.Gathering → Type 0
 IsScanning call.None = ⊥
 IsScanning (call.Gathers name scan) = Unit {0}
-IsScanning (call.Stopped name scan) = ⊥
+IsScanning (call.Stopped name why scan) = ⊥
 IsScanning (call.Gathered name args) = ⊥
 
 -- all arguments are there
 abbrev pub HasArguments : code.Gathering → Type 0
 HasArguments call.None = ⊥
 HasArguments (call.Gathers name scan) = ⊥
-HasArguments (call.Stopped name scan) = ⊥
+HasArguments (call.Stopped name why scan) = ⊥
 HasArguments (call.Gathered name args) = Unit {0}
 
 -- how often a call holds the list of a number
 abbrev pub call_holds : code.Gathering → ℕ → ℕ
 call_holds call.None h = 0
 call_holds (call.Gathers name scan) h = scans.scan_holds scan h
-call_holds (call.Stopped name scan) h = scans.scan_holds scan h
+call_holds (call.Stopped name why scan) h = scans.scan_holds scan h
 call_holds (call.Gathered name args) h = args_hold args h
 
 -- how often locations, saved values and the call do
@@ -225,7 +225,7 @@ pub record IsGathered (table : List (Option Entry)) (t : Table) (name : Name) (a
 abbrev pub IsCall : List (Option Entry) → Table → code.Gathering → Type 0
 IsCall table t call.None = Unit {0}
 IsCall table t (call.Gathers name scan) = IsGathering table t name scan
-IsCall table t (call.Stopped name scan) = scans.Owns table scan
+IsCall table t (call.Stopped name why scan) = scans.Owns table scan
 IsCall table t (call.Gathered name args) = IsGathered table t name args
 
 -- the sizes are in range, and there is room for what they admit

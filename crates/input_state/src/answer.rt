@@ -1,5 +1,10 @@
+// What a reading gives, and how calls are told apart.
+ghost use Rattle.std.specs.Prelude.{◌≡◌};
+ghost use Rattle.input_state.specs.Callings.{ended_asks};
+
 use line_lexer::Lexed;
-use tex_defs::Token;
+use macro_call::CallAsk;
+use tex_defs::{Name, Token};
 
 /// What a reading from what is pending gives.
 #[derive(Clone, Copy, PartialEq, Eq)]
@@ -30,17 +35,33 @@ pub enum CallKind {
     Gathers,
 }
 
-/// What a call whose arguments are gathered answers to a token.
-#[derive(Clone, Copy, PartialEq, Eq)]
-pub enum CallTold {
-    /// More tokens are needed.
-    More,
-    /// A right brace that closes nothing came: "Argument of \a has an extra }". The call goes on behind the report.
-    ExtraBrace,
-    /// All arguments are there.
-    Gathered,
-    /// The tokens in front of the first place don't match: "Use of \a doesn't match its definition".
+/// Why a call takes no more tokens, and hasn't its arguments.
+#[derive(Clone, Copy)]
+pub enum CallEnd {
+    /// The tokens in front of the first place don't match.
     Mismatch,
-    /// A `\par` ended the call: "Paragraph ended before \a was complete", or, where this is true, without a report.
+    /// A `\par` ended it; where this is true, without a report.
     ParEnded(bool),
+    /// The memory was full as it was fed: it asks for a token as before.
+    Full,
+}
+
+impl CallEnd {
+    /// What the call asks for then.
+    pub fn ask(self) -> CallAsk
+        ensures { result ≡ ended_asks self }
+    {
+        match self {
+            CallEnd::Mismatch => CallAsk::Mismatch,
+            CallEnd::ParEnded(silent) => CallAsk::ParEnded(silent),
+            CallEnd::Full => CallAsk::More,
+        }
+    }
+}
+
+/// A call whose arguments are gathered: the macro's name, and what the call asks for.
+#[derive(Clone, Copy)]
+pub struct Call {
+    pub name: Name,
+    pub ask: CallAsk,
 }

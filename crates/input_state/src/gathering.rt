@@ -1,5 +1,5 @@
 // The call whose arguments are gathered.
-ghost use Rattle.std.specs.Prelude.{◌≡◌, true, length, IfOk, IfErr, OnErr, Some};
+ghost use Rattle.std.specs.Prelude.{◌≡◌, true, IfOk, IfErr, OnOk, OnErr, Some};
 ghost use Rattle.token_lists.specs.Table.{IsHeld, tokens_at};
 ghost use Rattle.token_lists.specs.Ids.{id_of};
 ghost use Rattle.token_lists.specs.Refusals.{IsFull};
@@ -10,17 +10,16 @@ ghost use Rattle.macro_call.specs.Modes.{mode_of};
 ghost use Rattle.input_state.specs.Callings as calls;
 ghost use Rattle.eqtb_save.specs.Table.{Table};
 ghost use Rattle.equivalents.specs.Holding.{list_of};
-ghost use Rattle.token_lists.specs.Accounts.{Moves, Keeps, none};
 ghost use Rattle.input_state.specs.declared.gathering.Gathering.TheVariants as gathering;
-ghost use Rattle.input_state.specs.HeldViews.{calling_of, call_holds, texts, IsCall, IsScanning, HasArguments};
+ghost use Rattle.input_state.specs.HeldViews.{calling_of, texts, IsCall, IsScanning, HasArguments};
 ghost use Rattle.input_state.specs.CallFeeds.{Feeds, CutShort};
 ghost use Rattle.input_state.specs.Calls.{text_of};
-ghost use Rattle.input_state.specs.Recalls.{Recalls, stopped, with_args, OwnsScan};
+ghost use Rattle.input_state.specs.Recalls.{Recalls, stopped, with_arguments, HasNoWork};
 
-use crate::CallTold;
+use crate::CallEnd;
 use eqtb_save::Eqtb;
 use macro_args::Args;
-use macro_call::{ArgAsk, ArgScan};
+use macro_call::{ArgScan, CallAsk};
 use std::mem;
 use tex_defs::{Full, Name, Token};
 use token_lists::{ListRef, Lists};
@@ -31,8 +30,8 @@ pub enum Gathering {
     None,
     /// The scanner takes more tokens.
     Gathers(Name, ArgScan),
-    /// It takes no more: it didn't match, a `\par` ended it, or the memory is full.
-    Stopped(Name, ArgScan),
+    /// It takes no more, for this cause.
+    Stopped(Name, CallEnd, ArgScan),
     /// All arguments are there.
     Gathered(Name, Args),
 }
@@ -46,7 +45,7 @@ impl Gathering {
         match self {
             Gathering::Gathers(name, scan) => (name, scan),
             Gathering::None => unreachable!(),
-            Gathering::Stopped(_name, _scan) => unreachable!(),
+            Gathering::Stopped(_name, _end, _scan) => unreachable!(),
             Gathering::Gathered(_name, _args) => unreachable!(),
         }
     }
@@ -60,7 +59,7 @@ impl Gathering {
             Gathering::Gathered(name, args) => (name, args),
             Gathering::None => unreachable!(),
             Gathering::Gathers(_name, _scan) => unreachable!(),
-            Gathering::Stopped(_name, _scan) => unreachable!(),
+            Gathering::Stopped(_name, _end, _scan) => unreachable!(),
         }
     }
 
@@ -71,7 +70,7 @@ impl Gathering {
         match self {
             Gathering::None => {}
             Gathering::Gathers(_name, _scan) => unreachable!(),
-            Gathering::Stopped(_name, _scan) => unreachable!(),
+            Gathering::Stopped(_name, _end, _scan) => unreachable!(),
             Gathering::Gathered(_name, _args) => unreachable!(),
         }
     }
@@ -92,40 +91,31 @@ pub fn begin(lists: &mut Lists, list: &ListRef, name: Name, long: bool) -> Resul
     Ok(Gathering::Gathers(name, scan))
 }
 
-// A call that takes tokens takes no more.
-fn stop(call: &mut Gathering)
+// A call that takes tokens takes no more, for this cause.
+fn stop(call: &mut Gathering, end: CallEnd)
     requires { IsScanning call.old }
-    ensures { call.new ≡ stopped call.old }
+    ensures { call.new ≡ stopped end call.old }
 {
     let (name, scan) = mem::replace(call, Gathering::None).into_scan();
-    mem::replace(call, Gathering::Stopped(name, scan)).end();
+    mem::replace(call, Gathering::Stopped(name, end, scan)).end();
 }
 
 // All arguments of a call are there: its scanner goes.
-fn gathered(lists: &mut Lists, call: &mut Gathering, args: Args)
+fn gathered(call: &mut Gathering)
     requires scanning { IsScanning call.old }
-    requires owned { OwnsScan lists.old call.old }
-    ensures after { call.new ≡ with_args args call.old }
-    ensures account { Moves lists.old lists.new (call_holds call.old) none }
-    ensures kept { Keeps lists.old lists.new (call_holds call.old) }
-    ensures length { length lists.new ≡ length lists.old }
+    requires whole { HasNoWork call.old }
+    ensures { call.new ≡ with_arguments call.old }
 {
     let (name, scan) = mem::replace(call, Gathering::None).into_scan();
-    scan.abandon(lists);
-    mem::replace(call, Gathering::Gathered(name, args)).end();
+    mem::replace(call, Gathering::Gathered(name, scan.into_args())).end();
 }
 
 /// Feeds a token to the scanner of a call, which stays where it is as long as it takes tokens.
-pub fn feed(
-    lists: &mut Lists,
-    table: &Eqtb,
-    call: &mut Gathering,
-    token: Token,
-) -> Result<CallTold, Full>
+pub fn feed(lists: &mut Lists, table: &Eqtb, call: &mut Gathering, token: Token) -> Result<(), Full>
     requires scanning { IsScanning call.old }
     requires sound { IsCall lists.old table.now call.old }
     ensures recalls { Recalls lists.old lists.new table.now call.old call.new }
-    ensures ok { IfOk result (λ told. Feeds (text_of (texts lists.old) table.now.groups.now.meanings) token told (calling_of lists.old call.old) (calling_of lists.new call.new)) }
+    ensures ok { OnOk result (Feeds (text_of (texts lists.old) table.now.groups.now.meanings) token (calling_of lists.old call.old) (calling_of lists.new call.new)) }
     ensures err { OnErr result (CutShort (text_of (texts lists.old) table.now.groups.now.meanings) token (calling_of lists.old call.old) (calling_of lists.new call.new)) }
     ensures full { IfErr result (λ f. IsFull f lists.new) }
 {
@@ -136,22 +126,22 @@ pub fn feed(
         unreachable!()
     };
     match scan.feed(lists, list, token) {
-        Ok(ArgAsk::More) => Ok(CallTold::More),
-        Ok(ArgAsk::ExtraBrace) => Ok(CallTold::ExtraBrace),
-        Ok(ArgAsk::Called(args)) => {
-            gathered(lists, call, args);
-            Ok(CallTold::Gathered)
+        Ok(CallAsk::More) => Ok(()),
+        Ok(CallAsk::ExtraBrace) => Ok(()),
+        Ok(CallAsk::Gathered) => {
+            gathered(call);
+            Ok(())
         }
-        Ok(ArgAsk::Mismatch) => {
-            stop(call);
-            Ok(CallTold::Mismatch)
+        Ok(CallAsk::Mismatch) => {
+            stop(call, CallEnd::Mismatch);
+            Ok(())
         }
-        Ok(ArgAsk::ParEnded(silent)) => {
-            stop(call);
-            Ok(CallTold::ParEnded(silent))
+        Ok(CallAsk::ParEnded(silent)) => {
+            stop(call, CallEnd::ParEnded(silent));
+            Ok(())
         }
         Err(full) => {
-            stop(call);
+            stop(call, CallEnd::Full);
             Err(full)
         }
     }

@@ -20,6 +20,6 @@ mod places;
 mod state;
 mod walk;
 
-pub use answer::{CallKind, CallTold, Pulled};
+pub use answer::{Call, CallEnd, CallKind, Pulled};
 pub use state::Input;
 pub use walk::{Walk, walks_stay};

@@ -23,7 +23,7 @@ ghost use Rattle.token_lists.specs.Ids.{build_id, id_of, IsBuilding};
 ghost use Rattle.token_lists.specs.Accounts.{Moves, Keeps, Covers, none, holds};
 ghost use Rattle.token_lists.specs.Refusals.{IsFull};
 ghost use Rattle.input_state.specs.Counted.{HaveHolders};
-ghost use Rattle.input_state.specs.HeldLists.{HeldLists, KeepsHeld, call_refusal, put_refusal, first_list, is_empty, made, words_held, gathered_held, level_held, puts_held, settle_held, pending_of, outer_in, ahead_of, AreInBuffer, GoFurther, over_held, at_line, opened_over};
+ghost use Rattle.input_state.specs.HeldLists.{HeldLists, KeepsHeld, call_refusal, put_refusal, first_list, is_empty, made, words_held, gathered_held, level_held, puts_held, settle_held, pending_of, outer_in, has_item, ahead_of, AreInBuffer, GoFurther, over_held, at_line, opened_over};
 ghost use Rattle.input_state.specs.FileLeft.{FileLeft};
 ghost use Rattle.input_state.specs.HeldAppends.{HeldShort, held_appended, held_appended_made};
 ghost use Rattle.meanings.specs.Kept.{IsPlaced, without_list};
@@ -32,7 +32,7 @@ ghost use Rattle.input_state.specs.Macros.{HasNameRoom, IsPlaceOf, list_at};
 ghost use Rattle.input_state.specs.Calls.{call_kind, called_put, called, put_of, text_of, list_to_let, begun_lists, Defines};
 ghost use Rattle.input_state.specs.declared.answer.CallKind.TheVariants.{AtOnce, Gathers};
 ghost use Rattle.input_state.specs.Standing.{SetsList, standing_put, standing_tokens, appended, appended_made};
-ghost use Rattle.input_state.specs.Callings.{NotCalling, IsComplete};
+ghost use Rattle.input_state.specs.Callings.{NotCalling, IsComplete, call_in};
 ghost use Rattle.input_state.specs.Callings as calls;
 ghost use Rattle.input_state.specs.CallFeeds.{IsTaking, Feeds, CutShort, growth, with_scan, call_work};
 ghost use Rattle.macro_call.specs.PlainScans.{first_scan, cut_scan, settled_scan};
@@ -47,12 +47,12 @@ use crate::appending::{Change, append, append_from};
 use crate::gathering::{Gathering, begin as begin_call, feed};
 use crate::holders::{give_back, has_parameters, let_go, list_to_let, share, standing};
 use crate::places::behind;
-use crate::{CallKind, CallTold, Pulled};
+use crate::{Call, CallKind, Pulled};
 use eqtb_save::{Closed, Eqtb, Glue, GroupKind, Loc, Val, Value, name_loc};
 use input_stack::{InputStack, Pulled as Given};
 use line_lexer::{Ahead, Lexed, Line};
 use macro_args::Args;
-use macro_call::{at_first, at_first_built};
+use macro_call::{CallAsk, at_first, at_first_built};
 use meanings::without_list;
 use std::alloc::{AllocError, Global};
 use std::marker::Model;
@@ -256,12 +256,10 @@ impl Held {
         ensures err { OnErr result (self.new ≡ self.old) }
         ensures keeps { KeepsHeld self.old self.new }
     {
-        let Some(mut build) = self.builds.pop() else {
+        let Some(build) = self.builds.last_mut() else {
             unreachable!()
         };
-        let grown = append(&mut self.lists, &mut build, token);
-        self.builds.push_reserved(build);
-        grown
+        append(&mut self.lists, build, token)
     }
 
     /// The innermost gathered list gets the tokens of the list that stands at a location.
@@ -483,7 +481,8 @@ impl Held {
 
     /// Whether the list or the call in front has a token left; it may be an argument's first, whose level opens. Nothing changes.
     pub fn has_item(&self) -> bool
-        ensures { IsTrue result → (bytes : List ℕ) (files : List FileLeft) (next : Option (List ℕ)) → ahead_of self.now.groups.now.categories (pending_of self.now bytes files next) ≡ ahead.Token }
+        ensures is { result ≡ has_item self.now.puts }
+        ensures next { IsTrue result → (bytes : List ℕ) (files : List FileLeft) (next : Option (List ℕ)) → ahead_of self.now.groups.now.categories (pending_of self.now bytes files next) ≡ ahead.Token }
     {
         self.stack.has_item(&self.lists)
     }
@@ -1075,8 +1074,34 @@ impl Held {
         match &self.call {
             Gathering::None => false,
             Gathering::Gathers(_name, _scan) => true,
-            Gathering::Stopped(_name, _scan) => true,
+            Gathering::Stopped(_name, _end, _scan) => true,
             Gathering::Gathered(_name, _args) => true,
+        }
+    }
+
+    /// The call that gathers its arguments, if one does, by what it asks for. It follows from its scanner, from what ended it, or from its arguments being there.
+    #[inline(always)]
+    pub fn call(&self) -> Option<Call>
+        ensures { result ≡ call_in self.now.call }
+    {
+        match &self.call {
+            Gathering::None => None,
+            Gathering::Gathers(name, scan) => Some(Call {
+                name: *name,
+                ask: if scan.is_braced() {
+                    CallAsk::ExtraBrace
+                } else {
+                    CallAsk::More
+                },
+            }),
+            Gathering::Stopped(name, end, _scan) => Some(Call {
+                name: *name,
+                ask: end.ask(),
+            }),
+            Gathering::Gathered(name, _args) => Some(Call {
+                name: *name,
+                ask: CallAsk::Gathered,
+            }),
         }
     }
 
@@ -1087,7 +1112,7 @@ impl Held {
         match &self.call {
             Gathering::Gathers(_name, _scan) => true,
             Gathering::None => false,
-            Gathering::Stopped(_name, _scan) => false,
+            Gathering::Stopped(_name, _end, _scan) => false,
             Gathering::Gathered(_name, _args) => false,
         }
     }
@@ -1100,19 +1125,19 @@ impl Held {
             Gathering::Gathered(_name, _args) => true,
             Gathering::None => false,
             Gathering::Gathers(_name, _scan) => false,
-            Gathering::Stopped(_name, _scan) => false,
+            Gathering::Stopped(_name, _end, _scan) => false,
         }
     }
 
-    /// Feeds a token to the call. What is told is what the definition of arguments asks for behind all that was fed.
+    /// Feeds a token to the call, which then asks for what the definition of arguments asks for behind all that was fed.
     ///
     /// # Errors
     /// The main memory is full: some of the tokens that go into the list in work are in it, from the first on, and not
     /// all, and nothing else has changed; or the argument is whole, and the next one's list isn't begun. The call takes no
     /// more tokens.
-    pub fn feed_call(&mut self, token: Token) -> Result<CallTold, Full>
+    pub fn feed_call(&mut self, token: Token) -> Result<(), Full>
         requires { IsTaking self.old.call }
-        ensures ok { IfOk result (λ told. Feeds (text_of self.old.lists self.old.groups.now.meanings) token told self.old.call self.new.call) }
+        ensures ok { OnOk result (Feeds (text_of self.old.lists self.old.groups.now.meanings) token self.old.call self.new.call) }
         ensures fits { OnOk result (words_held self.old + length (growth (text_of self.old.lists self.old.groups.now.meanings) token self.old.call) ≤ self.old.sizes.main_memory_size) }
         ensures err { OnErr result (CutShort (text_of self.old.lists self.old.groups.now.meanings) token self.old.call self.new.call) }
         ensures full { IfErr result (λ full. refused self.new.sizes (memory 1 (words_held self.new) ∷ []) ≡ Some full) }
@@ -1120,9 +1145,9 @@ impl Held {
         ensures keeps { KeepsHeld self.old self.new }
     {
         let _old_words = self.lists.used();
-        let told = feed(&mut self.lists, &self.table, &mut self.call, token);
+        let fed = feed(&mut self.lists, &self.table, &mut self.call, token);
         let _words = self.lists.used();
-        told
+        fed
     }
 
     /// A check came in the call, at a file's end or at an `\outer` name: from here the macro counts as not `\long`, and a
@@ -1136,7 +1161,7 @@ impl Held {
         mem::replace(&mut self.call, Gathering::Gathers(name, scan)).end();
     }
 
-    /// The extra brace that the call told was put back and reported.
+    /// The extra brace that the call answered was put back and reported.
     pub fn settle_call(&mut self)
         requires { IsTaking self.old.call }
         ensures after { self.new ≡ record self.old { call = with_scan settled_scan self.old.call } }
@@ -1153,7 +1178,7 @@ impl Held {
     {
         let scan = match &self.call {
             Gathering::Gathers(_name, scan) => scan,
-            Gathering::Stopped(_name, scan) => scan,
+            Gathering::Stopped(_name, _end, scan) => scan,
             Gathering::None => return None,
             Gathering::Gathered(_name, _args) => return None,
         };
@@ -1202,7 +1227,7 @@ impl Held {
         match mem::replace(&mut self.call, Gathering::None) {
             Gathering::None => {}
             Gathering::Gathers(_name, scan) => scan.abandon(&mut self.lists),
-            Gathering::Stopped(_name, scan) => scan.abandon(&mut self.lists),
+            Gathering::Stopped(_name, _end, scan) => scan.abandon(&mut self.lists),
             Gathering::Gathered(_name, args) => args.release(&mut self.lists),
         }
     }
@@ -1231,7 +1256,7 @@ impl Held {
         match call {
             Gathering::None => {}
             Gathering::Gathers(_name, _scan) => unreachable!(),
-            Gathering::Stopped(_name, _scan) => unreachable!(),
+            Gathering::Stopped(_name, _end, _scan) => unreachable!(),
             Gathering::Gathered(_name, _args) => unreachable!(),
         }
         stack.close(&mut lists);

@@ -21,13 +21,13 @@ ghost use Rattle.tex_defs.specs.declared.Table.TheVariants.{BufferSize};
 ghost use Rattle.token_lists.specs.Table.{tokens_at, IsHeld};
 ghost use Rattle.token_lists.specs.Table as table;
 ghost use Rattle.token_lists.specs.Ids.{build_id, id_of};
-ghost use Rattle.input_state.specs.HeldLists.{KeepsHeld, first_list, is_empty, made, ahead_of};
+ghost use Rattle.input_state.specs.HeldLists.{KeepsHeld, first_list, is_empty, made, has_item, ahead_of};
 ghost use Rattle.meanings.specs.Kept.{IsPlaced, without_list};
 ghost use Rattle.input_state.specs.declared.answer.CallKind.TheVariants.{AtOnce, Gathers};
 ghost use Rattle.input_state.specs.HeldViews.{IsDefined};
 ghost use Rattle.input_state.specs.Macros.{HasNameRoom, list_at};
 ghost use Rattle.input_state.specs.Calls.{call_kind, called_put, after_call, put_of, text_of, list_to_let, begun_lists, Defines};
-ghost use Rattle.input_state.specs.Callings.{NotCalling, IsComplete};
+ghost use Rattle.input_state.specs.Callings.{NotCalling, IsComplete, call_in};
 ghost use Rattle.input_state.specs.Callings as calls;
 ghost use Rattle.input_state.specs.CallFeeds.{IsTaking, Feeds, CutShort, growth, with_scan, call_work};
 ghost use Rattle.macro_call.specs.PlainScans.{first_scan, cut_scan, settled_scan};
@@ -46,7 +46,7 @@ use crate::file::{Files, Step};
 use crate::lines::{first_line, put_bytes, put_line};
 use crate::lists_held::Held;
 use crate::places::{spell, spelt_length};
-use crate::{CallKind, CallTold, Pulled, Walk};
+use crate::{Call, CallKind, Pulled, Walk};
 use eqtb_save::{Glue, GroupKind, Loc, Val};
 use line_lexer::{Ahead, Line, LineState};
 use std::alloc::{AllocError, Global};
@@ -524,6 +524,7 @@ impl Input {
     /// Whether the list or the call in front has a token left: then it comes next, and no byte of the file is needed for it. It may be
     /// an argument's first, whose level must have room. Nothing changes.
     pub fn has_item(&self) -> bool
+        ensures is { result ≡ has_item self.now.pending.puts }
         ensures knows { IsTrue result → KnowsNext self.now }
         ensures step { IsTrue result → gives_step (pulled self.now.groups.now.categories self.now.pending) ≡ true }
     {
@@ -1045,6 +1046,14 @@ impl Input {
         self.held.is_calling()
     }
 
+    /// The call that gathers its arguments, if one does, by what it asks for.
+    #[inline(always)]
+    pub fn call(&self) -> Option<Call>
+        ensures { result ≡ call_in self.now.call }
+    {
+        self.held.call()
+    }
+
     /// Whether a call takes tokens.
     pub fn is_taking(&self) -> bool
         ensures { MatchBool result (IsTaking self.now.call) (IsTaking self.now.call → ⊥) }
@@ -1059,15 +1068,15 @@ impl Input {
         self.held.is_complete()
     }
 
-    /// Feeds a token to the call. What is told is what the definition of arguments asks for behind all that was fed.
+    /// Feeds a token to the call, which then asks for what the definition of arguments asks for behind all that was fed.
     ///
     /// # Errors
     /// The main memory is full: some of the tokens that go into the list in work are in it, from the first on, and not
     /// all, and nothing else has changed; or the argument is whole, and the next one's list isn't begun. The call takes no
     /// more tokens.
-    pub fn feed_call(&mut self, token: Token) -> Result<CallTold, Full>
+    pub fn feed_call(&mut self, token: Token) -> Result<(), Full>
         requires { IsTaking self.old.call }
-        ensures ok { IfOk result (λ told. Feeds (text_of self.old.lists self.old.groups.now.meanings) token told self.old.call self.new.call) }
+        ensures ok { OnOk result (Feeds (text_of self.old.lists self.old.groups.now.meanings) token self.old.call self.new.call) }
         ensures fits { OnOk result (words self.old + length (growth (text_of self.old.lists self.old.groups.now.meanings) token self.old.call) ≤ self.old.sizes.main_memory_size) }
         ensures err { OnErr result (CutShort (text_of self.old.lists self.old.groups.now.meanings) token self.old.call self.new.call) }
         ensures full { IfErr result (λ full. refused self.new.sizes (memory 1 (words self.new) ∷ []) ≡ Some full) }
@@ -1086,7 +1095,7 @@ impl Input {
         self.held.cut_call();
     }
 
-    /// The extra brace that the call told was put back and reported.
+    /// The extra brace that the call answered was put back and reported.
     pub fn settle_call(&mut self)
         requires { IsTaking self.old.call }
         ensures after { self.new ≡ record self.old { call = with_scan settled_scan self.old.call } }

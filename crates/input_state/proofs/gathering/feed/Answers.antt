@@ -1,5 +1,5 @@
 use Rattle.token_lists.specs.Ids.{id_of}
-use Rattle.input_state.proofs.Called.{more_feeds, brace_feeds, called_feeds, mismatch_feeds, ended_feeds, cut_feeds}
+use Rattle.input_state.proofs.Called.{more_feeds, brace_feeds, gathered_feeds, mismatch_feeds, ended_feeds, cut_feeds}
 use Rattle.input_state.proofs.gathering.feed.Goals as goal
 
 pub returns-in-Ok-More-clause-ok : goal.returns-in-Ok-More-clause-ok
@@ -14,11 +14,11 @@ returns-in-Ok-ExtraBrace-clause-ok c =
     brace_feeds c.args.lists.now c.feed.new.lists c.args.table.now c.args.call.now (id_of c.in-Some.list.now) h.name h.scan c.feed.new.self c.args.token c.requires.sound h.is c.in-Some.ensures.list
     c.in-Ok-ExtraBrace.field-0 c.in-Ok-ExtraBrace.field-0-is c.in-Ok-ExtraBrace.ensures.answers
 
-pub returns-in-Ok-Called-clause-ok : goal.returns-in-Ok-Called-clause-ok
-returns-in-Ok-Called-clause-ok c =
+pub returns-in-Ok-Gathered-clause-ok : goal.returns-in-Ok-Gathered-clause-ok
+returns-in-Ok-Gathered-clause-ok c =
     let h = c.in-Gathers in
-    called_feeds c.args.lists.now c.feed.new.lists c.args.table.now c.args.call.now (id_of c.in-Some.list.now) h.name h.scan c.feed.new.self c.args.token c.requires.sound h.is c.in-Some.ensures.list
-    c.in-Ok-Called.args c.gathered.new.lists c.gathered.new.call c.gathered.ensures.after c.gathered.ensures.account c.gathered.ensures.kept c.in-Ok-Called.field-0 c.in-Ok-Called.field-0-is c.in-Ok-Called.ensures.answers
+    gathered_feeds c.args.lists.now c.feed.new.lists c.args.table.now c.args.call.now (id_of c.in-Some.list.now) h.name h.scan c.feed.new.self c.args.token c.requires.sound h.is c.in-Some.ensures.list
+    c.gathered.new.call c.gathered.ensures c.in-Ok-Gathered.field-0 c.in-Ok-Gathered.field-0-is c.in-Ok-Gathered.ensures.answers
 
 pub returns-in-Ok-Mismatch-clause-ok : goal.returns-in-Ok-Mismatch-clause-ok
 returns-in-Ok-Mismatch-clause-ok c =
@@ -30,7 +30,7 @@ pub returns-in-Ok-ParEnded-clause-ok : goal.returns-in-Ok-ParEnded-clause-ok
 returns-in-Ok-ParEnded-clause-ok c =
     let h = c.in-Gathers in
     ended_feeds c.args.lists.now c.feed.new.lists c.args.table.now c.args.call.now (id_of c.in-Some.list.now) h.name h.scan c.feed.new.self c.args.token c.requires.sound h.is c.in-Some.ensures.list
-    c.stop-in-Ok-ParEnded.new.call c.stop-in-Ok-ParEnded.ensures c.in-Ok-ParEnded.silent c.in-Ok-ParEnded.field-0 c.in-Ok-ParEnded.field-0-is c.in-Ok-ParEnded.ensures.answers
+    c.stop-in-Ok-ParEnded.new.call c.in-Ok-ParEnded.silent c.stop-in-Ok-ParEnded.ensures c.in-Ok-ParEnded.field-0 c.in-Ok-ParEnded.field-0-is c.in-Ok-ParEnded.ensures.answers
 
 pub returns-in-Err-clause-err : goal.returns-in-Err-clause-err
 returns-in-Err-clause-err c =

@@ -61,20 +61,20 @@ returns-in-Gathered-clause-keeps c =
 pub invariant_of-self-in-Stopped : goal.invariant_of-self-in-Stopped
 invariant_of-self-in-Stopped c =
     let i = c.self.inside in
-    let k = call.Stopped c.in-Stopped._name c.in-Stopped.scan in
+    let k = call.Stopped c.in-Stopped._name c.in-Stopped._end c.in-Stopped.scan in
     let is : i.call ≡ k = sym c.replace.ensures.value ∙ c.in-Stopped.is in
     dropped_sound i.lists c.abandon-in-Stopped.new.lists i.stack i.making i.builds.items i.table i.call c.replace.new.dest i.sizes _ c.self.invariant c.replace.ensures.after (gone i.lists c.abandon-in-Stopped.new.lists i.call k is c.abandon-in-Stopped.ensures.account) (stay i.lists c.abandon-in-Stopped.new.lists i.call k is c.abandon-in-Stopped.ensures.kept) c.abandon-in-Stopped.ensures.length
 
 pub returns-in-Stopped-clause-after : goal.returns-in-Stopped-clause-after
 returns-in-Stopped-clause-after c =
     let i = c.self.inside in
-    let k = call.Stopped c.in-Stopped._name c.in-Stopped.scan in
+    let k = call.Stopped c.in-Stopped._name c.in-Stopped._end c.in-Stopped.scan in
     let is : i.call ≡ k = sym c.replace.ensures.value ∙ c.in-Stopped.is in
     dropped_view i.lists c.abandon-in-Stopped.new.lists i.stack i.making i.builds.items i.table i.call c.replace.new.dest i.sizes _ c.self.invariant c.replace.ensures.after (gone i.lists c.abandon-in-Stopped.new.lists i.call k is c.abandon-in-Stopped.ensures.account) (stay i.lists c.abandon-in-Stopped.new.lists i.call k is c.abandon-in-Stopped.ensures.kept) c.abandon-in-Stopped.ensures.length c.args.self.now c.self.view_is
 
 pub returns-in-Stopped-clause-keeps : goal.returns-in-Stopped-clause-keeps
 returns-in-Stopped-clause-keeps c =
     let i = c.self.inside in
-    let k = call.Stopped c.in-Stopped._name c.in-Stopped.scan in
+    let k = call.Stopped c.in-Stopped._name c.in-Stopped._end c.in-Stopped.scan in
     let is : i.call ≡ k = sym c.replace.ensures.value ∙ c.in-Stopped.is in
     dropped_macros i.lists c.abandon-in-Stopped.new.lists i.stack i.making i.builds.items i.table i.call c.replace.new.dest i.sizes _ c.self.invariant c.replace.ensures.after (gone i.lists c.abandon-in-Stopped.new.lists i.call k is c.abandon-in-Stopped.ensures.account) (stay i.lists c.abandon-in-Stopped.new.lists i.call k is c.abandon-in-Stopped.ensures.kept) c.abandon-in-Stopped.ensures.length c.args.self.now c.self.view_is
