@@ -13,6 +13,9 @@ pub mod GlueSteps
 pub mod Measuring
 pub mod Starting
 pub mod Lending
+pub mod Giving
+pub mod DimenGiving
+pub mod GivenBack
 pub mod Values
 pub mod Lower
 pub mod Notes

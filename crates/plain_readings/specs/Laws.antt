@@ -15,9 +15,9 @@ use Rattle.rows.specs.declared.words.Value.TheVariants as value
 use Rattle.rows.specs.declared.words.Kind.{Kind as Begun}
 use Rattle.rows.specs.declared.words.Kind.TheVariants.{Command, Integer, Factor, Dimension, Glue, Keyword, Text, Definition}
 use Rattle.rows.specs.declared.command.Call.{Call}
-use Rattle.rows.specs.declared.command.Effect.TheVariants.{Reach}
+use Rattle.rows.specs.declared.command.Effect.TheVariants.{Reach, StartInput}
 use Rattle.rows.specs.Laws.{IsValueless}
-use Rattle.rows.specs.Readings.{Fed, Tok, Told, Verbatim, Ask, More, Inner, Done, Acts, ActsOn, Tells, Inserts, Puts, Fetches, Magnifies}
+use Rattle.rows.specs.Readings.{Fed, Tok, Told, Verbatim, Ask, More, Inner, Done, Acts, ActsOn, Defines, Ends, Calls, Fails, RunsAway, Tells, Inserts, Puts, Fetches, Magnifies}
 use Rattle.plain_readings.specs.Readings.{Kind, Reads, Spelling, FileName, Behind, Skips, ask, lists}
 
 -- RANKS. A reading that was fed with nothing begins only readings of a lower rank.
@@ -63,6 +63,45 @@ Lends b a = Unit {0}
 
 abbrev pub TokensAreLent : Type 0
 TokensAreLent = (k : Kind) (fed : List Fed) → Lends (is_met false fed) (ask k fed)
+
+-- A TOKEN THAT IS GIVEN BACK. What gives back the last token comes directly behind a token: that one was fed to this very reading, and nothing since.
+abbrev pub Returns : (met back : Bool) → Type 0
+Returns met true = met ≡ true
+Returns met false = Unit {0}
+
+abbrev pub GivesBack : (met : Bool) → Ask → Type 0
+GivesBack met (Done v back) = Returns met back
+GivesBack met (Tells report back) = Returns met back
+GivesBack met (Inserts t report back) = Returns met back
+GivesBack met (RunsAway report) = met ≡ true
+GivesBack met (ActsOn c (StartInput back) ts) = Returns met back
+GivesBack met a = Unit {0}
+
+-- What may come behind what a reading asked for: behind a report the note of it, and nothing behind an end; behind all else anything, asked for or not.
+abbrev pub Comes : Ask → Fed → Type 0
+Comes (Tells report back) Told = Unit {0}
+Comes (Tells report back) y = ⊥
+Comes (Inserts t report back) Told = Unit {0}
+Comes (Inserts t report back) y = ⊥
+Comes (Done v back) y = ⊥
+Comes (Acts c e) y = ⊥
+Comes (ActsOn c e ts) y = ⊥
+Comes (Defines c n ts) y = ⊥
+Comes Ends y = ⊥
+Comes (Calls args) y = ⊥
+Comes (Fails report) y = ⊥
+Comes (RunsAway report) y = ⊥
+Comes a y = Unit {0}
+
+-- all that a reading was fed with came so, item by item, where it asks so
+abbrev pub ComeInTurn : (asks : List Fed → Ask) → List Fed → Type 0
+ComeInTurn asks [] = Unit {0}
+ComeInTurn asks (y ∷ fed) = Comes (asks []) y × ComeInTurn (λ more. asks (y ∷ more)) fed
+
+-- Of what came in turn the law holds, and what may come behind it comes in turn. The readings of a run are fed so, which is a law of its runs.
+pub record TokensAreGivenBack : Type 0 where
+  pub directly : (k : Kind) (fed : List Fed) → ComeInTurn (ask k) fed → GivesBack (is_met false fed) (ask k fed)
+  pub in_turn : (k : Kind) (fed : List Fed) (y : Fed) → ComeInTurn (ask k) fed → Comes (ask k fed) y → ComeInTurn (ask k) (fed ++ y ∷ [])
 
 -- VALUES. An integer's is a number, a factor's that and whether a point came, that of a dimension and of glue is one, a keyword's whether it was there,
 -- and none of these holds a list; that of a text is its list, which may have no token, and that of a macro's list has one.

@@ -1,5 +1,5 @@
 // Laws of the readings: the functions have no bodies, their contracts are the laws.
-ghost use Rattle.plain_readings.specs.Laws.{ReadingsStart, ReadingsBeginLower, TokensAreLent, ValuesAreTheirs, NamesAreHeld, TokensEnter, SkippedTexts, NotesFall};
+ghost use Rattle.plain_readings.specs.Laws.{ReadingsStart, ReadingsBeginLower, TokensAreLent, TokensAreGivenBack, ValuesAreTheirs, NamesAreHeld, TokensEnter, SkippedTexts, NotesFall};
 ghost use Rattle.plain_readings.specs.Weights.{WeightsFall};
 ghost use Rattle.plain_readings.specs.Worked.{WorkedReadings};
 
@@ -16,6 +16,11 @@ pub fn readings_begin_lower()
 /// A reading begins another with the token that it looked at only directly behind that token.
 pub fn tokens_are_lent()
     ensures { TokensAreLent }
+{}
+
+/// A reading that was fed with nothing behind its end, and behind a report with its note, gives the last token back only directly behind a token.
+pub fn tokens_are_given_back()
+    ensures { TokensAreGivenBack }
 {}
 
 /// What a reading ends with is a value of its kind, with the list that it holds; that of a macro has a token.

@@ -7,6 +7,7 @@ mod measures;
 
 pub use laws::{
     names_are_held, notes_fall, readings_begin_lower, readings_start, skipped_texts,
-    tokens_are_lent, tokens_enter, values_are_theirs, weights_fall, worked_readings,
+    tokens_are_given_back, tokens_are_lent, tokens_enter, values_are_theirs, weights_fall,
+    worked_readings,
 };
 pub use measures::{Measure, Quantity};
