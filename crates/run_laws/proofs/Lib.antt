@@ -1,0 +1,7 @@
+pub mod Standing
+pub mod Keeping
+pub mod Cuts
+pub mod Expanding
+pub mod Feeding
+pub mod Answering
+pub mod Running
