@@ -16,14 +16,14 @@ use Rattle.equivalents.specs.Groups.{Groups}
 use Rattle.equivalents.specs.Holding.{list_of, lists_held}
 use Rattle.plain_machine.proofs.Holders.{is_number}
 use Rattle.plain_machine.proofs.Ties.{named_meant, name_held}
-use Rattle.input_state.specs.Callings.{Calling, call_lists}
+use Rattle.input_state.specs.Callings.{Calling, call_lists, call_in}
 use Rattle.input_state.specs.Macros.{list_at, is_shared}
 use Rattle.input_state.specs.Stored.{Stored}
 use Rattle.reading_frames.specs.declared.frame.Frame.{Frame}
 use Rattle.reading_frames.specs.Stack.{Stack}
 use Rattle.reading_frames.specs.Stands as frames
 use Rattle.reading_frames.specs.Stands.{AreShallow}
-use Rattle.engine_state.specs.declared.call.Call.{Call}
+use Rattle.input_state.specs.declared.answer.Call.{Call}
 use Rattle.engine_state.specs.declared.engine.Engine.{Engine}
 use Rattle.engine_state.specs.Book.{Book}
 use Rattle.engine_state.specs.Calls.{AllStand, ReadingsStand, CallStands, CallAt, asks_of}
@@ -41,7 +41,7 @@ readings_still e e' work same h =
     }
 
 pub frames_kept : (e e' : Engine) (work : List Reading) → SameFrames e e' → FramesStand e work → FramesStand e' work
-frames_kept e e' work same h = readings_still e e' work (record { readings = same.readings; lists = same.lists; call = same.call }) h
+frames_kept e e' work same h = readings_still e e' work (record { readings = same.readings; lists = same.lists; call = ap call_in same.call }) h
 
 -- A NAME THAT MEANS A MACRO
 
@@ -73,13 +73,13 @@ call_still e e' number c r same store h =
     }
 
 all_by : (e e' : Engine) (number : ℕ → ℕ) (c : Option Call) (work : List Reading) → SameFrames e e' → SameStore e.input e'.input → ReadingsStand c e number work → ReadingsStand c e' number work
-all_by e e' number None work same store h = (frames_kept e e' work same h.0, same.calling ∙ h.1)
+all_by e e' number None work same store h = frames_kept e e' work same h
 all_by e e' number (Some c) [] same store h = h
-all_by e e' number (Some c) (r ∷ rs) same store h = (call_still e e' number c r same.calling store h.0, frames_kept e e' rs same h.1)
+all_by e e' number (Some c) (r ∷ rs) same store h = (call_still e e' number c r same.call store h.0, frames_kept e e' rs same h.1)
 
 pub all_still : (sizes : Sizes) (e e' : Engine) (book : Book) → SameFrames e e' → SameStore e.input e'.input → IsSound sizes e' book.number book.all_lists → e'.input.making ≡ None → AllStand sizes e book → AllStand sizes e' book
 all_still sizes e e' book same store sound idle st = record {
   sound = sound;
   idle = idle;
-  all = subst (λ (c : Option Call). ReadingsStand c e' book.number book.work) (sym same.call) (all_by e e' book.number e.call book.work same store st.all);
+  all = subst (λ (c : Option Call). ReadingsStand c e' book.number book.work) (sym (ap call_in same.call)) (all_by e e' book.number (call_in e.input.call) book.work same store st.all);
 }

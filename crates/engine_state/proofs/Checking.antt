@@ -1,17 +1,15 @@
 -- What is scanned where a check comes.
-use Rattle.std.proofs.Common.{◌≡◌, ◌≤◌, ◌<◌, ◌+◌, ℕ, List, [], ◌∷◌, ◌++◌, length, drop, refl, sym, ap, subst, ◌∙◌, Bool, true, false, arith}
+use Rattle.std.proofs.Common.{◌≡◌, ◌≤◌, ◌<◌, ◌+◌, ℕ, List, [], ◌∷◌, length, drop, refl, sym, ap, subst, ◌∙◌, Bool, true, false, arith}
 use Rattle.std.proofs.lemmas.List.{drop-drop, length-drop}
-use Rattle.std.specs.Prelude.{Option, Some, None, IsSome, IfSome, option_to_list}
+use Rattle.std.specs.Prelude.{Option, Some, None, IsSome, IfSome}
 use Rattle.tex_syntax.specs.declared.words.Scanned.{Scanned}
 use Rattle.tex_syntax.specs.declared.words.Want.{Want}
 use Rattle.tex_syntax.specs.declared.words.Scanned.TheVariants as scanned
-use Rattle.tex_defs.specs.declared.Name.{Name}
 use Rattle.tex_defs.specs.declared.Sizes.{Sizes}
 use Rattle.tex_defs.specs.declared.Token.{Token}
-use Rattle.rows.specs.Readings.{Fed}
 use Rattle.rows.specs.Table.{reads_under_normal}
-use Rattle.plain_readings.specs.Readings.{Kind, Reading, lists}
-use Rattle.plain_readings.specs.Scanning.{Status, Scans as ScansAs, SkipsText, Unguarded, Inherits, command_status, status, list_on_top, scanned_at, unless_unguarded, innermost_scanned, Scanning, Builds, scanning}
+use Rattle.plain_readings.specs.Readings.{Reading, lists}
+use Rattle.plain_readings.specs.Scanning.{Status, Scans as ScansAs, SkipsText, Unguarded, Inherits, command_status, Builds, scanning}
 use Rattle.reading_frames.specs.declared.ask.Found.{Found}
 use Rattle.reading_frames.specs.declared.ask.Found.TheVariants as found
 use Rattle.reading_frames.specs.declared.frame.Frame.{Frame}
@@ -22,16 +20,12 @@ use Rattle.reading_frames.specs.Stack.{found_at, innermost_found, found_in, asks
 use Rattle.reading_frames.specs.Stands as frames
 use Rattle.reading_frames.proofs.Scanning.{scans}
 use Rattle.plain_machine.specs.Plan.{first_list}
-use Rattle.macro_call.specs.PlainScans.{Scan, scan_work}
-use Rattle.input_state.specs.CallFeeds.{IsTaking as IsTakingCall, call_work}
-use Rattle.input_state.specs.Callings as calls
-use Rattle.input_state.specs.Callings.{Calling, call_lists, last_first}
-use Rattle.input_state.specs.Stored.{gathered}
-use Rattle.engine_state.specs.declared.call.Call.{Call}
-use Rattle.engine_state.specs.declared.call.CallAsk.{CallAsk}
+use Rattle.input_state.specs.Callings.{NotCalling, call_in}
+use Rattle.input_state.specs.declared.answer.Call.{Call}
+use Rattle.macro_call.specs.declared.ask.CallAsk.{CallAsk}
 use Rattle.engine_state.specs.declared.engine.Engine.{Engine}
 use Rattle.engine_state.specs.Book.{Book}
-use Rattle.engine_state.specs.Calls.{ReadingsStand, CallStands, IsTaking, HasWork, open_call, work_or_none}
+use Rattle.engine_state.specs.Calls.{ReadingsStand, open_call}
 use Rattle.engine_state.specs.Stands.{Stands}
 use Rattle.engine_state.specs.Rules.{IsScanned, IsFound, IsListed, Finds, Takes, WantsHere, scanned_as, scanning_of}
 use Rattle.engine_state.proofs.Uncalled.{framed}
@@ -147,9 +141,9 @@ module _ (e : Engine) where
   below_listed (found.SkippedText line) h = tt
 
   -- without a call
-  module _ (sizes : Sizes) (book : Book) (uncalled : e.call ≡ None) where
+  module _ (sizes : Sizes) (book : Book) (uncalled : e.input.call ≡ NotCalling) where
     here : (want : Option Want) → Takes sizes want e book → WantsHere None want e
-    here want t = subst (λ (c : Option Call). WantsHere c want e) uncalled t.0
+    here want t = subst (λ (c : Option Call). WantsHere c want e) (ap call_in uncalled) t.0
 
     stood : (want : Option Want) → Takes sizes want e book → Stands sizes e book
     stood want t = framed sizes e book uncalled t.1
@@ -157,7 +151,7 @@ module _ (e : Engine) where
     scanned_here : (want : Option Want) → Takes sizes want e book → scanning_of e book.work ≡ scanning_found e.input.builds (found_in e.readings.frames)
     scanned_here want t =
         let st : Stands sizes e book = stood want t in
-        ap (scanning book.work) (gathered_is e.input st.uncalled.input) ∙ scans e.readings.frames e.input.builds book.work st.readings.frames
+        ap (scanning book.work) (gathered_is e.input st.uncalled) ∙ scans e.readings.frames e.input.builds book.work st.readings.frames
 
     wanted_some : (x : Found) → Some x ≡ found_in e.readings.frames → (want : Option Want) → Takes sizes want e book → IsSome want
     wanted_some x is None t = absurd (subst (λ (o : Option Found). IfSome o (λ y. ⊥)) (sym (is ∙ none_found e.readings.frames e.input.builds (here None t))) tt)
@@ -177,42 +171,22 @@ module _ (e : Engine) where
 
 -- A CALL
 
--- its present argument is the first of its lists
-first_work : (o : Option (List Token)) (rest builds : List (List Token)) (n : ℕ) → n ≡ length (option_to_list o ++ rest) → (o ≡ None → rest ≡ []) → list_on_top n ((option_to_list o ++ rest) ++ builds) ≡ work_or_none o
-first_work (Some work) rest builds n is none = ap (λ (k : ℕ). list_on_top k (work ∷ (rest ++ builds))) is
-first_work None rest builds n is none = ap (λ (k : ℕ). list_on_top k (rest ++ builds)) (is ∙ ap (length {A = List Token}) (none refl))
-
-no_args : (scan : Scan) → HasWork scan → scan_work scan ≡ None → last_first scan.args [] ≡ []
-no_args scan h none = ap (λ (args : List (List Token)). last_first args []) (h none)
-
-taking_list : (name : Name) (long : Bool) (text : List Token) (k : Calling) (fed : List Fed) (builds : List (List Token)) (n : ℕ) → IsTaking name long text k fed → n ≡ length (call_lists k) → list_on_top n (call_lists k ++ builds) ≡ work_or_none (call_work k)
-taking_list name long text calls.NotCalling fed builds n h is = absurd h
-taking_list name long text (calls.Gathering m scan) fed builds n h is = first_work (scan_work scan) (last_first scan.args []) builds n is (no_args scan h.1.0)
-taking_list name long text (calls.Stopped m scan) fed builds n h is = absurd h
-taking_list name long text (calls.Gathered m args) fed builds n h is = absurd h
-
-is_taking : (name : Name) (long : Bool) (text : List Token) (k : Calling) (fed : List Fed) → IsTaking name long text k fed → IsTakingCall k
-is_taking name long text calls.NotCalling fed h = absurd h
-is_taking name long text (calls.Gathering m scan) fed h = tt
-is_taking name long text (calls.Stopped m scan) fed h = absurd h
-is_taking name long text (calls.Gathered m args) fed h = absurd h
-
 -- a call that takes tokens is the innermost reading
 pub record Using (sizes : Sizes) (e : Engine) (c : Call) (want : Option Want) (book : Book) : Type 0 where
   pub r : Reading
   pub rs : List Reading
   pub work : book.work ≡ r ∷ rs
-  pub opened : e.call ≡ Some (open_call c.name)
+  pub opened : call_in e.input.call ≡ Some (open_call c.name)
   pub readings : ReadingsStand (Some (open_call c.name)) e book.number (r ∷ rs)
   pub wants : IsSome want
 
-pub using : (sizes : Sizes) (e : Engine) (c : Call) (want : Option Want) (book : Book) → e.call ≡ Some c → Takes sizes want e book → Using sizes e c want book
+pub using : (sizes : Sizes) (e : Engine) (c : Call) (want : Option Want) (book : Book) → call_in e.input.call ≡ Some c → Takes sizes want e book → Using sizes e c want book
 using sizes e c None book is t = absurd (subst (λ (o : Option Call). WantsHere o None e) is t.0)
 using sizes e c (Some want) book is t = by_work book.work refl where
   wants : WantsHere (Some c) (Some want) e
   wants = subst (λ (o : Option Call). WantsHere o (Some want) e) is t.0
 
-  opened : e.call ≡ Some (open_call c.name)
+  opened : call_in e.input.call ≡ Some (open_call c.name)
   opened = is ∙ ap (λ (a : CallAsk). Some (record { name = c.name; ask = a })) wants.0
 
   all : ReadingsStand (Some (open_call c.name)) e book.number book.work
@@ -221,25 +195,3 @@ using sizes e c (Some want) book is t = by_work book.work refl where
   by_work : (work : List Reading) → book.work ≡ work → Using sizes e c (Some want) book
   by_work [] none = absurd (subst (λ (rs : List Reading). ReadingsStand (Some (open_call c.name)) e book.number rs) none all)
   by_work (r ∷ rs) is = record { r = r; rs = rs; work = is; opened = opened; readings = subst (λ (rs : List Reading). ReadingsStand (Some (open_call c.name)) e book.number rs) is all; wants = refl }
-
-module _ (sizes : Sizes) (e : Engine) (c : Call) (want : Option Want) (book : Book) (is : e.call ≡ Some c) (t : Takes sizes want e book) where
-  u : Using sizes e c want book
-  u = using sizes e c want book is t
-
-  h : CallStands e book.number (open_call c.name) u.r
-  h = u.readings.0
-
-  abbrev scans_at : Kind → ℕ → Option Scanning
-  scans_at k n = unless_unguarded (status k) (scanned_at (status k) (list_on_top n (gathered e.input)) (innermost_scanned u.rs (drop n (gathered e.input))))
-
-  pub use_scans : Finds (found.Builds scanned.Use c.name 0) e book × IsSome want
-  use_scans = (
-    ap (λ (work : List Reading). scanning work (gathered e.input)) u.work
-        ∙ ap (λ (k : Kind). scans_at k (length (lists u.r.kind u.r.fed))) h.kind
-        ∙ ap (λ (ts : List Token). Some (Builds scanned.Use c.name ts))
-        (taking_list c.name h.long _ e.input.call u.r.fed e.input.builds (length (lists u.r.kind u.r.fed)) h.at (ap (length {A = List Token}) h.holds)),
-    u.wants,
-  )
-
-  pub use_taking : IsTakingCall e.input.call
-  use_taking = is_taking c.name h.long _ e.input.call u.r.fed h.at

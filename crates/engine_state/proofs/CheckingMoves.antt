@@ -2,6 +2,7 @@
 use Rattle.std.proofs.Common.{◌≡◌, ◌<◌, length, ℕ, List, [], ◌∷◌, ◌++◌, refl, sym, ap, subst, ◌∙◌, Bool, true, false, arith}
 use Rattle.std.proofs.lemmas.List.{append-nil}
 use Rattle.std.specs.Prelude.{Option, Some, None, IsSome, if◌then◌else◌}
+use Rattle.std.proofs.lemmas.Option.{none-some}
 use Rattle.tex_syntax.specs.declared.words.Scanned.{Scanned}
 use Rattle.tex_syntax.specs.declared.words.Want.{Want}
 use Rattle.tex_syntax.specs.declared.words.Report.{Report}
@@ -29,30 +30,30 @@ use Rattle.plain_machine.proofs.Doing.{did_join, did_none}
 use Rattle.plain_machine.proofs.Renumbering.{met_of}
 use Rattle.world_io.specs.Contents.{FilesTold, SinkTold, world}
 use Rattle.macro_call.specs.PlainScans.{cut_scan}
-use Rattle.input_state.specs.CallFeeds.{IsTaking, call_work, with_scan}
-use Rattle.input_state.specs.Callings.{Calling}
+use Rattle.input_state.specs.CallFeeds.{call_work, with_scan}
+use Rattle.input_state.specs.Callings.{Calling, call_in}
 use Rattle.input_state.specs.Stored.{Stored}
 use Rattle.conditionals.specs.Open.{innermost_test}
 use Rattle.reading_frames.specs.Stack.{Stack, asks_in}
 use Rattle.reading_frames.specs.declared.ask.Found.{Found}
 use Rattle.reading_frames.specs.declared.ask.Found.TheVariants as found
 use Rattle.engine_state.specs.declared.broken.Broken.{Broken}
-use Rattle.engine_state.specs.declared.call.Call.{Call}
+use Rattle.input_state.specs.declared.answer.Call.{Call}
 use Rattle.engine_state.specs.declared.engine.Engine.{Engine}
 use Rattle.engine_state.specs.declared.outcome.Ruled.{Ruled}
 use Rattle.engine_state.specs.declared.check.Check.{Check}
 use Rattle.engine_state.specs.declared.check.Check.TheVariants.{FileEnded, Forbidden}
 use Rattle.engine_state.specs.Begins.{away_moves, check_report}
 use Rattle.engine_state.specs.Book.{Book, with_work}
-use Rattle.engine_state.specs.Calls.{AllStand, work_or_none}
+use Rattle.engine_state.specs.Calls.{AllStand, AsksToken, work_or_none}
 use Rattle.engine_state.specs.CutReadings.{CutsIn}
 use Rattle.engine_state.specs.Stands.{IsSized, SameFrames, SameOthers, SameStore, OnlyColumn, state_of, page_of, own_style}
 use Rattle.engine_state.specs.Steps.{asked}
 use Rattle.engine_state.specs.Rules.{world_of, onward_of, feeds_of, space_moves, token_moves, scanning_of, nth_list, scanned_list, away_text, check_moves, IsScanned, IsFound, Finds, Takes, WantsHere, Behind, Comes, Went, Reports, DoesOnward}
-use Rattle.engine_state.proofs.Uncalled.{framed}
+use Rattle.engine_state.proofs.Uncalled.{no_call}
 use Rattle.engine_state.proofs.CallKept.{all_still}
 use Rattle.engine_state.proofs.Checking.{Using, using}
-use Rattle.engine_state.proofs.CheckingNotes.{noted_stands, noted_did, noted_feeds}
+use Rattle.engine_state.proofs.CheckingNotes.{cut_same, noted_stands, noted_did, noted_feeds}
 use Rattle.engine_state.proofs.Joining.{went_by, onward_by, onward_join}
 use Rattle.engine_state.proofs.CuttingReadings.{later_in, in_by}
 use Rattle.engine_state.proofs.Reporting.{others_sound}
@@ -70,11 +71,11 @@ wants_still (Some c) None e e' same h = h
 wants_still (Some c) (Some want) e e' same h = h
 
 pub takes_still : (sizes : Sizes) (want : Option Want) (e e' : Engine) (book : Book) → SameFrames e e' → AllStand sizes e' book → Takes sizes want e book → Takes sizes want e' book
-takes_still sizes want e e' book same st t = (subst (λ (c : Option Call). WantsHere c want e') (sym same.call) (wants_still e.call want e e' (asked_kept e e' same.readings same.lists) t.0), st)
+takes_still sizes want e e' book same st t = (subst (λ (c : Option Call). WantsHere c want e') (sym (ap call_in same.call)) (wants_still (call_in e.input.call) want e e' (asked_kept e e' same.readings same.lists) t.0), st)
 
 -- what is scanned, and its list
 pub scanned_still : (what : Scanned) (k : ℕ) (e e' : Engine) → e'.input.call ≡ e.input.call → e'.input.builds ≡ e.input.builds → IsScanned what k e → IsScanned what k e'
-scanned_still scanned.Use k e e' call lists h = subst IsTaking (sym call) h
+scanned_still scanned.Use k e e' call lists h = subst AsksToken (sym call) h
 scanned_still scanned.Text k e e' call lists h = subst (λ (l : List (List Token)). k < length l) (sym lists) h
 scanned_still scanned.Definition k e e' call lists h = subst (λ (l : List (List Token)). k < length l) (sym lists) h
 
@@ -143,15 +144,20 @@ module _ (sizes : Sizes) (want space : Option Want) (e e1 e2 : Engine) (f : File
 
   -- the call does
   module _ (after : e2 ≡ record e1 { input = record e1.input { call = with_scan cut_scan e1.input.call } }) (rep : Rep (Feeds Cut ∷ space_moves page space book.work)) where
-    in_call : (c : Call) → e1.call ≡ Some c → Noted e2 (Feeds Cut ∷ space_moves page space book.work)
-    in_call c is =
+    asking_is : AsksToken e.input.call → AsksToken e1.input.call
+    asking_is taking = subst AsksToken (sym (ap (λ (i : Stored). i.call) input)) taking
+
+    in_call : AsksToken e.input.call → (c : Call) → call_in e1.input.call ≡ Some c → Noted e2 (Feeds Cut ∷ space_moves page space book.work)
+    in_call taking c is =
         let u : Using sizes e1 c want book = using sizes e1 c want book is takes1 in
         let now : List Reading = fed_with Cut (u.r ∷ u.rs) in
         record {
           book2 = with_work now book;
-          still = λ none. absurd (cc (sym is ∙ sym (ap (λ (y : Engine). y.call) after) ∙ none));
+          still = λ none. absurd (none-some c (sym (ap call_in none) ∙ ap (λ (y : Engine). call_in y.input.call) after ∙ cut_same e1.input.call (asking_is taking) ∙ is));
           takes = (
-            subst (λ (y : Engine). WantsHere y.call want y) (sym after) (wants_still e1.call want e1 (record e1 { input = record e1.input { call = with_scan cut_scan e1.input.call } }) refl takes1.0),
+            subst (λ (y : Engine). WantsHere (call_in y.input.call) want y) (sym after)
+                (subst (λ (o : Option Call). WantsHere o want (record e1 { input = record e1.input { call = with_scan cut_scan e1.input.call } })) (sym (cut_same e1.input.call (asking_is taking)))
+                (wants_still (call_in e1.input.call) want e1 (record e1 { input = record e1.input { call = with_scan cut_scan e1.input.call } }) refl takes1.0)),
             noted_stands sizes e1 e2 book c.name u.r u.rs u.opened u.work takes1.1 u.readings after,
           );
           front = written ++ Feeds Cut ∷ [];
@@ -161,11 +167,11 @@ module _ (sizes : Sizes) (want space : Option Want) (e e1 e2 : Engine) (f : File
           free = refl;
         }
 
-    used : IsTaking e.input.call → Noted e2 (Feeds Cut ∷ space_moves page space book.work)
-    used taking = by_call e1.call refl where
-      by_call : (o : Option Call) → e1.call ≡ o → Noted e2 (Feeds Cut ∷ space_moves page space book.work)
-      by_call None none = absurd (subst IsTaking (sym (ap (λ (i : Stored). i.call) input) ∙ (framed sizes e1 book none takes1.1).uncalled.input) taking)
-      by_call (Some c) is = in_call c is
+    used : AsksToken e.input.call → Noted e2 (Feeds Cut ∷ space_moves page space book.work)
+    used taking = by_call (call_in e1.input.call) refl where
+      by_call : (o : Option Call) → call_in e1.input.call ≡ o → Noted e2 (Feeds Cut ∷ space_moves page space book.work)
+      by_call None none = absurd (subst AsksToken (no_call e1.input.call none) (asking_is taking))
+      by_call (Some c) is = in_call taking c is
 
   pub behind : (what : Scanned) (k : ℕ) → IsScanned what k e → (what ≡ scanned.Use → e2 ≡ record e1 { input = record e1.input { call = with_scan cut_scan e1.input.call } }) → ((what ≡ scanned.Use → ⊥) → e2 ≡ e1) →
       Rep (check_noted what (space_moves page space book.work)) → Noted e2 (check_noted what (space_moves page space book.work))
@@ -270,14 +276,14 @@ module _ (e e1 : Engine) (book : Book) (page : page_of e1 book ≡ page_of e boo
   away_same : (what : Scanned) (k : ℕ) (report : Report) (rest : List Move) → away_moves (page_of e book) what (away_text what k e) report rest ≡ away_moves (page_of e1 book) what (away_text what k e1) report rest
   away_same what k report rest =
       ap (λ (p : Page). away_moves p what (runaway_bytes what (style_of p) p.in_line (scanned_list what k e)) report rest) (sym page)
-      ∙ ap (λ (ts : List Token). away_moves (page_of e1 book) what (runaway_bytes what (own_style e1) e1.in_line ts) report rest) (sym (list_still what k e e1 same.calling same.lists))
+      ∙ ap (λ (ts : List Token). away_moves (page_of e1 book) what (runaway_bytes what (own_style e1) e1.in_line ts) report rest) (sym (list_still what k e e1 same.call same.lists))
 
   pub check_same : (check : Check) (x : Found) (rest : List Move) → check_moves e (page_of e book) check x rest ≡ check_moves e1 (page_of e1 book) check x rest
   check_same check (found.Builds what name k) rest = away_same what k (check_report check what name) rest
   check_same check (found.SkippedText line) rest = ap (λ (p : Page). incomplete p line rest) (sym page)
 
 pub found_still : (e e1 : Engine) (x : Found) → SameFrames e e1 → IsFound x e → IsFound x e1
-found_still e e1 (found.Builds what name k) same h = scanned_still what k e e1 same.calling same.lists h
+found_still e e1 (found.Builds what name k) same h = scanned_still what k e e1 same.call same.lists h
 found_still e e1 (found.SkippedText line) same h = tt
 
 -- so is the report of the innermost conditional

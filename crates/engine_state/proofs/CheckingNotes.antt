@@ -1,6 +1,7 @@
 -- A call notes a check.
 use Rattle.std.proofs.Common.{◌≡◌, ℕ, List, [], ◌∷◌, ◌++◌, length, drop, refl, sym, ap, append_assoc, subst, ◌∙◌, Bool, true, false}
 use Rattle.std.proofs.lemmas.List.{append-nil}
+use Rattle.std.proofs.lemmas.Option.{same_Some}
 use Rattle.std.specs.Prelude.{Option, Some, None, not, ◌||◌, take}
 use Rattle.tex_syntax.specs.declared.words.Want.TheVariants.{Raw}
 use Rattle.tex_defs.specs.declared.Name.{Name}
@@ -24,11 +25,12 @@ use Rattle.macro_call.proofs.Checks.{checks_show}
 use Rattle.macro_call.proofs.PlainScans.{scans_gather}
 use Rattle.input_state.specs.CallFeeds.{with_scan}
 use Rattle.input_state.specs.Callings as calls
-use Rattle.input_state.specs.Callings.{Calling, call_lists}
+use Rattle.input_state.specs.declared.answer.Call.{Call}
+use Rattle.input_state.specs.Callings.{Calling, call_lists, asks_where, scan_asks, asks_as, call_in}
 use Rattle.input_state.specs.Macros.{list_at}
 use Rattle.engine_state.specs.declared.engine.Engine.{Engine}
 use Rattle.engine_state.specs.Book.{Book, with_work}
-use Rattle.engine_state.specs.Calls.{AllStand, ReadingsStand, CallStands, Gathers, IsTaking, open_call}
+use Rattle.engine_state.specs.Calls.{AllStand, ReadingsStand, CallStands, Gathers, IsTaking, AsksToken, open_call}
 use Rattle.engine_state.specs.Stands.{state_of}
 use Rattle.engine_state.specs.Rules.{world_of}
 use Rattle.engine_state.proofs.Joining.{quiet_wrote}
@@ -114,7 +116,7 @@ checks : (e : Engine) (number : ℕ → ℕ) (name : Name) (r : Reading) → Cal
 checks e number name r h = by_calling e.input.call h.at h.asked h.holds where
   by_calling : (k : Calling) → IsTaking name h.long (list_at e.input.lists h.id) k r.fed → reading.More Raw ≡ ask r.kind r.fed → lists r.kind r.fed ≡ call_lists k → Checks e number name r k
   by_calling calls.NotCalling where_it wanted holds = absurd where_it
-  by_calling (calls.Stopped n scan) where_it wanted holds = absurd where_it
+  by_calling (calls.Stopped n why scan) where_it wanted holds = absurd where_it
   by_calling (calls.Gathered n args) where_it wanted holds = absurd where_it
   by_calling (calls.Gathering n scan) where_it wanted holds =
       let ts : List Token = list_at e.input.lists h.id in
@@ -141,7 +143,20 @@ checks e number name r h = by_calling e.input.call h.at h.asked h.holds where
 
 -- THE CHECK IS NOTED
 
-module _ (sizes : Sizes) (e e2 : Engine) (book : Book) (name : Name) (r : Reading) (rs : List Reading) (is : e.call ≡ Some (open_call name)) (work : book.work ≡ r ∷ rs) (st : AllStand sizes e book)
+-- a call that asks for a token still does
+cut_call : (name : Name) (k : Calling) → call_in k ≡ Some (open_call name) → call_in (with_scan cut_scan k) ≡ Some (open_call name)
+cut_call name calls.NotCalling is = is
+cut_call name (calls.Gathering n scan) is = ap (λ (c : Call). Some (open_call c.name)) (same_Some (record { name = n; ask = scan_asks scan }) (open_call name) is)
+cut_call name (calls.Stopped n why scan) is = is
+cut_call name (calls.Gathered n args) is = is
+
+pub cut_same : (k : Calling) → AsksToken k → call_in (with_scan cut_scan k) ≡ call_in k
+cut_same calls.NotCalling h = refl
+cut_same (calls.Gathering n scan) h = ap (asks_as n) (ap asks_where (sym h))
+cut_same (calls.Stopped n why scan) h = refl
+cut_same (calls.Gathered n args) h = refl
+
+module _ (sizes : Sizes) (e e2 : Engine) (book : Book) (name : Name) (r : Reading) (rs : List Reading) (is : call_in e.input.call ≡ Some (open_call name)) (work : book.work ≡ r ∷ rs) (st : AllStand sizes e book)
     (k : ReadingsStand (Some (open_call name)) e book.number (r ∷ rs)) (after : e2 ≡ record e { input = record e.input { call = with_scan cut_scan e.input.call } }) where
   abbrev now : List Reading
   now = fed_with Cut (r ∷ rs)
@@ -154,8 +169,8 @@ module _ (sizes : Sizes) (e e2 : Engine) (book : Book) (name : Name) (r : Readin
     sound = sound_still sizes e e2 book.number book.all_lists (ap (λ (y : Engine). y.sizes) after) (ap (λ (y : Engine). y.readings.size) after) (ap (λ (y : Engine). y.conditionals) after) (ap (λ (y : Engine). y.names) after) (ap (λ (y : Engine). y.reports) after)
         (store_scan e.input e2.input (with_scan cut_scan e.input.call) (ap (λ (y : Engine). y.input) after)) st.sound;
     idle = ap (λ (y : Engine). y.input.making) after ∙ st.idle;
-    all = subst (λ (y : Engine). ReadingsStand y.call y book.number now) (sym after)
-        (subst (λ (o : _). ReadingsStand o (record e { input = record e.input { call = with_scan cut_scan e.input.call } }) book.number now) (sym is) (c.stands _ refl, record { frames = k.1.frames; shallow = k.1.shallow }));
+    all = subst (λ (y : Engine). ReadingsStand (call_in y.input.call) y book.number now) (sym after)
+        (subst (λ (o : _). ReadingsStand o (record e { input = record e.input { call = with_scan cut_scan e.input.call } }) book.number now) (sym (cut_call name e.input.call is)) (c.stands _ refl, record { frames = k.1.frames; shallow = k.1.shallow }));
   }
 
   made_now : made (Feeds Cut) (state_of e book) ≡ state_of e2 (with_work now book)

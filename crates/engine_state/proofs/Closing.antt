@@ -35,14 +35,13 @@ pub record IsKept (e e1 : Engine) : Type 0 where
   pub light : pending_weight e1.input.pending ≡ pending_weight e.input.pending
 
 others_same : (e : Engine) (i : Stored) → SameOthers e (record e { input = i })
-others_same e i = record { depth = refl; call = refl; names = refl; after = refl; mag_set = refl; conditionals = refl; last = refl; naming = refl; in_line = refl; reports = refl; flawed = refl; quiet = refl; sizes = refl }
+others_same e i = record { depth = refl; names = refl; after = refl; mag_set = refl; conditionals = refl; last = refl; naming = refl; in_line = refl; reports = refl; flawed = refl; quiet = refl; sizes = refl }
 
 pub kept_join : (e e1 e2 : Engine) → IsKept e e1 → IsKept e1 e2 → IsKept e e2
 kept_join e e1 e2 a b = record {
-  frames = record { readings = b.frames.readings ∙ a.frames.readings; lists = b.frames.lists ∙ a.frames.lists; call = b.frames.call ∙ a.frames.call; calling = b.frames.calling ∙ a.frames.calling };
+  frames = record { readings = b.frames.readings ∙ a.frames.readings; lists = b.frames.lists ∙ a.frames.lists; call = b.frames.call ∙ a.frames.call };
   others = record {
     depth = b.others.depth ∙ a.others.depth;
-    call = b.others.call ∙ a.others.call;
     names = b.others.names ∙ a.others.names;
     after = b.others.after ∙ a.others.after;
     mag_set = b.others.mag_set ∙ a.others.mag_set;
@@ -61,7 +60,7 @@ kept_join e e1 e2 a b = record {
 
 pub kept_self : (e : Engine) → IsKept e e
 kept_self e = record {
-  frames = record { readings = refl; lists = refl; call = refl; calling = refl };
+  frames = record { readings = refl; lists = refl; call = refl };
   others = others_same e e.input;
   sound = λ sizes book h. h;
   light = refl;

@@ -13,6 +13,7 @@ use Rattle.plain_machine.specs.Does.{Did}
 use Rattle.plain_machine.specs.Runs.{steps}
 use Rattle.plain_machine.proofs.Doing.{did_join}
 use Rattle.plain_machine.proofs.Joins.{steps_join}
+use Rattle.input_state.specs.Callings.{NotCalling}
 use Rattle.engine_state.specs.declared.engine.Engine.{Engine}
 use Rattle.engine_state.specs.declared.outcome.Next.{Next}
 use Rattle.engine_state.specs.declared.outcome.Ruled.{Ruled}
@@ -78,7 +79,7 @@ module _ (sizes : Sizes) (want : Option Want) (s : State) (e1 e2 : Engine) (book
   comes_cuts b h = in_by sizes s e2 w w' (c.front ++ onward) moves b c.whole (later_in sizes s (state_of e1 c.book') e2 w v w' c.front onward b c.did h)
 
   -- the run ends: no call gathers its arguments
-  pub comes_halts : (o : Outcome) (j : ℕ) → e1.call ≡ None → Halts sizes (state_of e1 c.book') e2 c.book' v w' onward o j → Halts sizes s e2 book w w' moves o (k + j)
+  pub comes_halts : (o : Outcome) (j : ℕ) → e1.input.call ≡ NotCalling → Halts sizes (state_of e1 c.book') e2 c.book' v w' onward o j → Halts sizes s e2 book w w' moves o (k + j)
   comes_halts o j none h =
       subst (λ (b : Book). Halts sizes s e2 b w w' moves o (k + j)) (c.still none)
       (subst (λ (ms : List Move). Halts sizes s e2 c.book' w w' ms o (k + j)) (sym c.whole)

@@ -54,8 +54,8 @@ module _ (e : Engine) (k : Stack) where
       bodies = st.sound.bodies;
     };
     idle = st.idle;
-    readings = frames_kept e after book.work (record { readings = refl; lists = refl; call = refl; calling = refl }) st.readings;
-    uncalled = record { none = st.uncalled.none; input = st.uncalled.input };
+    readings = frames_kept e after book.work (record { readings = refl; lists = refl; call = refl }) st.readings;
+    uncalled = st.uncalled;
   }
 
   -- one more is open

@@ -18,7 +18,8 @@ use Rattle.reading_frames.specs.Stands as frames
 use Rattle.plain_machine.specs.States.{Begun, BegunWith}
 use Rattle.plain_machine.specs.Demands.{refusal}
 use Rattle.input_state.specs.Stored.{Stored, words as stored_words}
-use Rattle.engine_state.specs.declared.call.Call.{Call}
+use Rattle.input_state.specs.declared.answer.Call.{Call}
+use Rattle.input_state.specs.Callings.{call_in}
 use Rattle.engine_state.specs.declared.engine.Engine.{Engine}
 use Rattle.engine_state.specs.Book.{Book}
 use Rattle.engine_state.specs.Calls.{AllStand, ReadingsStand}
@@ -34,12 +35,12 @@ frames_depth (f ∷ fs) held (r ∷ rs) h = omega (arith, frames_depth fs (below
 
 -- a call counts
 count_by : (e : Engine) (number : ℕ → ℕ) (c : Option Call) (work : List Reading) → ReadingsStand c e number work → length work ≡ length e.readings.frames + call_count c
-count_by e number None work h = omega (arith, frames_depth e.readings.frames e.input.builds work h.0.frames)
+count_by e number None work h = omega (arith, frames_depth e.readings.frames e.input.builds work h.frames)
 count_by e number (Some c) [] h = absurd h
 count_by e number (Some c) (r ∷ rs) h = omega (arith, frames_depth e.readings.frames e.input.builds rs h.1.frames)
 
 pub call_counts : (sizes : Sizes) (e : Engine) (book : Book) → AllStand sizes e book → Counts sizes e book
-call_counts sizes e book st = record { sound = st.sound; depth = count_by e book.number e.call book.work st.all }
+call_counts sizes e book st = record { sound = st.sound; depth = count_by e book.number (call_in e.input.call) book.work st.all }
 
 pub counts_of : (sizes : Sizes) (e : Engine) (book : Book) → Stands sizes e book → Counts sizes e book
 counts_of sizes e book st = call_counts sizes e book (all_of sizes e book st)

@@ -8,12 +8,12 @@ use Rattle.plain_readings.specs.Readings.{Reading}
 use Rattle.plain_machine.specs.States.{State, Move}
 use Rattle.plain_machine.specs.Does.{Did}
 use Rattle.world_io.specs.Contents.{FilesTold, SinkTold, world}
-use Rattle.input_state.specs.Callings.{Calling}
+use Rattle.input_state.specs.Callings.{Calling, NotCalling, call_in}
 use Rattle.reading_frames.specs.Stack.{Stack}
 use Rattle.reading_frames.specs.Stands as frames
 use Rattle.reading_frames.specs.declared.frame.Frame.{Frame}
 use Rattle.engine_state.specs.declared.broken.Broken.{Broken}
-use Rattle.engine_state.specs.declared.call.Call.{Call}
+use Rattle.input_state.specs.declared.answer.Call.{Call}
 use Rattle.engine_state.specs.declared.engine.Engine.{Engine}
 use Rattle.engine_state.specs.Book.{Book}
 use Rattle.engine_state.specs.Calls.{AllStand, ReadingsStand}
@@ -26,16 +26,16 @@ use Rattle.engine_state.proofs.Cutting.{first_cuts, later_cuts}
 -- THE OPEN READINGS
 
 frames_at : (b : Broken) (e : Engine) (number : ℕ → ℕ) (c : Option Call) (work : List Reading) → ReadingsStand c e number work → FramesIn b c e e.input.builds work
-frames_at b e number None work h = h.0.frames
+frames_at b e number None work h = h.frames
 frames_at b e number (Some c) [] h = h
 frames_at b e number (Some c) (r ∷ rs) h = (AsFed (call_reads e number c r h.0), h.1.frames)
 
 pub near_all : (sizes : Sizes) (b : Broken) (e : Engine) (book : Book) → AllStand sizes e book → FramesAtCut b e book.work
-near_all sizes b e book st = record { lists = e.input.builds; front = None; grown = refl; leads = tt; stand = frames_at b e book.number e.call book.work st.all }
+near_all sizes b e book st = record { lists = e.input.builds; front = None; grown = refl; leads = tt; stand = frames_at b e book.number (call_in e.input.call) book.work st.all }
 
 -- where no call gathers its arguments
-pub near_none : (b : Broken) (e : Engine) (work : List Reading) → e.call ≡ None → FramesStand e work → FramesAtCut b e work
-near_none b e work none h = record { lists = e.input.builds; front = None; grown = refl; leads = tt; stand = subst (λ (c : Option Call). FramesIn b c e e.input.builds work) (sym none) h.frames }
+pub near_none : (b : Broken) (e : Engine) (work : List Reading) → e.input.call ≡ NotCalling → FramesStand e work → FramesAtCut b e work
+near_none b e work none h = record { lists = e.input.builds; front = None; grown = refl; leads = tt; stand = subst (λ (c : Option Call). FramesIn b c e e.input.builds work) (sym (ap call_in none)) h.frames }
 
 work_still : (e e' : Engine) (lists : List (List Token)) (work : List Reading) → SameFrames e e' → frames.FramesStand e.readings.frames lists work → frames.FramesStand e'.readings.frames lists work
 work_still e e' lists work same h = subst (λ (x : List Frame). frames.FramesStand x lists work) (sym (ap (λ (r : Stack). r.frames) same.readings)) h
@@ -43,7 +43,7 @@ work_still e e' lists work same h = subst (λ (x : List Frame). frames.FramesSta
 in_still : (b : Broken) (e e' : Engine) (c : Option Call) (lists : List (List Token)) (work : List Reading) → SameFrames e e' → FramesIn b c e lists work → FramesIn b c e' lists work
 in_still b e e' None lists work same h = work_still e e' lists work same h
 in_still b e e' (Some c) lists [] same h = h
-in_still b e e' (Some c) lists (r ∷ rs) same h = (subst (λ (k : Calling). CallAtCut b c k r) (sym same.calling) h.0, work_still e e' lists rs same h.1)
+in_still b e e' (Some c) lists (r ∷ rs) same h = (subst (λ (k : Calling). CallAtCut b c k r) (sym same.call) h.0, work_still e e' lists rs same h.1)
 
 -- they are as they were
 pub near_still : (b : Broken) (e e' : Engine) (work : List Reading) → SameFrames e e' → FramesAtCut b e work → FramesAtCut b e' work
@@ -52,7 +52,7 @@ near_still b e e' work same h = record {
   front = h.front;
   grown = same.lists ∙ h.grown;
   leads = h.leads;
-  stand = subst (λ (c : Option Call). FramesIn b c e' h.lists work) (sym same.call) (in_still b e e' e.call h.lists work same h.stand);
+  stand = subst (λ (c : Option Call). FramesIn b c e' h.lists work) (sym (ap call_in same.call)) (in_still b e e' (call_in e.input.call) h.lists work same h.stand);
 }
 
 -- CUT OFF

@@ -59,7 +59,7 @@ pub gathered_is : (i : Stored) → i.call ≡ NotCalling → gathered i ≡ i.bu
 gathered_is i none = ap (λ (k : Calling). call_lists k ++ i.builds) none
 
 pub stands_gathered : (sizes : Sizes) (e : Engine) (book : Book) → Stands sizes e book → gathered e.input ≡ e.input.builds
-stands_gathered sizes e book st = gathered_is e.input st.uncalled.input
+stands_gathered sizes e book st = gathered_is e.input st.uncalled
 
 -- its frames and their lists are others
 pub stands_new : (sizes : Sizes) (e e' : Engine) (book : Book) (work : List Reading) (fs : List Frame) (held : List (List Token)) → SameBut e e' → e'.readings.frames ≡ fs → e'.input.builds ≡ held → Stands sizes e book →
@@ -71,7 +71,7 @@ stands_new sizes e e' book work fs held same fs_are held_are st stand shallow = 
     frames = subst (λ (l : List (List Token)). frames.FramesStand e'.readings.frames l work) (sym held_are) (subst (λ (x : List Frame). frames.FramesStand x held work) (sym fs_are) stand);
     shallow = subst (λ (l : List (List Token)). AreShallow e'.readings.frames l) (sym held_are) (subst (λ (x : List Frame). AreShallow x held) (sym fs_are) shallow);
   };
-  uncalled = record { none = same.others.call ∙ st.uncalled.none; input = same.calling ∙ st.uncalled.input };
+  uncalled = same.call ∙ st.uncalled;
 }
 
 pub state_new : (e e' : Engine) (book : Book) (work : List Reading) (held : List (List Token)) → SameBut e e' → e'.last ≡ e.last → gathered e'.input ≡ held → record (state_of e book) { work = work; gathered = held } ≡ state_of e' (with_work work book)
@@ -85,7 +85,6 @@ pub same_with : (e e' : Engine) (stack : Stack) (held : List (List Token)) → e
 same_with e e' stack held is size kept = record {
   others = record {
     depth = ap (λ (x : Engine). x.readings.size) is ∙ size;
-    call = ap (λ (x : Engine). x.call) is;
     names = ap (λ (x : Engine). x.names) is;
     after = ap (λ (x : Engine). x.after) is;
     mag_set = ap (λ (x : Engine). x.mag_set) is;
@@ -99,7 +98,7 @@ same_with e e' stack held is size kept = record {
   };
   pending = ap (λ (x : Engine). x.input.pending) is;
   making = ap (λ (x : Engine). x.input.making) is;
-  calling = ap (λ (x : Engine). x.input.call) is;
+  call = ap (λ (x : Engine). x.input.call) is;
   store = store_gathered e.input e'.input held (ap (λ (x : Engine). x.input) is) kept;
 }
 

@@ -65,5 +65,5 @@ module _ (e : Engine) (i : Stored) (is : i ≡ record e.input { groups = closed 
       sound = sound sizes book now.sound;
       idle = idle;
       readings = frames_kept gone e2 book.work same now.readings;
-      uncalled = record { none = same.call ∙ now.uncalled.none; input = same.calling ∙ now.uncalled.input };
+      uncalled = same.call ∙ now.uncalled;
     }

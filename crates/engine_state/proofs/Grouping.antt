@@ -39,7 +39,7 @@ module _ (e : Engine) (g : Groups) (closing : List Token) (ending : Option Group
   after = record e.input { groups = g; closing = closing; ending = ending; lists = lists }
 
   pub grouped_frames : SameFrames e (record e { input = i })
-  grouped_frames = record { readings = refl; lists = ap (λ (j : Stored). j.builds) is; call = refl; calling = ap (λ (j : Stored). j.call) is }
+  grouped_frames = record { readings = refl; lists = ap (λ (j : Stored). j.builds) is; call = ap (λ (j : Stored). j.call) is }
 
   pub grouped_did : (sizes : Sizes) (w : World) (book : Book) (m : Move) → IsQuiet m → refusal sizes m (state_of e book) ≡ None → made m (state_of e book) ≡ record (state_of e book) { groups = groups_of book.number g } →
       Did sizes (state_of e book) (state_of (record e { input = i }) book) w w (m ∷ [])
@@ -78,7 +78,7 @@ module _ (e : Engine) (g : Groups) (closing : List Token) (ending : Option Group
       sound = grouped_sound sizes book.number book.all_lists st.sound;
       idle = ap (λ (j : Stored). j.making) is ∙ st.idle;
       readings = frames_kept e (record e { input = i }) book.work grouped_frames st.readings;
-      uncalled = record { none = st.uncalled.none; input = ap (λ (j : Stored). j.call) is ∙ st.uncalled.input };
+      uncalled = ap (λ (j : Stored). j.call) is ∙ st.uncalled;
     }
 
 -- what is asked for, by the machine and by the input

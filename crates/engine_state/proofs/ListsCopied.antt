@@ -116,13 +116,13 @@ module _ (sizes : Sizes) where
       sound = listed_sound sizes e (one e t) (grow_first t e.input.builds) book.number book.all_lists refl (keeps_all e.input) st.sound;
       idle = st.idle;
       readings = record { frames = entry.stands; shallow = entry.shallow st.readings.shallow };
-      uncalled = record { none = st.uncalled.none; input = st.uncalled.input };
+      uncalled = st.uncalled;
     }
 
     one_did : (w : World) → stored_words e.input + 1 ≤ e.input.sizes.main_memory_size → Did sizes (state_of e book) (state_of (one e t) (with_work (fed_with (Verbatim t) book.work) book)) w w (tokens_entered (t ∷ []))
     one_did w fits =
         did_join sizes (state_of e book) (state_of (one e t) book) (state_of (one e t) (with_work (fed_with (Verbatim t) book.work) book)) w w w (Grows t ∷ []) (Feeds (Verbatim t) ∷ [])
-        (grow_did sizes book w e (one e t) t refl some st.uncalled.input st.sound (memory_room e.input.sizes (stored_words e.input) 1 fits))
+        (grow_did sizes book w e (one e t) t refl some st.uncalled st.sound (memory_room e.input.sizes (stored_words e.input) 1 fits))
         (did_one sizes (Feeds (Verbatim t)) (state_of (one e t) book) (state_of (one e t) (with_work (fed_with (Verbatim t) book.work) book)) w w refl refl (quiet_here (Feeds (Verbatim t)) w tt))
 
   entered_all : (ts : List Token) (e : Engine) (book : Book) → Stands sizes e book → AsksCopied (asks_in e.readings.frames e.input.builds) → stored_words e.input + length ts ≤ e.input.sizes.main_memory_size → HasEntered sizes e ts book
@@ -156,7 +156,7 @@ module _ (sizes : Sizes) where
       sound = entered_sound;
       idle = ap (λ (x : Engine). x.input.making) is ∙ st.idle;
       readings = entered_frames;
-      uncalled = record { none = ap (λ (x : Engine). x.call) is ∙ st.uncalled.none; input = ap (λ (x : Engine). x.input.call) is ∙ st.uncalled.input };
+      uncalled = ap (λ (x : Engine). x.input.call) is ∙ st.uncalled;
     }
 
     pub entered_did : (w : World) → Did sizes (state_of e book) (state_of e' (with_work (fed_list ts book.work) book)) w w (tokens_entered ts)
@@ -187,7 +187,7 @@ module _ (sizes : Sizes) (e e' : Engine) (book : Book) (l : Loc) (st : Stands si
         cuts = cuts_by sizes (state_of e book) e' here w w (tokens_entered h.front ++ (Grows h.next ∷ rest)) _ (broken.Full full) (moves_are ∙ (ap tokens_entered h.split ∙ entered_join h.front (h.next ∷ h.rest)))
             (later_cuts sizes (state_of e book) (state_of e' here) e' here w w w (tokens_entered h.front) (Grows h.next ∷ rest) (broken.Full full) (entered_did sizes e e' book h.front st copies is kept h.fits w)
             (full_cuts sizes (state_of e' here) e' here w (Grows h.next) rest full (broken.Full full) refl (words_more sizes e' here 1 (Some full) stands.sound h.refused_then) refl));
-        near = near_none (broken.Full full) e' here.work stands.uncalled.none stands.readings;
+        near = near_none (broken.Full full) e' here.work stands.uncalled stands.readings;
       }
 
 -- an expanded text has its list

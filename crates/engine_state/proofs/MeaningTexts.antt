@@ -103,7 +103,7 @@ module _ (style : Style) (i j : Stored) (x : Seen) (m : Meaning Unit) (is : m �
 
   module _ (k : Stored) (g : HasGrown i j (made_text piece)) (macro : IsMacro m) (texts : List Token) (same : texts ≡ text_of j.lists j.groups.now.meanings (name_of x.token)) where
     tail_is : tail ≡ list_text style texts
-    tail_is = ap (list_text style) (sym (same ∙ stay i j g.all_lists (ap (λ (s : Stored). s.groups.now.meanings) g.is) (record { name = name_of x.token; index = 0 }) ∙ given_text i.lists i.groups.now.meanings x m is macro))
+    tail_is = ap (list_text style) (sym (same ∙ stay i j g.keeps (ap (λ (s : Stored). s.groups.now.meanings) g.is) (record { name = name_of x.token; index = 0 }) ∙ given_text i.lists i.groups.now.meanings x m is macro))
 
     -- a macro's list behind it
     pub macro_whole : meaning_text style (shared_tokens i.lists) (meaning_to_let i.groups.now.meanings x) ≡ piece ++ list_text style texts

@@ -49,7 +49,8 @@ use Rattle.reading_frames.specs.Weights.{frames_weight, stack_weight}
 use Rattle.plain_readings.specs.Weights.{act_frame}
 use Rattle.engine_state.specs.declared.broken.Broken.{Broken}
 use Rattle.engine_state.specs.declared.broken.Broken.TheVariants as broken
-use Rattle.engine_state.specs.declared.call.Call.{Call}
+use Rattle.input_state.specs.declared.answer.Call.{Call}
+use Rattle.input_state.specs.Callings.{Calling, call_in}
 use Rattle.engine_state.specs.declared.engine.Engine.{Engine}
 use Rattle.engine_state.specs.declared.outcome.Ruled.{Ruled}
 use Rattle.engine_state.specs.declared.outcome.Ruled.TheVariants.{Step, Free, Halted}
@@ -74,7 +75,7 @@ use Rattle.engine_state.proofs.Coming.{meets_by, meets_later, next_by, next_late
 -- AN ENGINE THAT HAS WRITTEN
 
 pub same_depth : (e e' : Engine) → SameFrames e e' → depth e' ≡ depth e
-same_depth e e' h = ap (λ (s : Stack). length s.frames + call_count e'.call) h.readings ∙ ap (λ (c : Option Call). length e.readings.frames + call_count c) h.call
+same_depth e e' h = ap (λ (s : Stack). length s.frames + call_count (call_in e'.input.call)) h.readings ∙ ap (λ (k : Calling). length e.readings.frames + call_count (call_in k)) h.call
 
 pub counts_still : (sizes : Sizes) (e e' : Engine) (book : Book) → SameFrames e e' → IsSound sizes e' book.number book.all_lists → Counts sizes e book → Counts sizes e' book
 counts_still sizes e e' book same sound h = record { sound = sound; depth = h.depth ∙ sym (same_depth e e' same) }
@@ -186,12 +187,12 @@ module _ (sizes : Sizes) (e : Engine) (book : Book) where
   frames_names new work h = record { frames = h.frames; shallow = h.shallow }
 
   readings_names : (new : List (List ℕ)) (c : Option Call) (work : List Reading) → ReadingsStand c e book.number work → ReadingsStand c (with_names new e) book.number work
-  readings_names new None work h = (frames_names new work h.0, h.1)
+  readings_names new None work h = frames_names new work h
   readings_names new (Some c) [] h = h
   readings_names new (Some c) (r ∷ rs) h = (call_names new c r h.0, frames_names new rs h.1)
 
   pub takes_names : (want : Option Want) (new : List (List ℕ)) → Takes sizes want e book → Takes sizes want (with_names new e) book
-  takes_names want new h = (wants_by e (with_names new e) e.call want refl h.0, record { sound = sound_names new h.1.sound; idle = h.1.idle; all = readings_names new e.call book.work h.1.all })
+  takes_names want new h = (wants_by e (with_names new e) (call_in e.input.call) want refl h.0, record { sound = sound_names new h.1.sound; idle = h.1.idle; all = readings_names new (call_in e.input.call) book.work h.1.all })
 
   module _ (want : Option Want) (x : Lexeme) (t : Token) (is : t ≡ token_of (enters_of want) e.names.names x) (sound : IsSound sizes e book.number book.all_lists) where
     abbrev new : List (List ℕ)
@@ -390,7 +391,7 @@ module _ (e : Engine) (i : Stored) where
   lighter_close is = less_pending i.pending e.input.pending (subst (Lighter e.input.pending) is (lighter e.input.groups.now.categories e.input.pending))
 
 pub frames_now : (e : Engine) (i : Stored) → i ≡ record e.input { pending = i.pending; buffer = i.buffer; lists = i.lists } → SameFrames e (record e { input = i })
-frames_now e i others = record { readings = refl; lists = ap (λ (x : Stored). x.builds) others; call = refl; calling = ap (λ (x : Stored). x.call) others }
+frames_now e i others = record { readings = refl; lists = ap (λ (x : Stored). x.builds) others; call = ap (λ (x : Stored). x.call) others }
 
 module _ (sizes : Sizes) (e : Engine) (i : Stored) (others : i ≡ record e.input { pending = i.pending; buffer = i.buffer; lists = i.lists }) where
   abbrev now : Engine
@@ -413,7 +414,10 @@ module _ (sizes : Sizes) (e : Engine) (i : Stored) (others : i ≡ record e.inpu
   stands_now book store st = all_still sizes e now book (frames_now e i others) store (sound_still sizes e now book.number book.all_lists refl refl refl refl refl store st.sound) (ap (λ (x : Stored). x.making) others ∙ st.idle) st
 
   pub takes_still : (want : Option Want) (book : Book) → SameStore e.input i → Takes sizes want e book → Takes sizes want now book
-  takes_still want book store h = (wants_by e now e.call want (ap (λ (x : Stored). asks_in e.readings.frames x.builds) others) h.0, stands_now book store h.1)
+  takes_still want book store h = (
+    subst (λ (c : Option Call). WantsHere c want now) (sym (ap (λ (x : Stored). call_in x.call) others)) (wants_by e now (call_in e.input.call) want (ap (λ (x : Stored). asks_in e.readings.frames x.builds) others) h.0),
+    stands_now book store h.1,
+  )
 
   -- the text that is read is the same
   pub scanning_still : (work : List Reading) → scanning_of now work ≡ scanning_of e work
@@ -650,8 +654,8 @@ weight_by : (e e' : Engine) (c : Option Call) → e'.readings ≡ e.readings →
 weight_by e e' None same = ap stack_weight same
 weight_by e e' (Some c) same = ap (λ (s : Stack). frames_weight s.frames + (act_frame + call_weight c.ask)) same
 
-pub same_weight : (e e' : Engine) → e'.readings ≡ e.readings → e'.call ≡ e.call → readings_weight e'.call e' ≡ readings_weight e.call e
-same_weight e e' readings call = ap (λ (c : Option Call). readings_weight c e') call ∙ weight_by e e' e.call readings
+pub same_weight : (e e' : Engine) → e'.readings ≡ e.readings → e'.input.call ≡ e.input.call → readings_weight (call_in e'.input.call) e' ≡ readings_weight (call_in e.input.call) e
+same_weight e e' readings call = ap (λ (k : Calling). readings_weight (call_in k) e') call ∙ weight_by e e' (call_in e.input.call) readings
 
 pub lighter_after : (e e' : Engine) → SameFrames e e' → pending_weight e'.input.pending < pending_weight e.input.pending → weight e' < weight e
 lighter_after e e' h less = omega (arith, same_weight e e' h.readings h.call, less)
@@ -659,7 +663,7 @@ lighter_after e e' h less = omega (arith, same_weight e e' h.readings h.call, le
 pub skipped_light : (e : Engine) (i : Stored) (e' : Engine) → SameFrames e (record e { input = i }) → SameFrames (record e { input = i }) e' → e'.input ≡ i → pending_weight i.pending < pending_weight e.input.pending → weight e' < weight e
 skipped_light e i e' first second input less =
     let pending : pending_weight e'.input.pending ≡ pending_weight i.pending = ap (λ (x : Stored). pending_weight x.pending) input in
-    lighter_after e e' (record { readings = second.readings; lists = second.lists ∙ first.lists; call = second.call; calling = second.calling ∙ first.calling }) (omega (arith, pending, less))
+    lighter_after e e' (record { readings = second.readings; lists = second.lists ∙ first.lists; call = second.call ∙ first.call }) (omega (arith, pending, less))
 
 -- the answer
 pub steps_met : (o : Option Seen) (n : Next) (b : Bool) → n ≡ next_met o → b ≡ true → NextStepsIf n b

@@ -27,6 +27,7 @@ use Rattle.name_table.specs.Strings.{Strings, other_refusal}
 use Rattle.world_io.specs.Contents.{FilesTold, SinkTold, world}
 use Rattle.input_state.specs.Stored.{Stored, KeepsShared, words as stored_words}
 use Rattle.input_state.specs.HeldLists.{made as made_list}
+use Rattle.input_state.specs.Callings.{Calling, call_in}
 use Rattle.reading_frames.specs.Stack.{Stack}
 use Rattle.engine_state.specs.declared.broken.Broken.{Broken}
 use Rattle.engine_state.specs.declared.broken.Broken.TheVariants as broken
@@ -158,7 +159,7 @@ module _ (i i1 i2 i3 : Stored) (a1 : i1 ≡ record i { pending = end_token_lists
 pub counts_still : (sizes : Sizes) (e e1 : Engine) (book : Book) → SameFrames e e1 → IsSound sizes e1 book.number book.all_lists → Counts sizes e book → Counts sizes e1 book
 counts_still sizes e e1 book same sound h = record {
   sound = sound;
-  depth = omega (arith, h.depth, ap (λ (r : Stack). length r.frames) same.readings, ap call_count same.call);
+  depth = omega (arith, h.depth, ap (λ (r : Stack). length r.frames) same.readings, ap (λ (k : Calling). call_count (call_in k)) same.call);
 }
 
 -- BACK

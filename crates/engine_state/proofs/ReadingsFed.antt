@@ -4,7 +4,7 @@ use Rattle.std.specs.Prelude.{Option, Some, None, option_to_list}
 use Rattle.std.proofs.lemmas.List.{append_cancel_right}
 use Rattle.std.proofs.lemmas.List.Sums.{sum_by-cons, sum_by-append}
 use Rattle.plain_tokens.specs.Tables.{list_words, lists_words}
-use Rattle.input_state.specs.Callings.{call_lists}
+use Rattle.input_state.specs.Callings.{call_lists, call_in}
 use Rattle.reading_frames.proofs.Braces.{few_groups}
 use Rattle.tex_defs.specs.declared.Sizes.{Sizes}
 use Rattle.tex_defs.specs.declared.Full.{Full}
@@ -26,7 +26,7 @@ use Rattle.reading_frames.specs.Stands as frames
 use Rattle.reading_frames.specs.Stands.{AreShallow}
 use Rattle.reading_frames.specs.declared.ask.Grown.{Grown}
 use Rattle.reading_frames.specs.declared.frame.Frame.{Frame}
-use Rattle.engine_state.specs.declared.call.Call.{Call}
+use Rattle.input_state.specs.declared.answer.Call.{Call}
 use Rattle.engine_state.specs.declared.engine.Engine.{Engine}
 use Rattle.engine_state.specs.declared.broken.Broken.{Broken}
 use Rattle.engine_state.specs.declared.broken.Broken.TheVariants as broken
@@ -147,7 +147,7 @@ module _ (sizes : Sizes) (e : Engine) (stack : Stack) (g : Grown) (y : Fed)
       (same_with e (framed_with e stack (with_tokens g e.input.builds) e'.input.lists) stack (with_tokens g e.input.builds) refl size (subst (λ (x : Engine). KeepsShared e.input x.input) is kept)) refl (grown_held book st) st
       (stands e.input.builds book.work st.readings.frames) (shallow e.input.builds st.readings.shallow))) where
         still : Stands sizes (framed_with e stack (with_tokens g e.input.builds) e'.input.lists) (with_work (fed_with y book.work) book) → Stands sizes (fed_engine e stack y (with_tokens g e.input.builds) e'.input.lists) (with_work (fed_with y book.work) book)
-        still h = record { sound = record { sized = record { few_reports = h.sound.sized.few_reports; small = h.sound.sized.small; own = h.sound.sized.own; readings = h.sound.sized.readings; conditionals = h.sound.sized.conditionals; input = h.sound.sized.input; names = h.sound.sized.names; located = h.sound.sized.located }; tied = h.sound.tied; bodies = h.sound.bodies }; idle = h.idle; readings = record { frames = h.readings.frames; shallow = h.readings.shallow }; uncalled = record { none = h.uncalled.none; input = h.uncalled.input } }
+        still h = record { sound = record { sized = record { few_reports = h.sound.sized.few_reports; small = h.sound.sized.small; own = h.sound.sized.own; readings = h.sound.sized.readings; conditionals = h.sound.sized.conditionals; input = h.sound.sized.input; names = h.sound.sized.names; located = h.sound.sized.located }; tied = h.sound.tied; bodies = h.sound.bodies }; idle = h.idle; readings = record { frames = h.readings.frames; shallow = h.readings.shallow }; uncalled = h.uncalled }
 
   module _ (book : Book) (r : Reading) (rs : List Reading) (st : Stands sizes e (with_work (r ∷ rs) book)) where
     pub moves : grown_and_fed r.kind r.fed y ≡ map Grows (tokens_of g) ++ Feeds y ∷ []
@@ -161,7 +161,7 @@ module _ (sizes : Sizes) (e : Engine) (stack : Stack) (g : Grown) (y : Fed)
     feeds_did e' w is fits =
         subst (λ (ms : List Move). Did sizes (state_of e (with_work (r ∷ rs) book)) (state_of e' (with_work (fed_with y (r ∷ rs)) book)) w w ms) (sym moves)
         (did_join sizes (state_of e (with_work (r ∷ rs) book)) (state_of (listed e (with_tokens g e.input.builds) e'.input.lists) (with_work (r ∷ rs) book)) (state_of e' (with_work (fed_with y (r ∷ rs)) book)) w w w (map Grows (tokens_of g)) (Feeds y ∷ [])
-        (all_did sizes (with_work (r ∷ rs) book) w e (listed e (with_tokens g e.input.builds) e'.input.lists) g fits some refl st.uncalled.input st.sound)
+        (all_did sizes (with_work (r ∷ rs) book) w e (listed e (with_tokens g e.input.builds) e'.input.lists) g fits some refl st.uncalled st.sound)
         (did_one sizes (Feeds y) (state_of (listed e (with_tokens g e.input.builds) e'.input.lists) (with_work (r ∷ rs) book)) (state_of e' (with_work (fed_with y (r ∷ rs)) book)) w w refl
         (ap (λ (x : Engine). state_of x (with_work (fed_with y (r ∷ rs)) book)) (sym is)) (quiet_here (Feeds y) w tt)))
 
@@ -185,13 +185,13 @@ module _ (sizes : Sizes) (e : Engine) (stack : Stack) (g : Grown) (y : Fed)
     feeds_cut o e2 full w kept rest count all_lists cut = record {
       book' = with_work (r ∷ rs) book;
       cuts = cuts_by sizes (state_of e (with_work (r ∷ rs) book)) (restored o e2) (with_work (r ∷ rs) book) w w (map Grows (tokens_of g) ++ Feeds y ∷ []) (grown_and_fed r.kind r.fed y) (broken.Full full) moves
-          (tokens_cut sizes (with_work (r ∷ rs) book) w e (restored o e2) g full (Feeds y) st.uncalled.input st.sound all_lists cut_back);
+          (tokens_cut sizes (with_work (r ∷ rs) book) w e (restored o e2) g full (Feeds y) st.uncalled st.sound all_lists cut_back);
       near = record {
         lists = e.input.builds;
         front = cut.front;
         grown = ap (λ (x : Engine). x.input.builds) cut.after;
         leads = lead_by full cut.front;
-        stand = subst (λ (c : Option Call). FramesIn (broken.Full full) c (restored o e2) e.input.builds (r ∷ rs)) (sym (ap (λ (x : Engine). x.call) cut.after ∙ st.uncalled.none))
+        stand = subst (λ (c : Option Call). FramesIn (broken.Full full) c (restored o e2) e.input.builds (r ∷ rs)) (sym (ap (λ (x : Engine). call_in x.input.call) cut.after ∙ ap call_in st.uncalled))
             (subst (λ (x : Stack). frames.FramesStand x.frames e.input.builds (r ∷ rs)) (sym back_is) st.readings.frames);
       };
     } where

@@ -302,7 +302,7 @@ module _ (sizes : Sizes) (e e1 : Engine) (book : Book) (w w1 : World) (on : Coun
 
 -- and no call is gathered
 uncalled_still : (e e' : Engine) → SameFrames e e' → IsUncalled e → IsUncalled e'
-uncalled_still e e' same h = record { none = same.call ∙ h.none; input = same.calling ∙ h.input }
+uncalled_still e e' same h = same.call ∙ h
 
 -- the engine whose readings are as they were
 pub stands_still : (sizes : Sizes) (e e' : Engine) (book : Book) → SameFrames e e' → IsSound sizes e' book.number book.all_lists → e'.input.making ≡ None → Stands sizes e book → Stands sizes e' book

@@ -48,7 +48,7 @@ pending_stands sizes e e2 book p is sound st = record {
   sound = sound;
   idle = ap (λ (x : Engine). x.input.making) is ∙ st.idle;
   readings = frames_kept e e2 book.work (list_frames e e2 p is) st.readings;
-  uncalled = record { none = ap (λ (x : Engine). x.call) is ∙ st.uncalled.none; input = ap (λ (x : Engine). x.input.call) is ∙ st.uncalled.input };
+  uncalled = ap (λ (x : Engine). x.input.call) is ∙ st.uncalled;
 }
 
 module _ (sizes : Sizes) (e : Engine) (book : Book) (sound : IsSound sizes e book.number book.all_lists) (id : ℕ) (p : Put) (is : p.list ≡ Macro id) (held : is_listed (lists_held e.input.groups) id ≡ true) where

@@ -13,7 +13,7 @@ use Rattle.engine_state.proofs.Reporting.{input_sound, column_sound}
 use Rattle.engine_state.proofs.Storing.{store_is}
 
 pub only_frames : (e e' : Engine) → OnlyColumn e e' → SameFrames e e'
-only_frames e e' only = subst (λ (x : Engine). SameFrames e x) (sym only.same) (record { readings = refl; lists = refl; call = refl; calling = refl })
+only_frames e e' only = subst (λ (x : Engine). SameFrames e x) (sym only.same) (record { readings = refl; lists = refl; call = refl })
 
 pub all_input : (sizes : Sizes) (e e' : Engine) (book : Book) → SameFrames e e' → e'.input ≡ e.input → (IsSized sizes e → IsSized sizes e') → AllStand sizes e book → AllStand sizes e' book
 all_input sizes e e' book same is sized st =
@@ -28,11 +28,11 @@ column_all sizes e e' book only st =
 
 -- the engine is the same
 pub same_engine : (e e' : Engine) → e' ≡ e → SameFrames e e'
-same_engine e e' is = record { readings = ap (λ (x : Engine). x.readings) is; lists = ap (λ (x : Engine). x.input.builds) is; call = ap (λ (x : Engine). x.call) is; calling = ap (λ (x : Engine). x.input.call) is }
+same_engine e e' is = record { readings = ap (λ (x : Engine). x.readings) is; lists = ap (λ (x : Engine). x.input.builds) is; call = ap (λ (x : Engine). x.input.call) is }
 
 -- finished lists have gone
 pub list_frames : (e e' : Engine) (p : Pending) → e' ≡ record e { input = record e.input { pending = p; lists = e'.input.lists } } → SameFrames e e'
-list_frames e e' p is = record { readings = ap (λ (x : Engine). x.readings) is; lists = ap (λ (x : Engine). x.input.builds) is; call = ap (λ (x : Engine). x.call) is; calling = ap (λ (x : Engine). x.input.call) is }
+list_frames e e' p is = record { readings = ap (λ (x : Engine). x.readings) is; lists = ap (λ (x : Engine). x.input.builds) is; call = ap (λ (x : Engine). x.input.call) is }
 
 pub only_sized : (sizes : Sizes) (e e' : Engine) → OnlyColumn e e' → IsSized sizes e → IsSized sizes e'
 only_sized sizes e e' only h = subst (IsSized sizes) (sym only.same) (record {
@@ -53,4 +53,4 @@ pub only_few : (e e' : Engine) → OnlyColumn e e' → e.reports ≤ reports_roo
 only_few e e' only few = subst (λ (n : ℕ). n ≤ reports_room) (sym (ap (λ (x : Engine). x.reports) only.same)) few
 
 pub frames_join : (e e1 e2 : Engine) → SameFrames e e1 → SameFrames e1 e2 → SameFrames e e2
-frames_join e e1 e2 a b = record { readings = b.readings ∙ a.readings; lists = b.lists ∙ a.lists; call = b.call ∙ a.call; calling = b.calling ∙ a.calling }
+frames_join e e1 e2 a b = record { readings = b.readings ∙ a.readings; lists = b.lists ∙ a.lists; call = b.call ∙ a.call }

@@ -10,7 +10,8 @@ use Rattle.tex_defs.specs.Places.{World}
 use Rattle.plain_machine.specs.States.{State, Move}
 use Rattle.world_io.specs.Contents.{SinkTold}
 use Rattle.engine_state.specs.declared.broken.Broken.{Broken}
-use Rattle.engine_state.specs.declared.call.Call.{Call}
+use Rattle.input_state.specs.declared.answer.Call.{Call}
+use Rattle.input_state.specs.Callings.{call_in}
 use Rattle.engine_state.specs.declared.engine.Engine.{Engine}
 use Rattle.engine_state.specs.declared.outcome.Next.{Next}
 use Rattle.engine_state.specs.declared.outcome.Next.TheVariants as next
@@ -31,14 +32,14 @@ abbrev pub noted : Bool → Engine → Engine
 noted b e = record e { stopped = b }
 
 pub noted_same : (b : Bool) (e : Engine) → SameFrames e (noted b e)
-noted_same b e = record { readings = refl; lists = refl; call = refl; calling = refl }
+noted_same b e = record { readings = refl; lists = refl; call = refl }
 
 pub noted_stands : (b : Bool) (sizes : Sizes) (e : Engine) (book : Book) → AllStand sizes e book → AllStand sizes (noted b e) book
 noted_stands b sizes e book st =
     all_still sizes e (noted b e) book (noted_same b e) (store_same e.input) (sound_still sizes e (noted b e) book.number book.all_lists refl refl refl refl refl (store_same e.input) st.sound) st.idle st
 
 pub noted_frames : (b : Bool) (e e' : Engine) → SameFrames e e' → SameFrames e (noted b e')
-noted_frames b e e' h = record { readings = h.readings; lists = h.lists; call = h.call; calling = h.calling }
+noted_frames b e e' h = record { readings = h.readings; lists = h.lists; call = h.call }
 
 pub noted_readings : (b : Bool) (e e' : Engine) → SameReadings e e' → SameReadings e (noted b e')
 noted_readings b e e' h = record { readings = h.readings; lists = h.lists; call = h.call }
@@ -50,7 +51,7 @@ wants_noted b e (Some c) None h = h
 wants_noted b e (Some c) (Some w) h = h
 
 pub noted_takes : (b : Bool) (sizes : Sizes) (want : Option Want) (e : Engine) (book : Book) → Takes sizes want e book → Takes sizes want (noted b e) book
-noted_takes b sizes want e book t = (wants_noted b e e.call want t.0, noted_stands b sizes e book t.1)
+noted_takes b sizes want e book t = (wants_noted b e (call_in e.input.call) want t.0, noted_stands b sizes e book t.1)
 
 pub noted_counts : (b : Bool) (o : Outcome) (t : State) (e : Engine) → CountsReports o t e → CountsReports o t (noted b e)
 noted_counts b Finished t e h = h

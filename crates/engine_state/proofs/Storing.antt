@@ -175,7 +175,7 @@ same_lists e e' i gathered others is kept same = record {
   others = others;
   pending = ap (λ (x : Stored). x.pending) same ∙ ap (λ (x : Stored). x.pending) is;
   making = ap (λ (x : Stored). x.making) same ∙ ap (λ (x : Stored). x.making) is;
-  calling = ap (λ (x : Stored). x.call) same ∙ ap (λ (x : Stored). x.call) is;
+  call = ap (λ (x : Stored). x.call) same ∙ ap (λ (x : Stored). x.call) is;
   store = subst (λ (x : Stored). SameStore e.input x) (sym same) (store_gathered e.input i gathered is kept);
 }
 
@@ -183,7 +183,6 @@ pub same_join : (e e1 e2 : Engine) → SameBut e e1 → SameBut e1 e2 → SameBu
 same_join e e1 e2 a b = record {
   others = record {
     depth = b.others.depth ∙ a.others.depth;
-    call = b.others.call ∙ a.others.call;
     names = b.others.names ∙ a.others.names;
     after = b.others.after ∙ a.others.after;
     mag_set = b.others.mag_set ∙ a.others.mag_set;
@@ -197,7 +196,7 @@ same_join e e1 e2 a b = record {
   };
   pending = b.pending ∙ a.pending;
   making = b.making ∙ a.making;
-  calling = b.calling ∙ a.calling;
+  call = b.call ∙ a.call;
   store = store_join e.input e1.input e2.input a.store b.store;
 }
 

@@ -70,26 +70,26 @@ with_some ts None h = cc
 with_some ts (Some us) h = h
 
 growth_store : (i j : Stored) (ts : List Token) → HasGrown i j ts → SameStore i j
-growth_store i j ts h = store_making i j (appended_made ts i.making) h.is h.all_lists
+growth_store i j ts h = store_making i j (appended_made ts i.making) h.is h.keeps
 
 pub grown_none : (i : Stored) → HasGrown i i []
 grown_none i = record {
   is = ap (λ (o : Option (List Token)). record i { making = o }) (sym (with_none i.making));
-  all_lists = (store_same i).lists;
+  keeps = (store_same i).lists;
   did = λ sizes e w book sound. did_none sizes (state_of (record e { input = i }) book) w;
 }
 
 pub grown_one : (i j : Stored) (t : Token) → j ≡ record i { making = grown_by t i.making; lists = j.lists } → KeepsShared i j → refused i.sizes (memory 1 (stored_words i) ∷ []) ≡ None → HasGrown i j (t ∷ [])
 grown_one i j t is kept fits = record {
   is = is ∙ ap (λ (o : Option (List Token)). record i { making = o; lists = j.lists }) (with_one t i.making);
-  all_lists = kept;
+  keeps = kept;
   did = λ sizes e w book sound. moved sizes e w book i j (ListGrown t) (words_more sizes (with_input e i) book 1 None sound fits) (ap (at sizes e w book) (sym is)) tt;
 }
 
 pub grown_not : (i j : Stored) (t : Token) (full : Full) → j ≡ i → refused i.sizes (memory 1 (stored_words i) ∷ []) ≡ Some full → GrowsNot i j (t ∷ []) full
 grown_not i j t full same r = record {
   is = subst (λ (x : Stored). x ≡ record i { making = x.making; lists = x.lists }) (sym same) refl;
-  all_lists = subst (λ (x : Stored). KeepsShared i x) (sym same) (store_same i).lists;
+  keeps = subst (λ (x : Stored). KeepsShared i x) (sym same) (store_same i).lists;
   cuts = λ sizes e w book more sound. full_cuts sizes (at sizes e w book i) (with_input e j) book w (ListGrown t) more full (broken.Full full) refl (words_more sizes (with_input e i) book 1 (Some full) sound r) (ap (at sizes e w book) (sym same));
 }
 
@@ -100,7 +100,7 @@ module _ (i j k : Stored) (ts us : List Token) (h : HasGrown i j ts) where
   pub grown_both : HasGrown j k us → HasGrown i k (ts ++ us)
   grown_both g = record {
     is = g.is ∙ ap (λ (x : Stored). record x { making = appended_made us x.making; lists = k.lists }) h.is ∙ ap (λ (o : Option (List Token)). record i { making = o; lists = k.lists }) (with_both ts us i.making);
-    all_lists = (store_join i j k (growth_store i j ts h) (growth_store j k us g)).lists;
+    keeps = (store_join i j k (growth_store i j ts h) (growth_store j k us g)).lists;
     did = λ sizes e w book sound.
         subst (λ (ms : List Move). Did sizes (state_of (record e { input = i }) book) (state_of (record e { input = k }) book) w w ms) (sym (map-append ListGrown ts us))
         (did_join sizes _ _ _ w w w (map ListGrown ts) (map ListGrown us) (h.did sizes e w book sound) (g.did sizes e w book (both_at sizes e w book sound)));
@@ -109,7 +109,7 @@ module _ (i j k : Stored) (ts us : List Token) (h : HasGrown i j ts) where
   pub later_not : (full : Full) → GrowsNot j k us full → GrowsNot i k (ts ++ us) full
   later_not full g = record {
     is = g.is ∙ ap (λ (x : Stored). record x { making = k.making; lists = k.lists }) h.is;
-    all_lists = (store_join i j k (growth_store i j ts h) (store_making j k k.making g.is g.all_lists)).lists;
+    keeps = (store_join i j k (growth_store i j ts h) (store_making j k k.making g.is g.keeps)).lists;
     cuts = λ sizes e w book more sound.
         cuts_by sizes _ (with_input e k) book w w (map ListGrown ts ++ (map ListGrown us ++ more)) (map ListGrown (ts ++ us) ++ more) (broken.Full full)
         (ap (λ (ms : List Move). ms ++ more) (map-append ListGrown ts us) ∙ append_assoc (map ListGrown ts) (map ListGrown us) more)
@@ -119,7 +119,7 @@ module _ (i j k : Stored) (ts us : List Token) (h : HasGrown i j ts) where
 pub first_not : (i k : Stored) (ts us : List Token) (full : Full) → GrowsNot i k ts full → GrowsNot i k (ts ++ us) full
 first_not i k ts us full g = record {
   is = g.is;
-  all_lists = g.all_lists;
+  keeps = g.keeps;
   cuts = λ sizes e w book more sound.
       cuts_by sizes _ (with_input e k) book w w (map ListGrown ts ++ (map ListGrown us ++ more)) (map ListGrown (ts ++ us) ++ more) (broken.Full full)
       (ap (λ (ms : List Move). ms ++ more) (map-append ListGrown ts us) ∙ append_assoc (map ListGrown ts) (map ListGrown us) more)
@@ -151,7 +151,7 @@ grown_whole (t ∷ ts) i some fits =
 pub grown_at_once : (i j : Stored) (ts : List Token) → j ≡ record i { making = appended_made ts i.making; lists = j.lists } → KeepsShared i j → IsSome i.making → stored_words i + length ts ≤ i.sizes.main_memory_size → HasGrown i j ts
 grown_at_once i j ts is kept some fits = record {
   is = is;
-  all_lists = kept;
+  keeps = kept;
   did = λ sizes e w book sound. subst (λ (x : Stored). Did sizes (state_of (record e { input = i }) book) (state_of (record e { input = x }) book) w w (map ListGrown ts)) (sym is) ((grown_whole ts i some fits).did sizes e w book sound);
 }
 
@@ -267,8 +267,8 @@ module _ (sizes : Sizes) (s s1 : State) (e' : Engine) (book : Book) (w : World) 
 
 pub in_front : (e : Engine) (j : Stored) (puts : List PutList) (making : Option (List Token)) → j ≡ record e.input { pending = with_puts puts e.input.pending; making = making; lists = j.lists } → SameStore e.input j → IsInFront e (with_input e j)
 in_front e j puts making is store = record {
-  frames = record { readings = refl; lists = ap (λ (x : Stored). x.builds) is; call = refl; calling = ap (λ (x : Stored). x.call) is };
-  others = record { depth = refl; call = refl; names = refl; after = refl; mag_set = refl; conditionals = refl; last = refl; naming = refl; in_line = refl; reports = refl; flawed = refl; quiet = refl; sizes = refl };
+  frames = record { readings = refl; lists = ap (λ (x : Stored). x.builds) is; call = ap (λ (x : Stored). x.call) is };
+  others = record { depth = refl; names = refl; after = refl; mag_set = refl; conditionals = refl; last = refl; naming = refl; in_line = refl; reports = refl; flawed = refl; quiet = refl; sizes = refl };
   store = store;
   light = ap (λ (x : Stored). pending_weight x.pending) is;
   page = λ book. ap (λ (x : Stored). page_of (with_input e x) book) is;
@@ -279,7 +279,6 @@ front_join e e1 e2 a b = record {
   frames = frames_join e e1 e2 a.frames b.frames;
   others = record {
     depth = b.others.depth ∙ a.others.depth;
-    call = b.others.call ∙ a.others.call;
     names = b.others.names ∙ a.others.names;
     after = b.others.after ∙ a.others.after;
     mag_set = b.others.mag_set ∙ a.others.mag_set;
@@ -328,7 +327,7 @@ module _ (e e1 : Engine) (i2 : Stored) (ts : List Token) (begun : e1.input.makin
     grown_making = made_with e1.input i2 ts begun grown
 
     pub grown_front : IsInFront e (with_input e1 i2)
-    grown_front = front_join e e1 (with_input e1 i2) front (making_front e1 i2 (appended_made ts e1.input.making) grown.is grown.all_lists)
+    grown_front = front_join e e1 (with_input e1 i2) front (making_front e1 i2 (appended_made ts e1.input.making) grown.is grown.keeps)
 
     pub grown_settled : i2.pending ≡ end_token_lists i2.pending
     grown_settled = settled_still e.input.pending i2.pending (ap (λ (x : Stored). x.pending) grown.is ∙ same)
@@ -347,7 +346,7 @@ module _ (e e1 : Engine) (i2 : Stored) (ts : List Token) (begun : e1.input.makin
   -- or doesn't
   module _ (full : Full) (stopped : GrowsNot e1.input i2 ts full) where
     pub stopped_front : IsInFront e (with_input e1 i2)
-    stopped_front = front_join e e1 (with_input e1 i2) front (making_front e1 i2 i2.making stopped.is stopped.all_lists)
+    stopped_front = front_join e e1 (with_input e1 i2) front (making_front e1 i2 i2.making stopped.is stopped.keeps)
 
     pub stopped_cuts : (sizes : Sizes) (w : World) (book : Book) (more : List Move) → IsSound sizes e book.number book.all_lists → Did sizes (state_of e book) (state_of e1 book) w w (ListsEnded ∷ ListBegun ∷ []) → Cuts sizes (state_of e book) (with_input e1 i2) book w w (put_text ts ++ more) (broken.Full full)
     stopped_cuts sizes w book more sound d = text_cuts sizes _ _ (with_input e1 i2) book w ts more (broken.Full full) d (stopped.cuts sizes e1 w book (put_made ts ++ more) (front_sound sizes e e1 book front sound))

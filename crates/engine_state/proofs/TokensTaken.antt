@@ -164,7 +164,7 @@ module _ (sizes : Sizes) (book : Book) (w : World) where
   all_did e e' g fits list is none sound =
       let e1 : Engine = record e { input = fits.between } in
       let is1 : e1 ≡ listed e (with_token g.first e.input.builds) e1.input.lists = ap (λ (i : Stored). record e { input = i }) fits.is in
-      let sound1 : IsSound sizes e1 book.number book.all_lists = listed_sound sizes e e1 (with_token g.first e.input.builds) book.number book.all_lists is1 fits.all_lists sound in
+      let sound1 : IsSound sizes e1 book.number book.all_lists = listed_sound sizes e e1 (with_token g.first e.input.builds) book.number book.all_lists is1 fits.keeps sound in
       let is2 : e' ≡ listed e1 (with_token g.second e1.input.builds) e'.input.lists = is ∙ ap (λ (x : Engine). listed x (with_token g.second x.input.builds) e'.input.lists) (sym is1) in
       let none1 : e1.input.call ≡ NotCalling = ap (λ (i : Stored). i.call) fits.is ∙ none in
       let first : IsSome g.first → e.input.builds ≡ [] → ⊥ = λ some. list (one_first g.first g.second some) in

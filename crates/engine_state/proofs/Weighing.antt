@@ -1,6 +1,6 @@
 -- Each rule without a step makes the engine lighter.
 use Rattle.std.proofs.Common.{◌≡◌, ◌≤◌, ◌<◌, ◌+◌, Bool, true, false, List, [], ◌∷◌, drop, arith, sym, ap, ◌∙◌}
-use Rattle.std.specs.Prelude.{Option, Some, None}
+use Rattle.std.specs.Prelude.{Some}
 use Rattle.std.proofs.lemmas.List.{append-nil}
 use Rattle.tex_defs.specs.declared.Seen.{Seen}
 use Rattle.tex_defs.specs.declared.Token.{Token}
@@ -21,14 +21,14 @@ use Rattle.reading_frames.specs.Weights.{frames_weight, opening_frame, stack_wei
 use Rattle.reading_frames.specs.declared.ask.Opening.TheVariants as opening
 use Rattle.reading_frames.specs.declared.frame.Frame.{Frame}
 use Rattle.reading_frames.proofs.Rules.{falls}
-use Rattle.engine_state.specs.declared.call.Call.{Call as OpenCall}
+use Rattle.input_state.specs.Callings.{Calling, NotCalling, call_in}
 use Rattle.engine_state.specs.declared.engine.Engine.{Engine}
 use Rattle.engine_state.specs.Steps.{weight, readings_weight, pending_weight}
 
 -- where the stack is lighter, and nothing else of the weight has changed
-pub lighter : (e e' : Engine) → e.call ≡ None → e'.call ≡ None → e'.input.pending ≡ e.input.pending → stack_weight e'.readings < stack_weight e.readings → weight e' < weight e
+pub lighter : (e e' : Engine) → e.input.call ≡ NotCalling → e'.input.call ≡ NotCalling → e'.input.pending ≡ e.input.pending → stack_weight e'.readings < stack_weight e.readings → weight e' < weight e
 lighter e e' none none' same less =
-    omega (arith, less, ap pending_weight same, ap (λ (c : Option OpenCall). readings_weight c e) none, ap (λ (c : Option OpenCall). readings_weight c e') none')
+    omega (arith, less, ap pending_weight same, ap (λ (k : Calling). readings_weight (call_in k) e) none, ap (λ (k : Calling). readings_weight (call_in k) e') none')
 
 -- WHAT BEGINS WITHIN ANOTHER isn't a command
 
@@ -46,7 +46,7 @@ begins_inner (f ∷ fs) held (r ∷ rs) k begins st asks =
 
 -- EACH RULE, by what the calls say
 
-module _ (e e' : Engine) (none : e.call ≡ None) (none' : e'.call ≡ None) (same : e'.input.pending ≡ e.input.pending) where
+module _ (e e' : Engine) (none : e.input.call ≡ NotCalling) (none' : e'.input.call ≡ NotCalling) (same : e'.input.pending ≡ e.input.pending) where
   -- an inner reading begins, alone or with the last token
   pub begun_lighter : (held : List (List Token)) (work : List Reading) (k : Begun) → frames.FramesStand e.readings.frames held work → asks_in e.readings.frames held ≡ Some (Inner k false) → asks_in e.readings.frames [] ≡ Some (Inner k false) →
       frames_weight e'.readings.frames ≡ frames_weight e.readings.frames + opening_frame (opening.Reads k) → innermost_weight e'.readings.frames ≤ begun_weight (opening.Reads k) → weight e' < weight e

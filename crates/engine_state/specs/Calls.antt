@@ -20,11 +20,11 @@ use Rattle.plain_machine.specs.States.{Move, Written}
 use Rattle.plain_machine.specs.Plan.{Page, put_one, failed, page_behind}
 use Rattle.macro_call.specs.PlainScans.{Scan, resume_scan, scan_work}
 use Rattle.input_state.specs.CallFeeds.{call_work}
-use Rattle.input_state.specs.Callings.{Calling, NotCalling, Gathering, Stopped, Gathered, call_lists}
+use Rattle.input_state.specs.Callings.{Calling, NotCalling, Gathering, Stopped, Gathered, call_lists, call_in}
 use Rattle.input_state.specs.Macros.{list_at}
-use Rattle.engine_state.specs.declared.call.Call.{Call}
-use Rattle.engine_state.specs.declared.call.CallAsk.{CallAsk}
-use Rattle.engine_state.specs.declared.call.CallAsk.TheVariants as call
+use Rattle.input_state.specs.declared.answer.Call.{Call}
+use Rattle.macro_call.specs.declared.ask.CallAsk.{CallAsk}
+use Rattle.macro_call.specs.declared.ask.CallAsk.TheVariants as call
 use Rattle.engine_state.specs.declared.engine.Engine.{Engine}
 use Rattle.engine_state.specs.Book.{Book}
 use Rattle.engine_state.specs.Stands.{FramesStand, IsSound, own_style}
@@ -33,7 +33,7 @@ use Rattle.engine_state.specs.Stands.{FramesStand, IsSound, own_style}
 abbrev pub args_of : Calling → List (List Token)
 args_of NotCalling = []
 args_of (Gathering name scan) = []
-args_of (Stopped name scan) = []
+args_of (Stopped name why scan) = []
 args_of (Gathered name args) = args
 
 -- what the call of a macro asks for, as its reading does
@@ -62,21 +62,21 @@ HasWork scan = scan_work scan ≡ None → scan.args ≡ []
 abbrev pub IsTaking : Name → (long : Bool) → (text : List Token) → Calling → List Fed → Type 0
 IsTaking name long text NotCalling fed = ⊥
 IsTaking name long text (Gathering n scan) fed = (n ≡ name) × (HasWork scan × Gathers long text scan fed)
-IsTaking name long text (Stopped n scan) fed = ⊥
+IsTaking name long text (Stopped n why scan) fed = ⊥
 IsTaking name long text (Gathered n args) fed = ⊥
 
 -- it takes none, and its arguments aren't there
 abbrev pub IsStopped : Name → Calling → Type 0
 IsStopped name NotCalling = ⊥
 IsStopped name (Gathering n scan) = ⊥
-IsStopped name (Stopped n scan) = (n ≡ name) × HasWork scan
+IsStopped name (Stopped n why scan) = (n ≡ name) × HasWork scan
 IsStopped name (Gathered n args) = ⊥
 
 -- its arguments are there
 abbrev pub IsGathered : Name → Calling → Type 0
 IsGathered name NotCalling = ⊥
 IsGathered name (Gathering n scan) = ⊥
-IsGathered name (Stopped n scan) = ⊥
+IsGathered name (Stopped n why scan) = ⊥
 IsGathered name (Gathered n args) = n ≡ name
 
 -- where it stands, by what it asks for
@@ -112,7 +112,7 @@ pub record CallStands (e : Engine) (number : ℕ → ℕ) (c : Call) (r : Readin
 -- A call is the innermost reading, and begins where a token is wanted or what stands behind `\expandafter` is expanded; the frames, with the lists
 -- that they hold, are those beneath it, or all of them.
 abbrev pub ReadingsStand : Option Call → Engine → (number : ℕ → ℕ) → List Reading → Type 0
-ReadingsStand None e number work = FramesStand e work × (e.input.call ≡ NotCalling)
+ReadingsStand None e number work = FramesStand e work
 ReadingsStand (Some c) e number [] = ⊥
 ReadingsStand (Some c) e number (r ∷ rs) = CallStands e number c r × FramesStand e rs
 
@@ -120,7 +120,7 @@ ReadingsStand (Some c) e number (r ∷ rs) = CallStands e number c r × FramesSt
 pub record AllStand (sizes : Sizes) (e : Engine) (book : Book) : Type 0 where
   pub sound : IsSound sizes e book.number book.all_lists
   pub idle : e.input.making ≡ None
-  pub all : ReadingsStand e.call e book.number book.work
+  pub all : ReadingsStand (call_in e.input.call) e book.number book.work
 
 -- the open readings are these
 abbrev pub FramesOf : Option Call → Engine → List Reading → Type 0
@@ -142,7 +142,14 @@ argument_bytes e = texts.runaway_bytes scanned.Use (own_style e) e.in_line (work
 abbrev pub call_away_moves : Page → (text : List ℕ) → Token → Report → List Move
 call_away_moves page text t report = Written Transcript text ∷ (put_one t ++ failed (page_behind page text) report)
 
--- the call that takes tokens
+-- the call takes tokens, and asks for one
+abbrev pub AsksToken : Calling → Type 0
+AsksToken NotCalling = ⊥
+AsksToken (Gathering name scan) = scan.braced ≡ false
+AsksToken (Stopped name why scan) = ⊥
+AsksToken (Gathered name args) = ⊥
+
+-- the call that asks for a token
 abbrev pub open_call : Name → Call
 open_call name = record { name = name; ask = call.More }
 

@@ -1,11 +1,15 @@
 -- What contracts say of an engine and what has become of it, over any sizes, any world, and whatever it stands for.
-use Rattle.std.specs.Prelude.{◌≡◌, ◌≤◌, List, ◌∷◌, ◌++◌, None}
+use Rattle.std.specs.Prelude.{◌≡◌, ◌≤◌, List, ◌∷◌, ◌++◌, Option, None, IsSome}
+use Rattle.tex_syntax.specs.declared.words.Want.{Want}
+use Rattle.tex_syntax.specs.declared.words.Outcome.{Outcome}
 use Rattle.tex_syntax.specs.declared.words.Outcome.TheVariants.{AtFatal}
 use Rattle.tex_defs.specs.Places.{World}
 use Rattle.tex_defs.specs.declared.Fatal.TheVariants.{HundredErrors}
+use Rattle.tex_defs.specs.declared.Full.{Full}
 use Rattle.tex_defs.specs.declared.Sizes.{Sizes}
 use Rattle.plain_readings.specs.Readings.{Reading}
-use Rattle.plain_machine.specs.States.{Move}
+use Rattle.plain_machine.specs.States.{State, Move, made}
+use Rattle.plain_machine.specs.Demands.{refusal}
 use Rattle.plain_machine.specs.Plan.{Page, reports_room}
 use Rattle.plain_machine.specs.Does.{Did}
 use Rattle.world_io.specs.Contents.{FilesTold, SinkTold}
@@ -14,7 +18,9 @@ use Rattle.engine_state.specs.declared.engine.Engine.{Engine}
 use Rattle.engine_state.specs.declared.outcome.Ruled.{Ruled}
 use Rattle.engine_state.specs.Book.{Book, with_work}
 use Rattle.engine_state.specs.CutReadings.{CutsIn}
-use Rattle.engine_state.specs.Rules.{world_of, Cuts, DoesOnward, Halts, Went}
+use Rattle.engine_state.specs.Calls.{AllStand}
+use Rattle.engine_state.specs.Rules.{world_of, scanning_of, space_moves, Behind, Cuts, DoesOnward, Finds, Halts, Takes, Went}
+use Rattle.reading_frames.specs.declared.ask.Found.{Found}
 use Rattle.engine_state.specs.Stands.{Counts, IsSound, Stands, page_of, state_of}
 
 -- The lists that locations and what is in front share are those of the book.
@@ -98,3 +104,99 @@ GoesOnward e e' before after moves ruled = (sizes : Sizes) (f : FilesTold) (book
 abbrev pub CutsOnward : (e e' : Engine) → (before after : SinkTold) → (Page → List Move) → Broken → Type 0
 CutsOnward e e' before after moves b = (sizes : Sizes) (f : FilesTold) (book : Book) → Stands sizes e book →
     CutsIn sizes (state_of e book) e' (world_of f before e) (world_of f after e') (moves (page_of e book)) b
+
+-- WHERE SOMETHING HOLDS of the engine and whatever it stands for
+
+-- a token is wanted there, as this says
+abbrev pub Taking : Option Want → Sizes → Engine → Book → Type 0
+Taking want sizes e book = Takes sizes want e book
+
+-- Where this holds, what is done by these moves, with this written, is as said.
+abbrev pub DoesWhere : {A : Type 0} → (Holds : Sizes → Engine → Book → Type 0) → (Does : Sizes → State → Engine → Book → World → World → List Move → A → Type 0) →
+    (e e' : Engine) → (before after : SinkTold) → (Book → List Move) → A → Type 0
+DoesWhere Holds Does e e' before after moves a = (sizes : Sizes) (f : FilesTold) (book : Book) → Holds sizes e book →
+    Does sizes (state_of e book) e' book (world_of f before e) (world_of f after e') (moves book) a
+
+-- They are cut off.
+abbrev pub CutsWhere : (Holds : Sizes → Engine → Book → Type 0) → (e e' : Engine) → (before after : SinkTold) → (Book → List Move) → Broken → Type 0
+CutsWhere Holds e e' before after moves b = (sizes : Sizes) (f : FilesTold) (book : Book) → Holds sizes e book →
+    CutsIn sizes (state_of e book) e' (world_of f before e) (world_of f after e') (moves book) b
+
+-- The machine makes these moves, for which this is written, and the engine stands for what comes of them.
+abbrev pub WritesWhere : (Holds : Sizes → Engine → Book → Type 0) → (e e' : Engine) → (before after : SinkTold) → (Page → List Move) → Type 0
+WritesWhere Holds e e' before after moves = (sizes : Sizes) (f : FilesTold) (book : Book) → Holds sizes e book →
+    Did sizes (state_of e book) (state_of e' book) (world_of f before e) (world_of f after e') (moves (page_of e book))
+
+-- They are cut off, whatever more was to come behind them.
+abbrev pub CutsWritingWhere : (Holds : Sizes → Engine → Book → Type 0) → (e e' : Engine) → (before after : SinkTold) → (Page → List Move) → Broken → Type 0
+CutsWritingWhere Holds e e' before after moves b = (sizes : Sizes) (f : FilesTold) (book : Book) (more : List Move) → Holds sizes e book →
+    Cuts sizes (state_of e book) e' book (world_of f before e) (world_of f after e') (moves (page_of e book) ++ more) b
+
+-- Where a report may still come, it or what follows it is cut off.
+abbrev pub CutsWithRoom : (e e' : Engine) → (before after : SinkTold) → (Page → List Move) → Broken → Type 0
+CutsWithRoom e e' before after moves b = (sizes : Sizes) (f : FilesTold) (book : Book) → e.reports ≤ reports_room →
+    Cuts sizes (state_of e book) e' book (world_of f before e) (world_of f after e') (moves (page_of e book)) b
+
+-- The run ends by these moves.
+abbrev pub EndsRun : (e e' : Engine) → (before after : SinkTold) → (Page → List Move) → Outcome → Type 0
+EndsRun e e' before after moves o = (sizes : Sizes) (f : FilesTold) (book : Book) →
+    Halts sizes (state_of e book) e' book (world_of f before e) (world_of f after e') (moves (page_of e book)) o 0
+
+-- What is done by these moves, with this written, is as said, whatever the engine stands for.
+abbrev pub DoesAlways : {A : Type 0} → (Does : Sizes → State → Engine → Book → World → World → List Move → A → Type 0) → (e e' : Engine) → (before after : SinkTold) → (Book → List Move) → A → Type 0
+DoesAlways Does e e' before after moves a = (sizes : Sizes) (f : FilesTold) (book : Book) → Does sizes (state_of e book) e' book (world_of f before e) (world_of f after e') (moves book) a
+
+-- Where this holds of the engine and the book, with a reading open, what is done by these moves, with this written, is as said.
+abbrev pub DoesAtReading : {A : Type 0} → (Holds : Sizes → Engine → Book → Type 0) → (Does : Sizes → State → Engine → Book → World → World → List Move → A → Type 0) →
+    (e e' : Engine) → (before after : SinkTold) → (Book → List Move) → A → Type 0
+DoesAtReading Holds Does e e' before after moves a = (sizes : Sizes) (f : FilesTold) (book : Book) (r : Reading) (rs : List Reading) → Holds sizes e (with_work (r ∷ rs) book) →
+    Does sizes (state_of e (with_work (r ∷ rs) book)) e' (with_work (r ∷ rs) book) (world_of f before e) (world_of f after e') (moves book) a
+
+-- A report, or part of one, is written so, whatever comes behind it.
+abbrev pub ReportsSo : (Rep : Sizes → State → State → World → World → Page → List Move → Type 0) → (e e' : Engine) → (before after : SinkTold) → Type 0
+ReportsSo Rep e e' before after = (sizes : Sizes) (f : FilesTold) (book : Book) (rest : List Move) →
+    Rep sizes (state_of e book) (state_of e' book) (world_of f before e) (world_of f after e') (page_of e book) rest
+
+-- This is so of each book of which the engine's shared lists are.
+abbrev pub WhereSound : Engine → (Book → Type 0) → Type 0
+WhereSound e Says = (sizes : Sizes) (book : Book) → IsSound sizes e book.number book.all_lists → Says book
+
+-- CHECKS
+
+-- This is scanned where a token is wanted, by a reading.
+abbrev pub ScansThis : Found → Engine → Type 0
+ScansThis found e = (sizes : Sizes) (book : Book) (want : Option Want) → Takes sizes want e book → Finds found e book × IsSome want
+
+-- Nothing is.
+abbrev pub ScansNothing : Engine → Type 0
+ScansNothing e = (sizes : Sizes) (book : Book) (want : Option Want) → Takes sizes want e book → scanning_of e book.work ≡ None
+
+-- Behind these moves, the last of which may hand on a space, the engine stands where a token was wanted, as one still is.
+abbrev pub GoesBehind : (e e' : Engine) → (before after : SinkTold) → (Page → (space : List Move) → List Move) → Type 0
+GoesBehind e e' before after moves = (sizes : Sizes) (f : FilesTold) (book : Book) (want space : Option Want) (page : Page) → Takes sizes want e book →
+    Behind sizes want space (state_of e book) e' book page (world_of f before e) (world_of f after e') (moves (page_of e book) (space_moves page space book.work))
+
+-- The report among these moves was the hundredth, and the run has ended, whatever was to come behind it.
+abbrev pub EndsReading : (e e' : Engine) → (before after : SinkTold) → (Page → (rest : List Move) → List Move) → Type 0
+EndsReading e e' before after moves = (sizes : Sizes) (f : FilesTold) (book : Book) (rest : List Move) → AllStand sizes e book →
+    Halts sizes (state_of e book) e' book (world_of f before e) (world_of f after e') (moves (page_of e book) rest) (AtFatal HundredErrors) 0
+
+-- They are cut off, whatever was to come behind them.
+abbrev pub CutsReading : (e e' : Engine) → (before after : SinkTold) → (Page → (rest : List Move) → List Move) → Broken → Type 0
+CutsReading e e' before after moves b = (sizes : Sizes) (f : FilesTold) (book : Book) (rest : List Move) → AllStand sizes e book →
+    CutsIn sizes (state_of e book) e' (world_of f before e) (world_of f after e') (moves (page_of e book) rest) b
+
+-- THE STACK
+
+-- The engine stands for what becomes of the open readings.
+abbrev pub StandsFor : (e e' : Engine) → (List Reading → List Reading) → Type 0
+StandsFor e e' work = (sizes : Sizes) (book : Book) → Stands sizes e book → Stands sizes e' (with_work (work book.work) book)
+
+-- It is what this move makes of them.
+abbrev pub IsMadeBy : (e e' : Engine) → (Page → Move) → (Page → List Reading → List Reading) → Type 0
+IsMadeBy e e' m work = (sizes : Sizes) (book : Book) → Stands sizes e book →
+    made (m (page_of e book)) (state_of e book) ≡ state_of e' (with_work (work (page_of e book) book.work) book)
+
+-- Why there is no room for this move, or that there is.
+abbrev pub RefusedAs : Engine → Move → Option Full → Type 0
+RefusedAs e m o = (sizes : Sizes) (book : Book) → Counts sizes e book → refusal sizes m (state_of e book) ≡ o

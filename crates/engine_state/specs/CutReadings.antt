@@ -11,11 +11,12 @@ use Rattle.plain_tokens.specs.Puts.{grow_first}
 use Rattle.plain_machine.specs.States.{State, Move}
 use Rattle.macro_call.specs.PlainScans.{Scan}
 use Rattle.input_state.specs.CallFeeds.{IsCutInGrowth, IsCutBetween}
-use Rattle.input_state.specs.Callings.{Calling, Stopped}
+use Rattle.input_state.specs.declared.answer.CallEnd.TheVariants as end
+use Rattle.input_state.specs.Callings.{Calling, Stopped, call_in}
 use Rattle.reading_frames.specs.Stands as frames
 use Rattle.engine_state.specs.declared.broken.Broken.{Broken}
 use Rattle.engine_state.specs.declared.broken.Broken.TheVariants as broken
-use Rattle.engine_state.specs.declared.call.Call.{Call}
+use Rattle.input_state.specs.declared.answer.Call.{Call}
 use Rattle.engine_state.specs.Calls.{Gathers, CallReads, asks_of}
 use Rattle.engine_state.specs.declared.engine.Engine.{Engine}
 use Rattle.engine_state.specs.Book.{Book}
@@ -53,7 +54,7 @@ pub record CutFull (b : Broken) (c : Call) (k : Calling) (r : Reading) : Type 0 
   pub kind : r.kind ≡ Arguments c.name long number text
   pub asked : asks_of c k ≡ ask r.kind r.fed
   pub next : Scan
-  pub stopped : k ≡ Stopped c.name next
+  pub stopped : k ≡ Stopped c.name end.Full next
   pub at : CutScan long text next r.fed
 
 -- the call is this reading, as it was fed or cut off
@@ -87,7 +88,7 @@ pub record FramesAtCut (b : Broken) (e : Engine) (work : List Reading) : Type 0 
   pub front : Option Token
   pub grown : e.input.builds ≡ with_token front lists
   pub leads : MayLead b front
-  pub stand : FramesIn b e.call e lists work
+  pub stand : FramesIn b (call_in e.input.call) e lists work
 
 -- The moves are cut off: the engine stands for the moment before the move that wasn't made, with these readings.
 pub record CutsIn (sizes : Sizes) (s : State) (e' : Engine) (w w' : World) (moves : List Move) (b : Broken) : Type 0 where

@@ -24,7 +24,7 @@ with_tokens g lists = with_token g.second (with_token g.first lists)
 pub record TokensFit (g : Grown) (i : Stored) : Type 0 where
   pub between : Stored
   pub is : between ≡ record i { builds = with_token g.first i.builds; lists = between.lists }
-  pub all_lists : KeepsShared i between
+  pub keeps : KeepsShared i between
   pub first : IsSome g.first → (i.builds ≡ [] → ⊥) → refused i.sizes (memory 1 (words i) ∷ []) ≡ None
   pub second : IsSome g.second → (between.builds ≡ [] → ⊥) → refused between.sizes (memory 1 (words between) ∷ []) ≡ None
 

@@ -31,14 +31,14 @@ use Rattle.engine_state.specs.Rules.{Cuts}
 -- it has grown by them
 pub record HasGrown (i j : Stored) (ts : List Token) : Type 0 where
   pub is : j ≡ record i { making = appended_made ts i.making; lists = j.lists }
-  pub all_lists : KeepsShared i j
+  pub keeps : KeepsShared i j
   pub did : (sizes : Sizes) (e : Engine) (w : World) (book : Book) → IsSound sizes (record e { input = i }) book.number book.all_lists →
       Did sizes (state_of (record e { input = i }) book) (state_of (record e { input = j }) book) w w (map ListGrown ts)
 
 -- it has no room for one of them
 pub record GrowsNot (i j : Stored) (ts : List Token) (full : Full) : Type 0 where
   pub is : j ≡ record i { making = j.making; lists = j.lists }
-  pub all_lists : KeepsShared i j
+  pub keeps : KeepsShared i j
   pub cuts : (sizes : Sizes) (e : Engine) (w : World) (book : Book) (more : List Move) → IsSound sizes (record e { input = i }) book.number book.all_lists →
       Cuts sizes (state_of (record e { input = i }) book) (record e { input = j }) book w w (map ListGrown ts ++ more) (broken.Full full)
 

@@ -41,11 +41,12 @@ use Rattle.engine_state.specs.Faults.{why_of}
 use Rattle.input_state.specs.Stored.{gathered}
 use Rattle.engine_state.specs.Begins.{away_moves, check_report}
 use Rattle.engine_state.specs.Book.{Book}
-use Rattle.engine_state.specs.Calls.{AllStand, work_or_none}
+use Rattle.engine_state.specs.Calls.{AllStand, AsksToken, work_or_none}
 use Rattle.engine_state.specs.Steps.{asked}
-use Rattle.engine_state.specs.declared.call.Call.{Call}
-use Rattle.engine_state.specs.declared.call.CallAsk.TheVariants as call
-use Rattle.input_state.specs.CallFeeds.{IsTaking, call_work}
+use Rattle.input_state.specs.declared.answer.Call.{Call}
+use Rattle.input_state.specs.Callings.{NotCalling, call_in}
+use Rattle.macro_call.specs.declared.ask.CallAsk.TheVariants as call
+use Rattle.input_state.specs.CallFeeds.{call_work}
 use Rattle.engine_state.specs.Stands.{state_of, page_of, own_style}
 
 -- the world of these files and this sink, whose column the engine keeps
@@ -136,9 +137,9 @@ scanned_list what k e = nth_list k e.input.builds
 abbrev pub away_text : Scanned → ℕ → Engine → List ℕ
 away_text what k e = runaway_bytes what (own_style e) e.in_line (scanned_list what k e)
 
--- a call takes tokens, or there is such a list
+-- a call asks for a token, or there is such a list
 abbrev pub IsScanned : Scanned → ℕ → Engine → Type 0
-IsScanned scanned.Use k e = IsTaking e.input.call
+IsScanned scanned.Use k e = AsksToken e.input.call
 IsScanned what k e = k < length e.input.builds
 
 -- what is found is such a thing, or text that is skipped
@@ -164,7 +165,7 @@ abbrev pub check_moves : Engine → Page → Check → Found → (rest : List Mo
 check_moves e page check (found.Builds what name k) rest = away_moves page what (away_text what k e) (check_report check what name) rest
 check_moves e page check (found.SkippedText line) rest = incomplete page line rest
 
--- such a token is wanted: by a call that takes tokens, as it stands, by the innermost frame, or where no reading is open
+-- such a token is wanted: by a call that asks for a token, as it stands, by the innermost frame, or where no reading is open
 abbrev pub WantsHere : Option Call → Option Want → Engine → Type 0
 WantsHere None None e = asked e ≡ None
 WantsHere None (Some want) e = asked e ≡ Some (More want)
@@ -173,7 +174,7 @@ WantsHere (Some c) (Some want) e = (c.ask ≡ call.More) × (want ≡ Raw)
 
 -- the engine is where such a token is wanted
 abbrev pub Takes : Sizes → Option Want → Engine → Book → Type 0
-Takes sizes want e book = WantsHere e.call want e × AllStand sizes e book
+Takes sizes want e book = WantsHere (call_in e.input.call) want e × AllStand sizes e book
 
 -- the engine is where some token is wanted
 abbrev pub Wants : Sizes → Engine → Book → Type 0
@@ -218,7 +219,7 @@ next_moves want e book = handed (page_of e book) (enters_of want) (scanning_of e
 -- The open readings are as they were, but that a call may have noted a check.
 pub record Comes (sizes : Sizes) (want : Option Want) (s : State) (e' : Engine) (book : Book) (w w' : World) (moves : List Move) (x : Seen) (k : ℕ) : Type 0 where
   pub book' : Book
-  pub still : e'.call ≡ None → book' ≡ book
+  pub still : e'.input.call ≡ NotCalling → book' ≡ book
   pub takes : Takes sizes want e' book'
   pub front : List Move
   pub did : Did sizes s (state_of e' book') w w' front
@@ -239,7 +240,7 @@ Nexts sizes want s e' book w w' moves (Over o) = Halts sizes s e' book w w' move
 -- Behind these moves the engine stands for its state with this book, and a space follows, if one does.
 pub record Behind (sizes : Sizes) (want space : Option Want) (s : State) (e' : Engine) (book : Book) (page : Page) (w w' : World) (moves : List Move) : Type 0 where
   pub book2 : Book
-  pub still : e'.call ≡ None → book2 ≡ book
+  pub still : e'.input.call ≡ NotCalling → book2 ≡ book
   pub takes : Takes sizes want e' book2
   pub front : List Move
   pub did : Did sizes s (state_of e' book2) w w' front

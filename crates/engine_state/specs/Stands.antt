@@ -18,9 +18,9 @@ use Rattle.plain_machine.specs.States.{State, no_files}
 use Rattle.plain_machine.specs.Plan.{Page, reports_room}
 use Rattle.plain_machine.specs.Numbers.{Tied, pending_of, groups_of, tables_of}
 use Rattle.input_state.specs.Stored.{Stored, KeepsShared, gathered}
-use Rattle.input_state.specs.Callings.{NotCalling}
+use Rattle.input_state.specs.Callings.{NotCalling, call_in}
 use Rattle.engine_state.specs.declared.engine.Engine.{Engine}
-use Rattle.engine_state.specs.declared.call.Call.{Call}
+use Rattle.input_state.specs.declared.answer.Call.{Call}
 use Rattle.engine_state.specs.Book.{Book, AreBodies}
 
 -- The state that it stands for, but for what the files hold: the machine has its own numbers for the shared lists.
@@ -101,9 +101,8 @@ pub record FramesStand (e : Engine) (work : List Reading) : Type 0 where
   pub shallow : AreShallow e.readings.frames e.input.builds
 
 -- no call gathers its arguments
-pub record IsUncalled (e : Engine) : Type 0 where
-  pub none : e.call ≡ None
-  pub input : e.input.call ≡ NotCalling
+abbrev pub IsUncalled : Engine → Type 0
+IsUncalled e = e.input.call ≡ NotCalling
 
 -- The engine's open readings and its shared lists are those of the book, no list is being made, and no call gathers its arguments.
 pub record Stands (sizes : Sizes) (e : Engine) (book : Book) : Type 0 where
@@ -118,7 +117,7 @@ call_count None = 0
 call_count (Some c) = 1
 
 abbrev pub depth : Engine → ℕ
-depth e = length e.readings.frames + call_count e.call
+depth e = length e.readings.frames + call_count (call_in e.input.call)
 
 -- The engine counts the open readings and the shared lists as the machine.
 pub record Counts (sizes : Sizes) (e : Engine) (book : Book) : Type 0 where
@@ -131,23 +130,21 @@ depth_full used size = if nat_lt used size then None else Some (record { table =
 
 -- WHAT STAYS
 
--- the readings are as they were
+-- the frames and their lists are as they were, and a call asks for the same
 pub record SameReadings (e e' : Engine) : Type 0 where
   pub readings : e'.readings ≡ e.readings
   pub lists : e'.input.builds ≡ e.input.builds
-  pub call : e'.call ≡ e.call
+  pub call : call_in e'.input.call ≡ call_in e.input.call
 
--- and a call has what it had
+-- a call is as it was, too
 pub record SameFrames (e e' : Engine) : Type 0 where
   pub readings : e'.readings ≡ e.readings
   pub lists : e'.input.builds ≡ e.input.builds
-  pub call : e'.call ≡ e.call
-  pub calling : e'.input.call ≡ e.input.call
+  pub call : e'.input.call ≡ e.input.call
 
 -- all but the readings and the input is as it was
 pub record SameOthers (e e' : Engine) : Type 0 where
   pub depth : e'.readings.size ≡ e.readings.size
-  pub call : e'.call ≡ e.call
   pub names : e'.names ≡ e.names
   pub after : e'.after ≡ e.after
   pub mag_set : e'.mag_set ≡ e.mag_set
@@ -163,7 +160,6 @@ pub record SameOthers (e e' : Engine) : Type 0 where
 -- the same, but for the token that a reading was fed with last
 pub record SameElse (e e' : Engine) : Type 0 where
   pub depth : e'.readings.size ≡ e.readings.size
-  pub call : e'.call ≡ e.call
   pub names : e'.names ≡ e.names
   pub after : e'.after ≡ e.after
   pub mag_set : e'.mag_set ≡ e.mag_set
@@ -189,7 +185,7 @@ pub record SameBut (e e' : Engine) : Type 0 where
   pub others : SameElse e e'
   pub pending : e'.input.pending ≡ e.input.pending
   pub making : e'.input.making ≡ e.input.making
-  pub calling : e'.input.call ≡ e.input.call
+  pub call : e'.input.call ≡ e.input.call
   pub store : SameStore e.input e'.input
 
 -- nothing but the column has changed

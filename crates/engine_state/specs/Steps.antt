@@ -10,9 +10,10 @@ use Rattle.plain_readings.specs.Weights.{act_frame, act_weight}
 use Rattle.reading_frames.specs.Stack.{asks_in}
 use Rattle.reading_frames.specs.Weights.{frames_weight, stack_weight}
 use Rattle.input_state.specs.Reads.{gives_step}
-use Rattle.engine_state.specs.declared.call.Call.{Call}
-use Rattle.engine_state.specs.declared.call.CallAsk.{CallAsk}
-use Rattle.engine_state.specs.declared.call.CallAsk.TheVariants as call
+use Rattle.input_state.specs.declared.answer.Call.{Call}
+use Rattle.input_state.specs.Callings.{call_in}
+use Rattle.macro_call.specs.declared.ask.CallAsk.{CallAsk}
+use Rattle.macro_call.specs.declared.ask.CallAsk.TheVariants as call
 use Rattle.engine_state.specs.declared.engine.Engine.{Engine}
 use Rattle.engine_state.specs.declared.outcome.Ruled.{Ruled}
 use Rattle.engine_state.specs.declared.outcome.Ruled.TheVariants.{Step, Free, Halted}
@@ -56,7 +57,7 @@ all_start (Some c) a = false
 
 -- the next rule has a step
 abbrev pub stepping : Engine → Bool
-stepping e = all_want e.call (asked e) && gives_step (pulled e.input.groups.now.categories e.input.pending)
+stepping e = all_want (call_in e.input.call) (asked e) && gives_step (pulled e.input.groups.now.categories e.input.pending)
 
 -- WEIGHTS
 
@@ -84,7 +85,7 @@ readings_weight (Some c) e = frames_weight e.readings.frames + (act_frame + call
 
 -- a rule without a step makes the engine lighter
 abbrev pub weight : Engine → ℕ
-weight e = readings_weight e.call e + pending_weight e.input.pending
+weight e = readings_weight (call_in e.input.call) e + pending_weight e.input.pending
 
 -- RULES
 

@@ -1,31 +1,32 @@
 // The checks: where a file has ended, or the name of an `\outer` macro has come, while something is scanned.
 // *The TeXbook*, chapter 20; *TeX: The Program*, part 24 (`check_outer_validity`).
-ghost use Rattle.std.specs.Prelude.{◌≡◌, ◌+◌, List, [], ◌∷◌, ◌++◌, IfOk, IfErr, IfSome, OnOk, OnErr, MatchBool, Option, Some, None, true, false, IsSome};
+ghost use Rattle.std.specs.Prelude.{◌≡◌, ◌+◌, [], ◌∷◌, ◌++◌, IfOk, IfErr, IfSome, OnOk, OnErr, MatchBool, Option, Some, None, true, false};
 ghost use Rattle.tex_syntax.specs.declared.words.Outcome.TheVariants.{AtFatal};
 ghost use Rattle.tex_syntax.specs.declared.words.Want.{Want};
 ghost use Rattle.tex_syntax.specs.declared.words.Scanned.TheVariants as scanned;
 ghost use Rattle.tex_defs.specs.Places.{Transcript};
 ghost use Rattle.tex_defs.specs.declared.Sizes.{Sizes};
-ghost use Rattle.tex_defs.specs.declared.Fatal.TheVariants as fatal;
-ghost use Rattle.plain_machine.specs.States.{Move, Written};
-ghost use Rattle.plain_machine.specs.Plan.{Page, put_one, reported, checked, check_noted, incomplete, inserted_at};
+ghost use Rattle.plain_machine.specs.States.{Written};
+ghost use Rattle.plain_machine.specs.Plan.{put_one, reported, checked, check_noted, incomplete, inserted_at};
 ghost use Rattle.world_io.specs.Contents.{FilesTold};
 ghost use Rattle.engine_state.specs.Book.{Book};
-ghost use Rattle.engine_state.specs.Calls.{AllStand};
 ghost use Rattle.engine_state.specs.CutReadings.{CutsIn};
 ghost use Rattle.engine_state.specs.Begins.{away_moves, check_report};
-ghost use Rattle.engine_state.specs.Clauses.{WritesOut, CutsWriting, EndsAtHundredth, CutsReport};
+ghost use Rattle.engine_state.specs.Clauses.{WritesOut, CutsWriting, EndsAtHundredth, CutsReport, CutsReading, CutsWhere, DoesWhere, EndsReading, GoesBehind, ScansNothing, ScansThis};
 ghost use Rattle.engine_state.specs.Stands.{SameFrames, SameReadings, OnlyColumn, state_of, page_of};
-ghost use Rattle.engine_state.specs.Rules.{world_of, onward_of, token_moves, space_moves, scanning_of, Takes, Halts, DoesOnward, away_text, check_moves, IsScanned, IsFound, IsListed, Finds, Wants, Meets, Behind};
+ghost use Rattle.engine_state.specs.Rules.{world_of, onward_of, token_moves, space_moves, scanning_of, Takes, DoesOnward, away_text, check_moves, IsScanned, IsFound, IsListed, Wants, Meets};
 ghost use Rattle.engine_state.specs.declared.check.Check.TheVariants.{Forbidden};
 ghost use Rattle.engine_state.specs.Steps.{IsFree, IsHalted, weight};
 ghost use Rattle.input_state.specs.CallFeeds.{with_scan};
+ghost use Rattle.input_state.specs.Callings.{NotCalling};
 ghost use Rattle.macro_call.specs.PlainScans.{cut_scan};
 
 use crate::broken::Broken;
 use crate::engine::Engine;
 use crate::meaning::is_outer;
 use crate::outcome::Ruled;
+use input_state::Call;
+use macro_call::CallAsk;
 use reading_frames::Found;
 use tex_defs::{Fatal, Frozen, Name, Seen, Sizes, Token};
 use tex_syntax::{Outcome, Report, Scanned};
@@ -53,14 +54,19 @@ impl Check {
 }
 
 impl Engine {
-    /// What is scanned: a call that takes tokens; or a text or a definition, or text that is skipped.
+    /// What is scanned: a call that takes tokens and asks for one; or a text or a definition, or text that is skipped.
     fn scanned(&self) -> Option<Found>
         ensures is { IfSome result (λ found. IsFound found self.now) }
-        ensures some { IfSome result (λ found. (sizes : Sizes) (book : Book) (want : Option Want) → Takes sizes want self.now book → Finds found self.now book × IsSome want) }
-        ensures none { result ≡ None → (sizes : Sizes) (book : Book) (want : Option Want) → Takes sizes want self.now book → scanning_of self.now book.work ≡ None }
+        ensures some { IfSome result (λ found. ScansThis found self.now) }
+        ensures none { result ≡ None → ScansNothing self.now }
     {
-        match self.call {
-            Some(call) if self.input.is_taking() => Some(Found::Builds(Scanned::Use, call.name, 0)),
+        match self.input.call() {
+            Some(
+                Call {
+                    name,
+                    ask: CallAsk::More,
+                },
+            ) if self.input.is_taking() => Some(Found::Builds(Scanned::Use, name, 0)),
             Some(_) => None,
             None => self.scanned_frame(),
         }
@@ -68,10 +74,10 @@ impl Engine {
 
     /// What the frames scan; a list that is built is held.
     fn scanned_frame(&self) -> Option<Found>
-        requires { self.now.call ≡ None }
+        requires { self.now.input.call ≡ NotCalling }
         ensures is { IfSome result (λ found. IsFound found self.now) }
-        ensures some { IfSome result (λ found. (sizes : Sizes) (book : Book) (want : Option Want) → Takes sizes want self.now book → Finds found self.now book × IsSome want) }
-        ensures none { result ≡ None → (sizes : Sizes) (book : Book) (want : Option Want) → Takes sizes want self.now book → scanning_of self.now book.work ≡ None }
+        ensures some { IfSome result (λ found. ScansThis found self.now) }
+        ensures none { result ≡ None → ScansNothing self.now }
     {
         let Some(found) = self.readings.scanned() else {
             return None;
@@ -131,8 +137,7 @@ impl Engine {
     ) -> Result<bool, Broken>
         requires idle { self.old.input.making ≡ None }
         requires asked { IsScanned what number self.old }
-        ensures on { IfOk result (λ on. on ≡ true → (sizes : Sizes) (f : FilesTold) (book : Book) (want space : Option Want) (page : Page) → Takes sizes want self.old book →
-            Behind sizes want space (state_of self.old book) self.new book page (world_of f (S.told out.old) self.old) (world_of f (S.told out.new) self.new) (reported (page_of self.old book) report (check_noted what (space_moves page space book.work)))) }
+        ensures on { IfOk result (λ on. on ≡ true → GoesBehind self.old self.new (S.told out.old) (S.told out.new) (λ p space. reported p report (check_noted what space))) }
         ensures last { IfOk result (λ on. on ≡ false → EndsAtHundredth self.old self.new (S.told out.old) (S.told out.new) (λ page rest. reported page report rest)) }
         ensures err { IfErr result (λ b. CutsReport self.old self.new (S.told out.old) (S.told out.new) (λ page rest. reported page report rest) b) }
         ensures halts { IfOk result (λ on. on ≡ false → SameFrames self.old self.new) }
@@ -158,12 +163,9 @@ impl Engine {
     ) -> Result<bool, Broken>
         requires idle { self.old.input.making ≡ None }
         requires asked { IsScanned what number self.old }
-        ensures on { IfOk result (λ on. on ≡ true → (sizes : Sizes) (f : FilesTold) (book : Book) (want space : Option Want) (page : Page) → Takes sizes want self.old book →
-            Behind sizes want space (state_of self.old book) self.new book page (world_of f (S.told out.old) self.old) (world_of f (S.told out.new) self.new) (away_moves (page_of self.old book) what (away_text what number self.old) report (space_moves page space book.work))) }
-        ensures last { IfOk result (λ on. on ≡ false → (sizes : Sizes) (f : FilesTold) (book : Book) (rest : List Move) → AllStand sizes self.old book →
-            Halts sizes (state_of self.old book) self.new book (world_of f (S.told out.old) self.old) (world_of f (S.told out.new) self.new) (away_moves (page_of self.old book) what (away_text what number self.old) report rest) (AtFatal fatal.HundredErrors) 0) }
-        ensures err { IfErr result (λ b. (sizes : Sizes) (f : FilesTold) (book : Book) (rest : List Move) → AllStand sizes self.old book →
-            CutsIn sizes (state_of self.old book) self.new (world_of f (S.told out.old) self.old) (world_of f (S.told out.new) self.new) (away_moves (page_of self.old book) what (away_text what number self.old) report rest) b) }
+        ensures on { IfOk result (λ on. on ≡ true → GoesBehind self.old self.new (S.told out.old) (S.told out.new) (λ p space. away_moves p what (away_text what number self.old) report space)) }
+        ensures last { IfOk result (λ on. on ≡ false → EndsReading self.old self.new (S.told out.old) (S.told out.new) (λ p rest. away_moves p what (away_text what number self.old) report rest)) }
+        ensures err { IfErr result (CutsReading self.old self.new (S.told out.old) (S.told out.new) (λ p rest. away_moves p what (away_text what number self.old) report rest)) }
         ensures halts { IfOk result (λ on. on ≡ false → SameFrames self.old self.new) }
         ensures still { OnOk result (weight self.new ≡ weight self.old) }
         ensures readings { SameReadings self.old self.new }
@@ -177,12 +179,9 @@ impl Engine {
     /// Text is skipped, from this line on: a `\fi` is inserted, and the conditional reported as incomplete. Answers whether the run goes on behind it.
     fn insert_fi<S: Sink>(&mut self, out: &mut S, line: u64) -> Result<bool, Broken>
         requires idle { self.old.input.making ≡ None }
-        ensures on { IfOk result (λ on. on ≡ true → (sizes : Sizes) (f : FilesTold) (book : Book) (want space : Option Want) (page : Page) → Takes sizes want self.old book →
-            Behind sizes want space (state_of self.old book) self.new book page (world_of f (S.told out.old) self.old) (world_of f (S.told out.new) self.new) (incomplete (page_of self.old book) line (space_moves page space book.work))) }
-        ensures last { IfOk result (λ on. on ≡ false → (sizes : Sizes) (f : FilesTold) (book : Book) (rest : List Move) → AllStand sizes self.old book →
-            Halts sizes (state_of self.old book) self.new book (world_of f (S.told out.old) self.old) (world_of f (S.told out.new) self.new) (incomplete (page_of self.old book) line rest) (AtFatal fatal.HundredErrors) 0) }
-        ensures err { IfErr result (λ b. (sizes : Sizes) (f : FilesTold) (book : Book) (rest : List Move) → AllStand sizes self.old book →
-            CutsIn sizes (state_of self.old book) self.new (world_of f (S.told out.old) self.old) (world_of f (S.told out.new) self.new) (incomplete (page_of self.old book) line rest) b) }
+        ensures on { IfOk result (λ on. on ≡ true → GoesBehind self.old self.new (S.told out.old) (S.told out.new) (λ p space. incomplete p line space)) }
+        ensures last { IfOk result (λ on. on ≡ false → EndsReading self.old self.new (S.told out.old) (S.told out.new) (λ p rest. incomplete p line rest)) }
+        ensures err { IfErr result (CutsReading self.old self.new (S.told out.old) (S.told out.new) (λ p rest. incomplete p line rest)) }
         ensures frames { SameFrames self.old self.new }
         ensures still { OnOk result (weight self.new ≡ weight self.old) }
         ensures idle { OnOk result (self.new.input.making ≡ None) }
@@ -201,12 +200,9 @@ impl Engine {
     ) -> Result<bool, Broken>
         requires idle { self.old.input.making ≡ None }
         requires asked { IsFound found self.old }
-        ensures on { IfOk result (λ on. on ≡ true → (sizes : Sizes) (f : FilesTold) (book : Book) (want space : Option Want) (page : Page) → Takes sizes want self.old book →
-            Behind sizes want space (state_of self.old book) self.new book page (world_of f (S.told out.old) self.old) (world_of f (S.told out.new) self.new) (check_moves self.old (page_of self.old book) check found (space_moves page space book.work))) }
-        ensures last { IfOk result (λ on. on ≡ false → (sizes : Sizes) (f : FilesTold) (book : Book) (rest : List Move) → AllStand sizes self.old book →
-            Halts sizes (state_of self.old book) self.new book (world_of f (S.told out.old) self.old) (world_of f (S.told out.new) self.new) (check_moves self.old (page_of self.old book) check found rest) (AtFatal fatal.HundredErrors) 0) }
-        ensures err { IfErr result (λ b. (sizes : Sizes) (f : FilesTold) (book : Book) (rest : List Move) → AllStand sizes self.old book →
-            CutsIn sizes (state_of self.old book) self.new (world_of f (S.told out.old) self.old) (world_of f (S.told out.new) self.new) (check_moves self.old (page_of self.old book) check found rest) b) }
+        ensures on { IfOk result (λ on. on ≡ true → GoesBehind self.old self.new (S.told out.old) (S.told out.new) (λ p space. check_moves self.old p check found space)) }
+        ensures last { IfOk result (λ on. on ≡ false → EndsReading self.old self.new (S.told out.old) (S.told out.new) (λ p rest. check_moves self.old p check found rest)) }
+        ensures err { IfErr result (CutsReading self.old self.new (S.told out.old) (S.told out.new) (λ p rest. check_moves self.old p check found rest)) }
         ensures halts { IfOk result (λ on. on ≡ false → SameFrames self.old self.new) }
         ensures still { OnOk result (weight self.new ≡ weight self.old) }
         ensures readings { SameReadings self.old self.new }
@@ -232,8 +228,7 @@ impl Engine {
         requires asked { IsFound found self.old }
         ensures rule { IfOk result (λ met. (sizes : Sizes) (f : FilesTold) (book : Book) (want : Want) → Takes sizes (Some want) self.old book →
             Meets sizes (Some want) (state_of self.old book) self.new book (world_of f (S.told out.old) self.old) (world_of f (S.told out.new) self.new) (put_one token ++ check_moves self.old (page_of self.old book) Forbidden found (space_moves (page_of self.old book) (Some want) book.work)) met) }
-        ensures err { IfErr result (λ b. (sizes : Sizes) (f : FilesTold) (book : Book) (rest : List Move) → AllStand sizes self.old book →
-            CutsIn sizes (state_of self.old book) self.new (world_of f (S.told out.old) self.old) (world_of f (S.told out.new) self.new) (put_one token ++ check_moves self.old (page_of self.old book) Forbidden found rest) b) }
+        ensures err { IfErr result (CutsReading self.old self.new (S.told out.old) (S.told out.new) (λ p rest. put_one token ++ check_moves self.old p Forbidden found rest)) }
         ensures halts { IfOk result (λ met. met ≡ None → SameFrames self.old self.new) }
         ensures readings { SameReadings self.old self.new }
         ensures idle { OnOk result (self.new.input.making ≡ None) }
@@ -275,10 +270,8 @@ impl Engine {
     /// The check where a file has ended.
     pub(crate) fn check<S: Sink>(&mut self, out: &mut S) -> Result<Ruled, Broken>
         requires idle { self.old.input.making ≡ None }
-        ensures rule { IfOk result (λ ruled. (sizes : Sizes) (f : FilesTold) (book : Book) → Wants sizes self.old book →
-            DoesOnward sizes (state_of self.old book) self.new book (world_of f (S.told out.old) self.old) (world_of f (S.told out.new) self.new) (checked (page_of self.old book) (scanning_of self.old book.work)) ruled) }
-        ensures err { IfErr result (λ b. (sizes : Sizes) (f : FilesTold) (book : Book) → Wants sizes self.old book →
-            CutsIn sizes (state_of self.old book) self.new (world_of f (S.told out.old) self.old) (world_of f (S.told out.new) self.new) (checked (page_of self.old book) (scanning_of self.old book.work)) b) }
+        ensures rule { IfOk result (DoesWhere Wants DoesOnward self.old self.new (S.told out.old) (S.told out.new) (λ book. checked (page_of self.old book) (scanning_of self.old book.work))) }
+        ensures err { IfErr result (CutsWhere Wants self.old self.new (S.told out.old) (S.told out.new) (λ book. checked (page_of self.old book) (scanning_of self.old book.work))) }
         ensures halts { IfOk result (λ ruled. IsHalted ruled → SameFrames self.old self.new) }
         ensures still { OnOk result (weight self.new ≡ weight self.old) }
         ensures on { IfOk result (λ ruled. IsFree ruled → ⊥) }

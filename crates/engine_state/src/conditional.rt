@@ -9,8 +9,8 @@ ghost use Rattle.plain_machine.specs.States.{ConditionOpened, LimitSet, Conditio
 ghost use Rattle.plain_machine.specs.Plan.{conditionals_left, tokens_meant};
 ghost use Rattle.plain_machine.specs.Does.{Did};
 ghost use Rattle.engine_state.specs.Book.{Book};
-ghost use Rattle.engine_state.specs.Clauses.{Still, MakesMoves, CutsMoves, WritesOut, CutsWriting};
-ghost use Rattle.engine_state.specs.Stands.{Stands, IsSized, IsSound, OnlyColumn, SameFrames, state_of, page_of, own_style};
+ghost use Rattle.engine_state.specs.Clauses.{Still, MakesMoves, CutsMoves, WritesOut, CutsWriting, WhereSound};
+ghost use Rattle.engine_state.specs.Stands.{Stands, IsSized, OnlyColumn, SameFrames, state_of, page_of, own_style};
 ghost use Rattle.engine_state.specs.declared.broken.Broken.TheVariants as broken;
 
 use crate::broken::Broken;
@@ -82,8 +82,7 @@ impl Engine {
     /// Whether two tokens are the same to `\ifx`: by what they mean, and of macros by the tokens of their lists. *The TeXbook*, chapter 20;
     /// *TeX: The Program*, part 28 ("Test if two tokens match").
     pub fn is_same(&self, x: Seen, y: Seen) -> bool
-        ensures { (sizes : Sizes) (book : Book) → IsSound sizes self.now book.number book.all_lists →
-            result ≡ same.same_meaning x.meaning y.meaning (are_same (tokens_meant (page_of self.now book) x) (tokens_meant (page_of self.now book) y)) }
+        ensures { WhereSound self.now (λ book. result ≡ same.same_meaning x.meaning y.meaning (are_same (tokens_meant (page_of self.now book) x) (tokens_meant (page_of self.now book) y))) }
     {
         let same_list = self.input.same_list(x, y);
         same_meaning(x.meaning, y.meaning, same_list)

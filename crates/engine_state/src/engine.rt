@@ -4,13 +4,11 @@ ghost use Rattle.tex_defs.specs.Sizes.{first_out_of_range};
 ghost use Rattle.tex_defs.specs.declared.Sizes.{Sizes};
 ghost use Rattle.plain_machine.specs.Demands.{words};
 ghost use Rattle.plain_machine.specs.States.{Kept};
-ghost use Rattle.engine_state.specs.Book.{Book};
-ghost use Rattle.engine_state.specs.Clauses.{Still, MakesMoves, CutsMoves};
-ghost use Rattle.engine_state.specs.Stands.{Stands, IsSized, IsSound, SameFrames, state_of};
+ghost use Rattle.engine_state.specs.Clauses.{Still, MakesMoves, CutsMoves, WhereSound};
+ghost use Rattle.engine_state.specs.Stands.{Stands, IsSized, SameFrames, state_of};
 ghost use Rattle.engine_state.specs.First.{Begins};
 
 use crate::broken::Broken;
-use crate::call::Call;
 use conditionals::Conditionals;
 use input_state::Input;
 use name_table::NameTable;
@@ -24,10 +22,8 @@ pub struct Engine {
     /// What is pending, all lists, and what stands at all locations.
     pub input: Input,
     pub names: NameTable,
-    /// The open readings but a call's.
+    /// The open readings but that of a call that gathers its arguments: it is the innermost, and stands in the input.
     pub readings: Readings,
-    /// The call that gathers its arguments, if one does: the innermost reading.
-    pub call: Option<Call>,
     /// The token that `\\afterassignment` keeps.
     pub after: Option<Token>,
     /// The magnification that a check has set for good, or 0 before the first: TeX's `mag_set`.
@@ -106,7 +102,6 @@ impl Engine {
             input,
             names,
             readings,
-            call: None,
             after: None,
             mag_set: 0,
             conditionals,
@@ -127,7 +122,6 @@ impl Engine {
             input,
             names: _,
             readings: _,
-            call: _,
             after: _,
             mag_set: _,
             conditionals: _,
@@ -165,7 +159,7 @@ impl Engine {
 
     /// The words of main memory that are used.
     pub fn words(&self) -> u32
-        ensures { (sizes : Sizes) (book : Book) → IsSound sizes self.now book.number book.all_lists → result ≡ words (state_of self.now book) }
+        ensures { WhereSound self.now (λ book. result ≡ words (state_of self.now book)) }
     {
         self.input.words()
     }

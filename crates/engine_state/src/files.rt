@@ -9,15 +9,14 @@ ghost use Rattle.plain_tokens.specs.Tables.{open_lines};
 ghost use Rattle.input_state.specs.Stored.{spelt};
 ghost use Rattle.equivalents.specs.Parameters.{end_of_line};
 ghost use Rattle.plain_machine.specs.States.{FileEnds};
-ghost use Rattle.plain_machine.specs.Plan.{ruled, reports_room, unless_found};
+ghost use Rattle.plain_machine.specs.Plan.{ruled, unless_found};
 ghost use Rattle.engine_state.specs.Begins.{no_file_end};
 ghost use Rattle.plain_machine.specs.Does.{Did};
-ghost use Rattle.world_io.specs.Contents.{FilesTold};
 ghost use Rattle.engine_state.specs.Book.{Book};
 ghost use Rattle.engine_state.specs.Calls.{AllStand};
-ghost use Rattle.engine_state.specs.Clauses.{Still};
-ghost use Rattle.engine_state.specs.Stands.{IsSound, SameFrames, state_of, page_of};
-ghost use Rattle.engine_state.specs.Rules.{world_of, counted, Cuts, Halts};
+ghost use Rattle.engine_state.specs.Clauses.{Still, CutsWithRoom, EndsRun};
+ghost use Rattle.engine_state.specs.Stands.{IsSound, SameFrames, state_of};
+ghost use Rattle.engine_state.specs.Rules.{counted, Cuts};
 
 use crate::broken::Broken;
 use crate::engine::Engine;
@@ -60,10 +59,8 @@ impl Engine {
     /// # Errors
     /// A write failed or wanted memory: a front of the text was written.
     pub fn refuse_file<S: Sink>(&mut self, out: &mut S, name: &[u8]) -> Result<Outcome, Broken>
-        ensures run { IfOk result (λ o. (sizes : Sizes) (f : FilesTold) (book : Book) →
-            Halts sizes (state_of self.old book) self.new book (world_of f (S.told out.old) self.old) (world_of f (S.told out.new) self.new) (unless_found (page_of self.old book) name.now None) o 0) }
-        ensures err { IfErr result (λ b. (sizes : Sizes) (f : FilesTold) (book : Book) → self.old.reports ≤ reports_room →
-            Cuts sizes (state_of self.old book) self.new book (world_of f (S.told out.old) self.old) (world_of f (S.told out.new) self.new) (unless_found (page_of self.old book) name.now None) b) }
+        ensures run { IfOk result (EndsRun self.old self.new (S.told out.old) (S.told out.new) (λ page. unless_found page name.now None)) }
+        ensures err { IfErr result (CutsWithRoom self.old self.new (S.told out.old) (S.told out.new) (λ page. unless_found page name.now None)) }
         ensures frames { SameFrames self.old self.new }
         ensures input { self.new.input ≡ self.old.input }
         ensures fatal { IfOk result (λ o. (fatal : Fatal) × (o ≡ AtFatal fatal)) }
@@ -83,10 +80,8 @@ impl Engine {
     /// A write failed or wanted memory: a front of the text was written.
     pub fn refuse_spelt<S: Sink>(&mut self, out: &mut S, count: usize) -> Result<Outcome, Broken>
         requires { open_lines self.old.input.pending + count ≤ self.old.input.sizes.buffer_size }
-        ensures run { IfOk result (λ o. (sizes : Sizes) (f : FilesTold) (book : Book) →
-            Halts sizes (state_of self.old book) self.new book (world_of f (S.told out.old) self.old) (world_of f (S.told out.new) self.new) (unless_found (page_of self.old book) (spelt self.old.input count) None) o 0) }
-        ensures err { IfErr result (λ b. (sizes : Sizes) (f : FilesTold) (book : Book) → self.old.reports ≤ reports_room →
-            Cuts sizes (state_of self.old book) self.new book (world_of f (S.told out.old) self.old) (world_of f (S.told out.new) self.new) (unless_found (page_of self.old book) (spelt self.old.input count) None) b) }
+        ensures run { IfOk result (EndsRun self.old self.new (S.told out.old) (S.told out.new) (λ page. unless_found page (spelt self.old.input count) None)) }
+        ensures err { IfErr result (CutsWithRoom self.old self.new (S.told out.old) (S.told out.new) (λ page. unless_found page (spelt self.old.input count) None)) }
         ensures frames { SameFrames self.old self.new }
         ensures input { self.new.input ≡ self.old.input }
         ensures fatal { IfOk result (λ o. (fatal : Fatal) × (o ≡ AtFatal fatal)) }
@@ -108,10 +103,8 @@ impl Engine {
 
     /// The report that a file isn't held was written: it is counted, and the run ends.
     fn end_refused<S: Sink>(&mut self, out: &mut S) -> Result<Outcome, Broken>
-        ensures run { IfOk result (λ o. (sizes : Sizes) (f : FilesTold) (book : Book) →
-            Halts sizes (state_of self.old book) self.new book (world_of f (S.told out.old) self.old) (world_of f (S.told out.new) self.new) (counted (page_of self.old book) (no_file_end (page_of self.old book))) o 0) }
-        ensures err { IfErr result (λ b. (sizes : Sizes) (f : FilesTold) (book : Book) → self.old.reports ≤ reports_room →
-            Cuts sizes (state_of self.old book) self.new book (world_of f (S.told out.old) self.old) (world_of f (S.told out.new) self.new) (counted (page_of self.old book) (no_file_end (page_of self.old book))) b) }
+        ensures run { IfOk result (EndsRun self.old self.new (S.told out.old) (S.told out.new) (λ page. counted page (no_file_end page))) }
+        ensures err { IfErr result (CutsWithRoom self.old self.new (S.told out.old) (S.told out.new) (λ page. counted page (no_file_end page))) }
         ensures frames { SameFrames self.old self.new }
         ensures input { self.new.input ≡ self.old.input }
         ensures fatal { IfOk result (λ o. (fatal : Fatal) × (o ≡ AtFatal fatal)) }

@@ -6,7 +6,6 @@
 #![tactic(auto)]
 
 mod broken;
-mod call;
 mod check;
 mod conditional;
 mod engine;
@@ -25,7 +24,6 @@ mod views;
 mod writing;
 
 pub use broken::Broken;
-pub use call::{Call, CallAsk};
 pub use check::PAR;
 pub use engine::Engine;
 pub use meaning::name_of;

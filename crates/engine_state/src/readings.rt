@@ -17,14 +17,13 @@ ghost use Rattle.input_state.specs.Stored.{KeepsShared, words as stored_words};
 ghost use Rattle.reading_frames.specs.Weights.{frames_weight, opening_frame, innermost_weight, begun_weight, begun_with_weight, IsReported};
 ghost use Rattle.reading_frames.specs.Stack.{asks_in, innermost_groups};
 ghost use Rattle.plain_machine.specs.States.{Begun, BegunWith, Closed, Ended, Feeds, made};
-ghost use Rattle.plain_machine.specs.Demands.{refusal};
 ghost use Rattle.plain_machine.specs.Plan.{noting, value_tokens, feeding};
 ghost use Rattle.plain_machine.specs.Does.{Did};
 ghost use Rattle.engine_state.specs.Book.{Book, with_work};
-ghost use Rattle.engine_state.specs.Clauses.{CutsAtReading};
+ghost use Rattle.engine_state.specs.Clauses.{CutsAtReading, IsMadeBy, RefusedAs, StandsFor};
 ghost use Rattle.engine_state.specs.CutReadings.{with_token};
 ghost use Rattle.engine_state.specs.Feeding.{HasTop, IsKept, TokensFit, TokensCut, with_tokens};
-ghost use Rattle.engine_state.specs.Stands.{Stands, Counts, IsSound, SameBut, state_of, page_of, depth, depth_full};
+ghost use Rattle.engine_state.specs.Stands.{Stands, IsSound, SameBut, state_of, page_of, depth, depth_full};
 ghost use Rattle.engine_state.specs.Rules.{feeds_of};
 ghost use Rattle.engine_state.specs.Steps.{asked};
 ghost use Rattle.engine_state.specs.declared.broken.Broken.TheVariants as broken;
@@ -61,7 +60,7 @@ impl Engine {
         ensures is { result ≡ depth self.now }
         ensures within { result ≤ self.now.readings.size + 1 }
     {
-        u64::from(self.readings.count()) + u64::from(self.call.is_some())
+        u64::from(self.readings.count()) + u64::from(self.input.call().is_some())
     }
 
     /// Why there is no room for one more reading.
@@ -86,10 +85,10 @@ impl Engine {
     /// # Errors
     /// There is no room for one more reading, or for its list; nothing has changed.
     pub fn begin(&mut self, opening: Opening) -> Result<(), Full>
-        ensures stands { OnOk result ((sizes : Sizes) (book : Book) → Stands sizes self.old book → Stands sizes self.new (with_work (opened (kind_of opening) book.work) book)) }
-        ensures state { OnOk result ((sizes : Sizes) (book : Book) → Stands sizes self.old book → made (Begun (kind_of opening)) (state_of self.old book) ≡ state_of self.new (with_work (opened (kind_of opening) book.work) book)) }
-        ensures fits { OnOk result ((sizes : Sizes) (book : Book) → Counts sizes self.old book → refusal sizes (Begun (kind_of opening)) (state_of self.old book) ≡ None) }
-        ensures refused { IfErr result (λ full. (sizes : Sizes) (book : Book) → Counts sizes self.old book → refusal sizes (Begun (kind_of opening)) (state_of self.old book) ≡ Some full) }
+        ensures stands { OnOk result (StandsFor self.old self.new (opened (kind_of opening))) }
+        ensures state { OnOk result (IsMadeBy self.old self.new (λ _. Begun (kind_of opening)) (λ _ work. opened (kind_of opening) work)) }
+        ensures fits { OnOk result (RefusedAs self.old (Begun (kind_of opening)) None) }
+        ensures refused { IfErr result (λ full. RefusedAs self.old (Begun (kind_of opening)) (Some full)) }
         ensures err { OnErr result (self.new ≡ self.old) }
         ensures same { SameBut self.old self.new }
         ensures weight { OnOk result (innermost_weight self.new.readings.frames ≤ begun_weight opening) }
@@ -115,10 +114,10 @@ impl Engine {
     /// # Errors
     /// There is no room for one more reading, or for its list; nothing has changed.
     pub fn begin_with(&mut self, opening: Opening) -> Result<(), Full>
-        ensures stands { OnOk result ((sizes : Sizes) (book : Book) → Stands sizes self.old book → Stands sizes self.new (with_work (opened_with (kind_of opening) (Tok self.old.last) book.work) book)) }
-        ensures state { OnOk result ((sizes : Sizes) (book : Book) → Stands sizes self.old book → made (BegunWith (kind_of opening)) (state_of self.old book) ≡ state_of self.new (with_work (opened_with (kind_of opening) (Tok self.old.last) book.work) book)) }
-        ensures fits { OnOk result ((sizes : Sizes) (book : Book) → Counts sizes self.old book → refusal sizes (BegunWith (kind_of opening)) (state_of self.old book) ≡ None) }
-        ensures refused { IfErr result (λ full. (sizes : Sizes) (book : Book) → Counts sizes self.old book → refusal sizes (BegunWith (kind_of opening)) (state_of self.old book) ≡ Some full) }
+        ensures stands { OnOk result (StandsFor self.old self.new (opened_with (kind_of opening) (Tok self.old.last))) }
+        ensures state { OnOk result (IsMadeBy self.old self.new (λ _. BegunWith (kind_of opening)) (λ _ work. opened_with (kind_of opening) (Tok self.old.last) work)) }
+        ensures fits { OnOk result (RefusedAs self.old (BegunWith (kind_of opening)) None) }
+        ensures refused { IfErr result (λ full. RefusedAs self.old (BegunWith (kind_of opening)) (Some full)) }
         ensures err { OnErr result (self.new ≡ self.old) }
         ensures same { SameBut self.old self.new }
         ensures weight { OnOk result (innermost_weight self.new.readings.frames ≤ begun_with_weight opening) }
@@ -147,12 +146,12 @@ impl Engine {
     /// The main memory is full before a token that goes into its list; one in front of it may be there, and the frame stands as before.
     #[inline(always)]
     pub fn feed(&mut self, x: Seen) -> Result<(), Full>
-        ensures stands { OnOk result ((sizes : Sizes) (book : Book) → Stands sizes self.old book → Stands sizes self.new (with_work (fed_with (Tok x) book.work) book)) }
+        ensures stands { OnOk result (StandsFor self.old self.new (fed_with (Tok x))) }
         ensures did { OnOk result ((sizes : Sizes) (w : World) (book : Book) (r : Reading) (rs : List Reading) → Stands sizes self.old (with_work (r ∷ rs) book) → Did sizes (state_of self.old (with_work (r ∷ rs) book)) (state_of self.new (with_work (fed_with (Tok x) (r ∷ rs)) book)) w w (feeds_of (r ∷ rs) x)) }
         ensures refused { IfErr result (λ full. CutsAtReading self.old self.new (λ _ r. feeding r x) (broken.Full full)) }
         ensures column { self.new.in_line ≡ self.old.in_line }
         ensures idle { self.new.input.making ≡ self.old.input.making }
-        ensures call { self.new.call ≡ self.old.call }
+        ensures call { self.new.input.call ≡ self.old.input.call }
     {
         // No more groups are open than there are words.
         let _used = self.input.words();
@@ -179,12 +178,12 @@ impl Engine {
     #[inline(never)]
     fn feed_at_risk(&mut self, x: Seen) -> Result<(), Full>
         requires { innermost_groups self.old.readings.frames + 1 < 2 ^ 64 }
-        ensures stands { OnOk result ((sizes : Sizes) (book : Book) → Stands sizes self.old book → Stands sizes self.new (with_work (fed_with (Tok x) book.work) book)) }
+        ensures stands { OnOk result (StandsFor self.old self.new (fed_with (Tok x))) }
         ensures did { OnOk result ((sizes : Sizes) (w : World) (book : Book) (r : Reading) (rs : List Reading) → Stands sizes self.old (with_work (r ∷ rs) book) → Did sizes (state_of self.old (with_work (r ∷ rs) book)) (state_of self.new (with_work (fed_with (Tok x) (r ∷ rs)) book)) w w (feeds_of (r ∷ rs) x)) }
         ensures refused { IfErr result (λ full. CutsAtReading self.old self.new (λ _ r. feeding r x) (broken.Full full)) }
         ensures column { self.new.in_line ≡ self.old.in_line }
         ensures idle { self.new.input.making ≡ self.old.input.making }
-        ensures call { self.new.call ≡ self.old.call }
+        ensures call { self.new.input.call ≡ self.old.input.call }
     {
         let kept = self.frame_at_risk();
         let grown = self.readings.feed(x);
@@ -201,7 +200,7 @@ impl Engine {
     /// # Errors
     /// The main memory is full; as [`Engine::feed`].
     pub fn note(&mut self) -> Result<(), Full>
-        ensures stands { OnOk result ((sizes : Sizes) (book : Book) → Stands sizes self.old book → Stands sizes self.new (with_work (fed_with Told book.work) book)) }
+        ensures stands { OnOk result (StandsFor self.old self.new (fed_with Told)) }
         ensures did { OnOk result ((sizes : Sizes) (w : World) (book : Book) (r : Reading) (rs : List Reading) → Stands sizes self.old (with_work (r ∷ rs) book) → Did sizes (state_of self.old (with_work (r ∷ rs) book)) (state_of self.new (with_work (fed_with Told (r ∷ rs)) book)) w w (noting r)) }
         ensures refused { IfErr result (λ full. CutsAtReading self.old self.new (λ _ r. noting r) (broken.Full full)) }
         ensures weight { OnOk result (IsReported (asks_in self.old.readings.frames []) → innermost_weight self.new.readings.frames < innermost_weight self.old.readings.frames) }
@@ -210,7 +209,7 @@ impl Engine {
         ensures same { OnOk result (SameBut self.old self.new) }
         ensures column { self.new.in_line ≡ self.old.in_line }
         ensures idle { self.new.input.making ≡ self.old.input.making }
-        ensures call { self.new.call ≡ self.old.call }
+        ensures call { self.new.input.call ≡ self.old.input.call }
     {
         let kept = self.frame_at_risk();
         let grown = self.readings.told();
@@ -225,7 +224,7 @@ impl Engine {
     pub fn fetch(&mut self, loc: Loc)
         requires within { IsLocation self.old.input.groups loc }
         ensures stands { (sizes : Sizes) (book : Book) → Stands sizes self.old book → Stands sizes self.new (with_work (fed_with (Fetched (value_seen (get (page_of self.old book).now loc))) book.work) book) }
-        ensures state { (sizes : Sizes) (book : Book) → Stands sizes self.old book → made (Feeds (Fetched (value_seen (get (page_of self.old book).now loc)))) (state_of self.old book) ≡ state_of self.new (with_work (fed_with (Fetched (value_seen (get (page_of self.old book).now loc))) book.work) book) }
+        ensures state { IsMadeBy self.old self.new (λ page. Feeds (Fetched (value_seen (get page.now loc)))) (λ page work. fed_with (Fetched (value_seen (get page.now loc))) work) }
         ensures same { SameBut self.old self.new }
         ensures weight { asks_in self.old.readings.frames [] ≡ Some (Fetches loc) → innermost_weight self.new.readings.frames < innermost_weight self.old.readings.frames }
         ensures count { length self.new.readings.frames ≡ length self.old.readings.frames }

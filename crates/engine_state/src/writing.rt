@@ -1,5 +1,5 @@
 // What the engine writes.
-ghost use Rattle.std.specs.Prelude.{◌≡◌, ◌≤◌, ◌<◌, length, List, [], ◌∷◌, ◌++◌, IfOk, IfErr, OnOk, None, true, false};
+ghost use Rattle.std.specs.Prelude.{◌≡◌, ◌<◌, length, [], ◌∷◌, IfOk, IfErr, OnOk, None, true, false};
 ghost use Rattle.tex_syntax.specs.declared.words.Scanned.TheVariants as scanned;
 ghost use Rattle.tex_defs.specs.Places.{Transcript};
 ghost use Rattle.tex_defs.specs.declared.Sizes.{Sizes};
@@ -11,18 +11,16 @@ ghost use Rattle.plain_tokens.specs.Meanings.{meaning_to_let};
 ghost use Rattle.plain_tokens.specs.Numerals.{whole_number};
 ghost use Rattle.plain_tokens.specs.Printed.{meaning_tokens};
 ghost use Rattle.plain_state.specs.Reports.{report_bytes, message_bytes, error_message_bytes, runaway_bytes, shown_meaning_bytes, shown_value_bytes};
-ghost use Rattle.plain_machine.specs.States.{Move, Written};
-ghost use Rattle.plain_machine.specs.Plan.{reported, reported_as, token_line, reports_room, shared_tokens, shown, standing_shown, value_shown};
-ghost use Rattle.plain_machine.specs.Does.{Did};
-ghost use Rattle.world_io.specs.Contents.{FilesTold};
+ghost use Rattle.plain_machine.specs.States.{Written};
+ghost use Rattle.plain_machine.specs.Plan.{reported, reported_as, token_line, shared_tokens, shown, standing_shown, value_shown};
 ghost use Rattle.reading_frames.specs.Views.{kept_list_of};
 ghost use Rattle.engine_state.specs.Book.{Book};
 ghost use Rattle.engine_state.specs.Calls.{AllStand, argument_bytes};
 ghost use Rattle.engine_state.specs.Lists.{location_list};
 ghost use Rattle.engine_state.specs.Begins.{outcome_of_last, last_moves, last_bytes, last_written};
-ghost use Rattle.engine_state.specs.Clauses.{WritesOut, CutsWriting, EndsAtHundredth, CutsReport};
-ghost use Rattle.engine_state.specs.Stands.{IsSized, IsSound, SameFrames, OnlyColumn, state_of, page_of, own_style};
-ghost use Rattle.engine_state.specs.Rules.{world_of, nth_list, counted, CountsOn, Cuts, Reports, ReportsAs, DoesOnward};
+ghost use Rattle.engine_state.specs.Clauses.{WritesOut, CutsWriting, EndsAtHundredth, CutsReport, CutsWithRoom, CutsWritingWhere, DoesWhere, HoldsLists, WritesWhere, DoesAlways, ReportsSo};
+ghost use Rattle.engine_state.specs.Stands.{IsSized, SameFrames, OnlyColumn, page_of, own_style};
+ghost use Rattle.engine_state.specs.Rules.{nth_list, counted, CountsOn, Cuts, Reports, ReportsAs, DoesOnward};
 ghost use Rattle.engine_state.specs.Steps.{IsFree};
 ghost use Rattle.engine_state.specs.declared.outcome.Ruled.TheVariants.{Halted};
 
@@ -147,7 +145,7 @@ impl Engine {
     /// A write failed or wanted memory: a front of the text was written.
     pub fn token_line<S: Sink>(&mut self, out: &mut S, meaning: Meaning<()>) -> Result<(), Broken>
         ensures did { OnOk result (WritesOut self.old self.new (S.told out.old) (S.told out.new) (λ page. token_line page meaning)) }
-        ensures err { IfErr result (λ b. (sizes : Sizes) (f : FilesTold) (book : Book) → Cuts sizes (state_of self.old book) self.new book (world_of f (S.told out.old) self.old) (world_of f (S.told out.new) self.new) (token_line (page_of self.old book) meaning) b) }
+        ensures err { IfErr result (DoesAlways Cuts self.old self.new (S.told out.old) (S.told out.new) (λ book. token_line (page_of self.old book) meaning)) }
         ensures only { OnlyColumn self.old self.new }
     {
         if self.quiet {
@@ -164,8 +162,7 @@ impl Engine {
     /// A write failed or wanted memory: a front of the report was written, which isn't counted, or the report is counted and a front of the
     /// last line written, which comes behind the hundredth.
     pub fn report<S: Sink>(&mut self, out: &mut S, report: Report) -> Result<bool, Broken>
-        ensures on { IfOk result (λ on. on ≡ true → (sizes : Sizes) (f : FilesTold) (book : Book) (rest : List Move) →
-            Reports sizes (state_of self.old book) (state_of self.new book) (world_of f (S.told out.old) self.old) (world_of f (S.told out.new) self.new) (page_of self.old book) report rest) }
+        ensures on { IfOk result (λ on. on ≡ true → ReportsSo (λ sizes s t w v page rest. Reports sizes s t w v page report rest) self.old self.new (S.told out.old) (S.told out.new)) }
         ensures last { IfOk result (λ on. on ≡ false → EndsAtHundredth self.old self.new (S.told out.old) (S.told out.new) (λ page rest. reported page report rest)) }
         ensures err { IfErr result (λ b. CutsReport self.old self.new (S.told out.old) (S.told out.new) (λ page rest. reported page report rest) b) }
         ensures frames { SameFrames self.old self.new }
@@ -182,8 +179,7 @@ impl Engine {
     /// # Errors
     /// As [`Engine::report`].
     pub fn report_as<S: Sink>(&mut self, out: &mut S, listed: bool) -> Result<bool, Broken>
-        ensures on { IfOk result (λ on. on ≡ true → (sizes : Sizes) (f : FilesTold) (book : Book) (rest : List Move) →
-            ReportsAs sizes (state_of self.old book) (state_of self.new book) (world_of f (S.told out.old) self.old) (world_of f (S.told out.new) self.new) (page_of self.old book) (kept_list_of listed self.old.input.builds) rest) }
+        ensures on { IfOk result (λ on. on ≡ true → ReportsSo (λ sizes s t w v page rest. ReportsAs sizes s t w v page (kept_list_of listed self.old.input.builds) rest) self.old self.new (S.told out.old) (S.told out.new)) }
         ensures last { IfOk result (λ on. on ≡ false → EndsAtHundredth self.old self.new (S.told out.old) (S.told out.new) (λ page rest. reported_as page (kept_list_of listed self.old.input.builds) rest)) }
         ensures err { IfErr result (λ b. CutsReport self.old self.new (S.told out.old) (S.told out.new) (λ page rest. reported_as page (kept_list_of listed self.old.input.builds) rest) b) }
         ensures frames { SameFrames self.old self.new }
@@ -196,8 +192,7 @@ impl Engine {
 
     /// Counts a report, and writes the last line behind the hundredth. Answers whether the run goes on.
     pub(crate) fn count_report<S: Sink>(&mut self, out: &mut S) -> Result<bool, Broken>
-        ensures on { IfOk result (λ on. on ≡ true → (sizes : Sizes) (f : FilesTold) (book : Book) (rest : List Move) →
-            CountsOn sizes (state_of self.old book) (state_of self.new book) (world_of f (S.told out.old) self.old) (world_of f (S.told out.new) self.new) (page_of self.old book) rest) }
+        ensures on { IfOk result (λ on. on ≡ true → ReportsSo CountsOn self.old self.new (S.told out.old) (S.told out.new)) }
         ensures last { IfOk result (λ on. on ≡ false → EndsAtHundredth self.old self.new (S.told out.old) (S.told out.new) counted) }
         ensures err { IfErr result (λ b. CutsReport self.old self.new (S.told out.old) (S.told out.new) counted b) }
         ensures frames { SameFrames self.old self.new }
@@ -246,8 +241,8 @@ impl Engine {
     /// # Errors
     /// A write failed or wanted memory: a front of the text was written.
     pub fn show<S: Sink>(&mut self, out: &mut S, x: Seen) -> Result<(), Broken>
-        ensures did { OnOk result ((sizes : Sizes) (f : FilesTold) (book : Book) → IsSound sizes self.old book.number book.all_lists → Did sizes (state_of self.old book) (state_of self.new book) (world_of f (S.told out.old) self.old) (world_of f (S.told out.new) self.new) (shown (page_of self.old book) x)) }
-        ensures err { IfErr result (λ b. (sizes : Sizes) (f : FilesTold) (book : Book) (more : List Move) → IsSound sizes self.old book.number book.all_lists → Cuts sizes (state_of self.old book) self.new book (world_of f (S.told out.old) self.old) (world_of f (S.told out.new) self.new) (shown (page_of self.old book) x ++ more) b) }
+        ensures did { OnOk result (WritesWhere HoldsLists self.old self.new (S.told out.old) (S.told out.new) (λ page. shown page x)) }
+        ensures err { IfErr result (λ b. CutsWritingWhere HoldsLists self.old self.new (S.told out.old) (S.told out.new) (λ page. shown page x) b) }
         ensures only { self.new ≡ record self.old { in_line = self.new.in_line; flawed = self.new.flawed } }
         ensures frames { SameFrames self.old self.new }
     {
@@ -306,8 +301,8 @@ impl Engine {
     /// A write failed or wanted memory: a front of the text was written.
     pub fn show_value<S: Sink>(&mut self, out: &mut S, loc: Loc) -> Result<(), Broken>
         requires there { IsLocation self.old.input.groups loc }
-        ensures did { OnOk result ((sizes : Sizes) (f : FilesTold) (book : Book) → IsSound sizes self.old book.number book.all_lists → Did sizes (state_of self.old book) (state_of self.new book) (world_of f (S.told out.old) self.old) (world_of f (S.told out.new) self.new) (standing_shown (page_of self.old book) loc)) }
-        ensures err { IfErr result (λ b. (sizes : Sizes) (f : FilesTold) (book : Book) (more : List Move) → IsSound sizes self.old book.number book.all_lists → Cuts sizes (state_of self.old book) self.new book (world_of f (S.told out.old) self.old) (world_of f (S.told out.new) self.new) (standing_shown (page_of self.old book) loc ++ more) b) }
+        ensures did { OnOk result (WritesWhere HoldsLists self.old self.new (S.told out.old) (S.told out.new) (λ page. standing_shown page loc)) }
+        ensures err { IfErr result (λ b. CutsWritingWhere HoldsLists self.old self.new (S.told out.old) (S.told out.new) (λ page. standing_shown page loc) b) }
         ensures only { self.new ≡ record self.old { in_line = self.new.in_line; flawed = self.new.flawed } }
         ensures frames { SameFrames self.old self.new }
     {
@@ -322,10 +317,8 @@ impl Engine {
     /// As [`Engine::report`].
     pub fn report_only<S: Sink>(&mut self, out: &mut S, report: Report) -> Result<Ruled, Broken>
         requires idle { self.old.input.making ≡ None }
-        ensures rule { IfOk result (λ ruled. (sizes : Sizes) (f : FilesTold) (book : Book) → AllStand sizes self.old book →
-            DoesOnward sizes (state_of self.old book) self.new book (world_of f (S.told out.old) self.old) (world_of f (S.told out.new) self.new) (reported (page_of self.old book) report []) ruled) }
-        ensures err { IfErr result (λ b. (sizes : Sizes) (f : FilesTold) (book : Book) → self.old.reports ≤ reports_room →
-            Cuts sizes (state_of self.old book) self.new book (world_of f (S.told out.old) self.old) (world_of f (S.told out.new) self.new) (reported (page_of self.old book) report []) b) }
+        ensures rule { IfOk result (DoesWhere AllStand DoesOnward self.old self.new (S.told out.old) (S.told out.new) (λ book. reported (page_of self.old book) report [])) }
+        ensures err { IfErr result (CutsWithRoom self.old self.new (S.told out.old) (S.told out.new) (λ page. reported page report [])) }
         ensures frames { SameFrames self.old self.new }
         ensures input { self.new.input ≡ self.old.input }
         ensures on { IfOk result (λ ruled. IsFree ruled → ⊥) }
@@ -369,9 +362,8 @@ impl Engine {
     /// A write failed or wanted memory: a front of what it writes was written.
     pub fn halt<S: Sink>(&mut self, out: &mut S, last: Last) -> Result<Ruled, Broken>
         requires idle { self.old.input.making ≡ None }
-        ensures rule { IfOk result (λ ruled. (sizes : Sizes) (f : FilesTold) (book : Book) →
-            DoesOnward sizes (state_of self.old book) self.new book (world_of f (S.told out.old) self.old) (world_of f (S.told out.new) self.new) (last_moves (page_of self.old book) last) ruled) }
-        ensures err { IfErr result (λ b. (sizes : Sizes) (f : FilesTold) (book : Book) → Cuts sizes (state_of self.old book) self.new book (world_of f (S.told out.old) self.old) (world_of f (S.told out.new) self.new) (last_moves (page_of self.old book) last) b) }
+        ensures rule { IfOk result (DoesAlways DoesOnward self.old self.new (S.told out.old) (S.told out.new) (λ book. last_moves (page_of self.old book) last)) }
+        ensures err { IfErr result (DoesAlways Cuts self.old self.new (S.told out.old) (S.told out.new) (λ book. last_moves (page_of self.old book) last)) }
         ensures ends { IfOk result (λ ruled. ruled ≡ Halted (outcome_of_last last)) }
         ensures frames { SameFrames self.old self.new }
         ensures input { self.new.input ≡ self.old.input }

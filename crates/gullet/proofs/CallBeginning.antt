@@ -30,14 +30,16 @@ use Rattle.macro_call.specs.PlainScans.{Scan, first_by, first_scan, scan_work}
 use Rattle.macro_call.proofs.PlainScans.{scans_gather}
 use Rattle.input_state.specs.declared.answer.CallKind.{CallKind}
 use Rattle.input_state.specs.declared.answer.CallKind.TheVariants as kind
+use Rattle.input_state.specs.declared.answer.Call.{Call}
 use Rattle.input_state.specs.Callings.{Calling, Gathering, call_lists, scan_lists}
+use Rattle.gullet.proofs.CallsIn.{first_asks}
 use Rattle.input_state.specs.Calls.{after_call, begun_lists, call_kind, called_put, macro_text, text_of}
 use Rattle.input_state.specs.Macros.{list_at}
 use Rattle.input_state.specs.Stored.{KeepsShared, call_refusal, words}
 use Rattle.engine_state.specs.declared.broken.Broken.TheVariants as broken
 use Rattle.engine_state.specs.declared.engine.Engine.{Engine}
 use Rattle.engine_state.specs.Book.{Book, with_work}
-use Rattle.engine_state.specs.Calls.{AllStand, CallStands, Gathers, HasWork, open_call}
+use Rattle.engine_state.specs.Calls.{AllStand, ReadingsStand, CallStands, Gathers, HasWork, open_call}
 use Rattle.engine_state.specs.Stands.{SameFrames, SameStore, Stands, state_of, page_of}
 use Rattle.engine_state.specs.Rules.{Cuts, Went}
 use Rattle.engine_state.proofs.Uncalled.{all_of}
@@ -216,7 +218,7 @@ module _ (sizes : Sizes) (e : Engine) (book : Book) (t : Token) (name : Name) (i
 
   -- the engine with the call, its lists as they were
   abbrev calling : Engine
-  calling = record e { call = Some (open_call name); input = record e.input { call = Gathering name scan } }
+  calling = record e { input = record e.input { call = Gathering name scan } }
 
   call_stands : has_parameters ts ≡ true → CallStands calling book.number (open_call name) (fresh K)
   call_stands places = record {
@@ -235,15 +237,15 @@ module _ (sizes : Sizes) (e : Engine) (book : Book) (t : Token) (name : Name) (i
   calling_stands places = record {
     sound = sound_still sizes e calling book.number book.all_lists refl refl refl refl refl (store_scan e.input calling.input (Gathering name scan) refl) st.sound;
     idle = st.idle;
-    all = (call_stands places, record { frames = st.readings.frames; shallow = st.readings.shallow });
+    all = subst (λ (o : Option Call). ReadingsStand o calling book.number (fresh K ∷ book.work)) (sym (first_asks name ts (mode_of h.long))) (call_stands places, record { frames = st.readings.frames; shallow = st.readings.shallow });
   }
 
-  module _ (long : Bool) (e2 : Engine) (same : long ≡ h.long) (after : e2 ≡ record e { call = Some (open_call name); input = record e.input { call = Gathering name (first_scan (text_of e.input.lists e.input.groups.now.meanings name) (mode_of long)); lists = e2.input.lists } }) (all_lists : KeepsShared e.input e2.input) where
+  module _ (long : Bool) (e2 : Engine) (same : long ≡ h.long) (after : e2 ≡ record e { input = record e.input { call = Gathering name (first_scan (text_of e.input.lists e.input.groups.now.meanings name) (mode_of long)); lists = e2.input.lists } }) (all_lists : KeepsShared e.input e2.input) where
     now : e2 ≡ record calling { input = record calling.input { lists = e2.input.lists } }
     now =
         after
-        ∙ ap (λ (b : Bool). record e { call = Some (open_call name); input = record e.input { call = Gathering name (first_scan (text_of e.input.lists e.input.groups.now.meanings name) (mode_of b)); lists = e2.input.lists } }) same
-        ∙ ap (λ (x : List Token). record e { call = Some (open_call name); input = record e.input { call = Gathering name (first_scan x (mode_of h.long)); lists = e2.input.lists } }) text_is
+        ∙ ap (λ (b : Bool). record e { input = record e.input { call = Gathering name (first_scan (text_of e.input.lists e.input.groups.now.meanings name) (mode_of b)); lists = e2.input.lists } }) same
+        ∙ ap (λ (x : List Token). record e { input = record e.input { call = Gathering name (first_scan x (mode_of h.long)); lists = e2.input.lists } }) text_is
 
     store : SameStore calling.input e2.input
     store = record {
@@ -259,8 +261,7 @@ module _ (sizes : Sizes) (e : Engine) (book : Book) (t : Token) (name : Name) (i
     frames_same = record {
       readings = ap (λ (y : Engine). y.readings) now;
       lists = ap (λ (y : Engine). y.input.builds) now;
-      call = ap (λ (y : Engine). y.call) now;
-      calling = ap (λ (y : Engine). y.input.call) now;
+      call = ap (λ (y : Engine). y.input.call) now;
     }
 
     begun_stands : has_parameters ts ≡ true → AllStand sizes e2 (with_work (fresh K ∷ book.work) book)
@@ -271,7 +272,7 @@ module _ (sizes : Sizes) (e : Engine) (book : Book) (t : Token) (name : Name) (i
 
     begun_state : made (Begun K) (state_of e book) ≡ state_of e2 (with_work (fresh K ∷ book.work) book)
     begun_state =
-        ap (λ (l : List (List Token)). record (state_of e book) { work = fresh K ∷ book.work; gathered = reading.lists K [] ++ l }) (ap (λ (k : Calling). call_lists k ++ e.input.builds) st.uncalled.input)
+        ap (λ (l : List (List Token)). record (state_of e book) { work = fresh K ∷ book.work; gathered = reading.lists K [] ++ l }) (ap (λ (k : Calling). call_lists k ++ e.input.builds) st.uncalled)
         ∙ ap (λ (l : List (List Token)). record (state_of e book) { work = fresh K ∷ book.work; gathered = l ++ e.input.builds }) (gathers_lists h.long ts scan [] (first_gathers h.long ts))
         ∙ ap (λ (y : Engine). state_of y (with_work (fresh K ∷ book.work) book)) (sym now)
 

@@ -28,7 +28,9 @@ use Rattle.macro_call.specs.Stages.{Stage, kept_in, read_in}
 use Rattle.macro_call.proofs.PlainScans.{scans_gather}
 use Rattle.input_state.specs.CallFeeds.{with_scan}
 use Rattle.input_state.specs.Callings as calls
-use Rattle.input_state.specs.Callings.{Calling, call_lists}
+use Rattle.input_state.specs.declared.answer.Call.{Call}
+use Rattle.input_state.specs.Callings.{Calling, call_lists, call_in}
+use Rattle.gullet.proofs.CallsIn.{settled_asks}
 use Rattle.input_state.specs.Macros.{list_at}
 use Rattle.engine_state.specs.declared.broken.Broken.{Broken}
 use Rattle.engine_state.specs.declared.engine.Engine.{Engine}
@@ -106,13 +108,13 @@ module _ (name : Name) (long : Bool) (text : List Token) (scan : Scan) (fed : Li
 pub record Braced (e : Engine) (number : ℕ → ℕ) (name : Name) (r : Reading) (k : Calling) : Type 0 where
   pub noted : noting r ≡ Feeds Told ∷ []
   pub lists : call_lists (with_scan settled_scan k) ≡ call_lists k
-  pub stands : (e' : Engine) → e' ≡ record e { call = Some (open_call name); input = record e.input { call = with_scan settled_scan k } } → CallStands e' number (open_call name) (record { kind = r.kind; fed = r.fed ++ Told ∷ [] })
+  pub stands : (e' : Engine) → e' ≡ record e { input = record e.input { call = with_scan settled_scan k } } → CallStands e' number (open_call name) (record { kind = r.kind; fed = r.fed ++ Told ∷ [] })
 
 braced : (e : Engine) (number : ℕ → ℕ) (name : Name) (r : Reading) → CallStands e number (brace_call name) r → Braced e number name r e.input.call
 braced e number name r h = by_calling e.input.call h.at h.asked h.holds where
   by_calling : (k : Calling) → IsTaking name h.long (list_at e.input.lists h.id) k r.fed → reading.Inserts par_token (reports.ExtraBrace name) true ≡ asked_by r.kind r.fed → lists_held r.kind r.fed ≡ call_lists k → Braced e number name r k
   by_calling calls.NotCalling where_it ask holds = absurd where_it
-  by_calling (calls.Stopped n scan) where_it ask holds = absurd where_it
+  by_calling (calls.Stopped n why scan) where_it ask holds = absurd where_it
   by_calling (calls.Gathered n args) where_it ask holds = absurd where_it
   by_calling (calls.Gathering n scan) where_it ask holds =
       let ts : List Token = list_at e.input.lists h.id in
@@ -186,7 +188,7 @@ module _ (sizes : Sizes) (e e1 e2 : Engine) (f : FilesTold) (s0 : SinkTold) (nam
             (halts_on sizes (state_of e W) (state_of e2 W) e3 W _ _ _ (put_one x.token ++ put_one par_token) (reported (page_of e book) (reports.ExtraBrace name) (Feeds Told ∷ [])) o 0 0 (ap (λ (p : Page). p.reports) page_same) both refl
             (subst (λ (p : Page). Halts sizes (state_of e2 W) e3 W (world_of f s0 e2) (world_of f s3 e3) (reported p (reports.ExtraBrace name) (Feeds Told ∷ [])) o 0) page_same h))
 
-        pub brace_went : (e4 : Engine) → e3.call ≡ Some (brace_call name) → AllStand sizes e3 W → e4 ≡ record e3 { call = Some (open_call name); input = record e3.input { call = with_scan settled_scan e3.input.call } } →
+        pub brace_went : (e4 : Engine) → call_in e3.input.call ≡ Some (brace_call name) → AllStand sizes e3 W → e4 ≡ record e3 { input = record e3.input { call = with_scan settled_scan e3.input.call } } →
             Reports sizes (state_of e2 W) (state_of e3 W) (world_of f s0 e2) (world_of f s3 e3) (page_of e2 W) (reports.ExtraBrace name) (Feeds Told ∷ []) → Went sizes (state_of e W) e4 (world_of f s0 e) (world_of f s3 e4) moves 0
         brace_went e4 is st after rep =
             let h : Reports sizes (state_of e2 W) (state_of e3 W) (world_of f s0 e2) (world_of f s3 e3) (page_of e W) (reports.ExtraBrace name) (Feeds Told ∷ []) =
@@ -204,7 +206,8 @@ module _ (sizes : Sizes) (e e1 e2 : Engine) (f : FilesTold) (s0 : SinkTold) (nam
                 sound = sound_still sizes e3 e4 book.number book.all_lists (ap (λ (y : Engine). y.sizes) after) (ap (λ (y : Engine). y.readings.size) after) (ap (λ (y : Engine). y.conditionals) after) (ap (λ (y : Engine). y.names) after) (ap (λ (y : Engine). y.reports) after)
                     (store_scan e3.input e4.input (with_scan settled_scan e3.input.call) (ap (λ (y : Engine). y.input) after)) st.sound;
                 idle = ap (λ (y : Engine). y.input.making) after ∙ st.idle;
-                all = subst (λ (y : Engine). ReadingsStand y.call y book.number work) (sym after) (b.stands _ refl, record { frames = k.1.frames; shallow = k.1.shallow });
+                all = subst (λ (y : Engine). ReadingsStand (call_in y.input.call) y book.number work) (sym after)
+                    (subst (λ (o : Option Call). ReadingsStand o (record e3 { input = record e3.input { call = with_scan settled_scan e3.input.call } }) book.number work) (sym (settled_asks name e3.input.call is)) (b.stands _ refl, record { frames = k.1.frames; shallow = k.1.shallow }));
               };
               did = did_join sizes _ _ _ _ _ _ (put_one x.token ++ put_one par_token) (written ++ Feeds Told ∷ []) both (did_join sizes _ _ _ _ _ _ written (Feeds Told ∷ []) h.did
                   (did_one sizes (Feeds Told) _ _ _ _ refl made_now (quiet_wrote (Feeds Told) f s3 e3.in_line e4.in_line tt (ap (λ (y : Engine). y.in_line) after))));

@@ -16,9 +16,9 @@ use Rattle.plain_machine.specs.Runs.{steps}
 use Rattle.plain_machine.proofs.Doing.{did_join, did_one}
 use Rattle.plain_machine.proofs.Joins.{steps_join}
 use Rattle.world_io.specs.Contents.{FilesTold, SinkTold}
-use Rattle.input_state.specs.Callings.{NotCalling, call_lists}
+use Rattle.input_state.specs.Callings.{NotCalling, call_lists, call_in}
 use Rattle.input_state.specs.Stored.{Stored, KeepsShared, gathered}
-use Rattle.engine_state.specs.declared.call.Call.{Call}
+use Rattle.input_state.specs.declared.answer.Call.{Call}
 use Rattle.engine_state.specs.declared.engine.Engine.{Engine}
 use Rattle.engine_state.specs.Book.{Book, with_work}
 use Rattle.engine_state.specs.Calls.{AllStand, ReadingsStand, CallStands, asks_of}
@@ -31,11 +31,11 @@ use Rattle.engine_state.proofs.Reporting.{input_sound, others_sound}
 use Rattle.engine_state.proofs.Storing.{sound_still, store_call, store_is}
 
 -- the call is the innermost reading
-pub here : (sizes : Sizes) (e : Engine) (book : Book) (c : Call) (r : Reading) (rs : List Reading) → e.call ≡ Some c → AllStand sizes e (with_work (r ∷ rs) book) → ReadingsStand (Some c) e book.number (r ∷ rs)
+pub here : (sizes : Sizes) (e : Engine) (book : Book) (c : Call) (r : Reading) (rs : List Reading) → call_in e.input.call ≡ Some c → AllStand sizes e (with_work (r ∷ rs) book) → ReadingsStand (Some c) e book.number (r ∷ rs)
 here sizes e book c r rs is st = subst (λ (x : Option Call). ReadingsStand x e book.number (r ∷ rs)) is st.all
 
 -- a rule of a call, by what it asks for
-pub by_call : (sizes : Sizes) (e : Engine) (c : Call) (P : Book → List Move → Type 0) → e.call ≡ Some c →
+pub by_call : (sizes : Sizes) (e : Engine) (c : Call) (P : Book → List Move → Type 0) → call_in e.input.call ≡ Some c →
     ((book : Book) (r : Reading) (rs : List Reading) → AllStand sizes e (with_work (r ∷ rs) book) → CallStands e book.number c r → P (with_work (r ∷ rs) book) (answered (state_of e (with_work (r ∷ rs) book)) (r ∷ rs) r (asks_of c e.input.call))) →
     (book : Book) → AllStand sizes e book → P book (plan_of e book)
 by_call sizes e c P is h book st = at book.work st (subst (λ (x : Option Call). ReadingsStand x e book.number book.work) is st.all) where
@@ -52,10 +52,10 @@ pub lists_gone : (i : Stored) (held : List (List Token)) → held ≡ call_lists
 lists_gone i held is = ap (λ (l : List (List Token)). drop (length l) (gathered i)) is ∙ behind_all (call_lists i.call) i.builds
 
 -- the engine without its call
-module _ (sizes : Sizes) (e e2 : Engine) (book : Book) (r : Reading) (rs : List Reading) (c : Call) (is : e.call ≡ Some c) (st : AllStand sizes e (with_work (r ∷ rs) book))
-    (after : e2 ≡ record e { call = None; input = record e.input { call = NotCalling; lists = e2.input.lists } }) (all_lists : KeepsShared e.input e2.input) where
+module _ (sizes : Sizes) (e e2 : Engine) (book : Book) (r : Reading) (rs : List Reading) (c : Call) (is : call_in e.input.call ≡ Some c) (st : AllStand sizes e (with_work (r ∷ rs) book))
+    (after : e2 ≡ record e { input = record e.input { call = NotCalling; lists = e2.input.lists } }) (all_lists : KeepsShared e.input e2.input) where
   abbrev ended : Engine
-  ended = record e { call = None; input = record e.input { call = NotCalling; lists = e2.input.lists } }
+  ended = record e { input = record e.input { call = NotCalling; lists = e2.input.lists } }
 
   store : SameStore e.input e2.input
   store = store_call e.input e2.input NotCalling (ap (λ (x : Engine). x.input) after) all_lists
@@ -67,7 +67,7 @@ module _ (sizes : Sizes) (e e2 : Engine) (book : Book) (r : Reading) (rs : List 
   closed_stands = record {
     sound = sound_still sizes e e2 book.number book.all_lists (ap (λ (x : Engine). x.sizes) after) (ap (λ (x : Engine). x.readings.size) after) (ap (λ (x : Engine). x.conditionals) after) (ap (λ (x : Engine). x.names) after) (ap (λ (x : Engine). x.reports) after) store st.sound;
     idle = ap (λ (x : Engine). x.input.making) after ∙ st.idle;
-    all = subst (λ (x : Engine). ReadingsStand x.call x book.number rs) (sym after) (record { frames = k.1.frames; shallow = k.1.shallow }, refl);
+    all = subst (λ (x : Engine). ReadingsStand (call_in x.input.call) x book.number rs) (sym after) (record { frames = k.1.frames; shallow = k.1.shallow });
   }
 
   closed_state : made Closed (state_of e (with_work (r ∷ rs) book)) ≡ state_of e2 (with_work rs book)
@@ -91,14 +91,14 @@ pub reported_stands : (sizes : Sizes) (e e1 : Engine) (book : Book) → SameFram
 reported_stands sizes e e1 book same input sized st =
     all_still sizes e e1 book same (store_is e.input e1.input input) (input_sound sizes e e1 book input sized st.sound) (ap (λ (i : Stored). i.making) input ∙ st.idle) st
 
-pub failed_went : (sizes : Sizes) (e e1 e2 : Engine) (book : Book) (r : Reading) (rs : List Reading) (c : Call) (f : FilesTold) (s0 s1 : SinkTold) (report : Report) → e.call ≡ Some c → AllStand sizes e (with_work (r ∷ rs) book) →
-    SameFrames e e1 → e1.input ≡ e.input → (IsSized sizes e → IsSized sizes e1) → e2 ≡ record e1 { call = None; input = record e1.input { call = NotCalling; lists = e2.input.lists } } → KeepsShared e1.input e2.input →
+pub failed_went : (sizes : Sizes) (e e1 e2 : Engine) (book : Book) (r : Reading) (rs : List Reading) (c : Call) (f : FilesTold) (s0 s1 : SinkTold) (report : Report) → call_in e.input.call ≡ Some c → AllStand sizes e (with_work (r ∷ rs) book) →
+    SameFrames e e1 → e1.input ≡ e.input → (IsSized sizes e → IsSized sizes e1) → e2 ≡ record e1 { input = record e1.input { call = NotCalling; lists = e2.input.lists } } → KeepsShared e1.input e2.input →
     Reports sizes (state_of e (with_work (r ∷ rs) book)) (state_of e1 (with_work (r ∷ rs) book)) (world_of f s0 e) (world_of f s1 e1) (page_of e book) report (Closed ∷ []) →
     Went sizes (state_of e (with_work (r ∷ rs) book)) e2 (world_of f s0 e) (world_of f s1 e2) (failed (page_of e book) report) 0
 failed_went sizes e e1 e2 book r rs c f s0 s1 report is st same input sized after all_lists h =
     let written : List Move = Written Transcript (report_bytes (own_style e) e.in_line e.input.pending.number report) ∷ Reported ∷ [] in
     went_by sizes _ e2 _ _ (written ++ Closed ∷ []) (failed (page_of e book) report) 0 h.moves
-    (closed_went sizes e1 e2 book r rs c (same.call ∙ is) (reported_stands sizes e e1 (with_work (r ∷ rs) book) same input sized st) after all_lists _ f s1 _ written h.did refl)
+    (closed_went sizes e1 e2 book r rs c (ap call_in same.call ∙ is) (reported_stands sizes e e1 (with_work (r ∷ rs) book) same input sized st) after all_lists _ f s1 _ written h.did refl)
 
 pub failed_halts : (sizes : Sizes) (e e1 : Engine) (book : Book) (w w' : World) (report : Report) (o : Outcome) → Halts sizes (state_of e book) e1 book w w' (reported (page_of e book) report (Closed ∷ [])) o 0 →
     Halts sizes (state_of e book) e1 book w w' (failed (page_of e book) report) o 1

@@ -1,6 +1,7 @@
 -- A call that is fed with a token goes on behind it.
-use Rattle.std.proofs.Common.{◌≡◌, ℕ, ◌+◌, ◌≤◌, List, [], ◌∷◌, ◌++◌, length, drop, sym, ap, subst, ◌∙◌, Bool, true, false, arith}
-use Rattle.std.specs.Prelude.{Option, Some, MatchBool, unwrap_or}
+use Rattle.std.proofs.Common.{Result, Ok, Err, ◌≡◌, ℕ, ◌+◌, ◌≤◌, List, [], ◌∷◌, ◌++◌, length, drop, sym, ap, subst, ◌∙◌, Bool, true, false, arith}
+use Rattle.std.specs.Prelude.{Option, Some, MatchBool, OnOk, unwrap_or}
+use Rattle.tex_defs.specs.declared.Full.{Full}
 use Rattle.tex_defs.specs.declared.Name.{Name}
 use Rattle.tex_defs.specs.declared.Seen.{Seen}
 use Rattle.tex_defs.specs.declared.Sizes.{Sizes}
@@ -21,19 +22,18 @@ use Rattle.macro_call.specs.Growths.{target_by}
 use Rattle.macro_call.specs.PlainScans.{Scan, resume_scan, scan_work}
 use Rattle.input_state.specs.CallFeeds.{IsTaking, Comes, Feeds, scan_growth, growth}
 use Rattle.input_state.specs.Callings as calls
-use Rattle.input_state.specs.Callings.{Calling, call_lists}
+use Rattle.input_state.specs.Callings.{Calling, call_lists, call_in}
 use Rattle.input_state.specs.Calls.{macro_text, text_of}
 use Rattle.input_state.specs.Macros.{list_at}
 use Rattle.input_state.specs.Stored.{KeepsShared, words as stored_words}
-use Rattle.input_state.specs.declared.answer.CallTold.{CallTold}
+use Rattle.input_state.specs.declared.answer.Call.{Call}
 use Rattle.engine_state.specs.declared.engine.Engine.{Engine}
 use Rattle.engine_state.specs.Book.{Book, with_work}
-use Rattle.gullet.specs.CallAsks.{ask_behind}
 use Rattle.engine_state.specs.Calls.{AllStand, ReadingsStand, CallStands, CallAt, Gathers, open_call}
 use Rattle.engine_state.specs.Stands.{IsSound, SameStore, state_of}
 use Rattle.engine_state.specs.Rules.{Went}
 use Rattle.gullet.proofs.CallEnding.{here as here_call}
-use Rattle.gullet.proofs.CallFeedingAnswers.{Taking, taking, in_front, scan_turn, lists_after, asked_after, at_after}
+use Rattle.gullet.proofs.CallFeedingAnswers.{Taking, taking, asked_in, in_front, scan_turn, lists_after, asked_after, at_after, called_after}
 use Rattle.gullet.proofs.CallLists.{lists_of, lists_by, answer_lists}
 use Rattle.gullet.proofs.CallFeedingMoves.{fed_reading, turn_leads, state_at, other_words, words_at}
 use Rattle.engine_state.proofs.CallKept.{list_still}
@@ -102,9 +102,9 @@ module _ (e : Engine) (number : ℕ → ℕ) (name : Name) (r : Reading) (x : Se
 
 -- THE CALL GOES ON
 
-module _ (sizes : Sizes) (e e2 : Engine) (book : Book) (r : Reading) (rs : List Reading) (name : Name) (x : Seen) (answer : CallTold) (is : e.call ≡ Some (open_call name)) (st : AllStand sizes e (with_work (r ∷ rs) book))
-    (behind : e2 ≡ record e { call = Some (record { name = name; ask = ask_behind answer }); last = x; input = record e.input { call = e2.input.call; lists = e2.input.lists } }) (all_lists : KeepsShared e.input e2.input)
-    (comes : Feeds (text_of e.input.lists e.input.groups.now.meanings) x.token answer e.input.call e2.input.call) where
+module _ (sizes : Sizes) (e e2 : Engine) (book : Book) (r : Reading) (rs : List Reading) (name : Name) (x : Seen) (is : call_in e.input.call ≡ Some (open_call name)) (st : AllStand sizes e (with_work (r ∷ rs) book))
+    (behind : e2 ≡ record e { last = x; input = record e.input { call = e2.input.call; lists = e2.input.lists } }) (all_lists : KeepsShared e.input e2.input)
+    (comes : Feeds (text_of e.input.lists e.input.groups.now.meanings) x.token e.input.call e2.input.call) where
   abbrev W : Book
   W = with_work (r ∷ rs) book
 
@@ -123,10 +123,10 @@ module _ (sizes : Sizes) (e e2 : Engine) (book : Book) (r : Reading) (rs : List 
   abbrev a : Answer
   a = answer_to e book.number name r x h
 
-  came : Comes text x.token answer name k.scan e2.input.call
+  came : Comes text x.token name k.scan e2.input.call
   came =
-      let at : Feeds (text_of e.input.lists e.input.groups.now.meanings) x.token answer (calls.Gathering name k.scan) e2.input.call = subst (λ (c : Calling). Feeds (text_of e.input.lists e.input.groups.now.meanings) x.token answer c e2.input.call) k.is comes in
-      subst (λ (ts : List Token). Comes ts x.token answer name k.scan e2.input.call) (text_is e book.number name r h) at
+      let at : Feeds (text_of e.input.lists e.input.groups.now.meanings) x.token (calls.Gathering name k.scan) e2.input.call = subst (λ (c : Calling). Feeds (text_of e.input.lists e.input.groups.now.meanings) x.token c e2.input.call) k.is comes in
+      subst (λ (ts : List Token). Comes ts x.token name k.scan e2.input.call) (text_is e book.number name r h) at
 
   store : SameStore e.input e2.input
   store = store_call e.input e2.input e2.input.call (ap (λ (y : Engine). y.input) behind) all_lists
@@ -142,12 +142,12 @@ module _ (sizes : Sizes) (e e2 : Engine) (book : Book) (r : Reading) (rs : List 
   W' = with_work (fed ∷ rs) book
 
   abbrev now : Engine
-  now = record e { call = Some (record { name = name; ask = ask_behind answer }); last = x; input = record e.input { call = e2.input.call; lists = e2.input.lists } }
+  now = record e { last = x; input = record e.input { call = e2.input.call; lists = e2.input.lists } }
 
   held : list_at e2.input.lists h.id ≡ text
   held = list_still e.input e2.input name h.long h.outer h.id store h.meaning
 
-  call_stands : CallStands now book.number (record { name = name; ask = ask_behind answer }) fed
+  call_stands : CallStands now book.number (record { name = name; ask = asked_in e2.input.call }) fed
   call_stands = record {
     long = h.long;
     outer = h.outer;
@@ -155,16 +155,17 @@ module _ (sizes : Sizes) (e e2 : Engine) (book : Book) (r : Reading) (rs : List 
     meaning = h.meaning;
     kind = h.kind ∙ ap (reading.Arguments name h.long (book.number h.id)) (sym held);
     places = ap has_parameters held ∙ h.places;
-    asked = asked_after name h.long text k.scan r.fed x answer k.has_work k.gathers e2.input.call came ∙ ap (λ (kind : reading.Kind). reading.ask kind (r.fed ++ Tok x ∷ [])) (sym h.kind);
-    at = subst (λ (ts : List Token). CallAt (ask_behind answer) name h.long ts e2.input.call (r.fed ++ Tok x ∷ [])) (sym held) (at_after name h.long text k.scan r.fed x answer k.has_work k.gathers e2.input.call came);
-    holds = ap (λ (kind : reading.Kind). reading.lists kind (r.fed ++ Tok x ∷ [])) h.kind ∙ answer_lists (gathered h.long text (r.fed ++ Tok x ∷ [])) ∙ ap lists_by (now_after e book.number name r x h) ∙ sym (lists_after name h.long text k.scan r.fed x answer k.has_work k.gathers e2.input.call came);
+    asked = asked_after name h.long text k.scan r.fed x k.has_work k.gathers e2.input.call came ∙ ap (λ (kind : reading.Kind). reading.ask kind (r.fed ++ Tok x ∷ [])) (sym h.kind);
+    at = subst (λ (ts : List Token). CallAt (asked_in e2.input.call) name h.long ts e2.input.call (r.fed ++ Tok x ∷ [])) (sym held) (at_after name h.long text k.scan r.fed x k.has_work k.gathers e2.input.call came);
+    holds = ap (λ (kind : reading.Kind). reading.lists kind (r.fed ++ Tok x ∷ [])) h.kind ∙ answer_lists (gathered h.long text (r.fed ++ Tok x ∷ [])) ∙ ap lists_by (now_after e book.number name r x h) ∙ sym (lists_after name h.long text k.scan r.fed x k.has_work k.gathers e2.input.call came);
   }
 
   fed_stands : AllStand sizes e2 W'
   fed_stands = record {
     sound = sound;
     idle = ap (λ (y : Engine). y.input.making) behind ∙ st.idle;
-    all = subst (λ (y : Engine). ReadingsStand y.call y book.number (fed ∷ rs)) (sym behind) (call_stands, record { frames = stood.1.frames; shallow = stood.1.shallow });
+    all = subst (λ (y : Engine). ReadingsStand (call_in y.input.call) y book.number (fed ∷ rs)) (sym behind)
+        (subst (λ (o : Option Call). ReadingsStand o now book.number (fed ∷ rs)) (sym (called_after name h.long text k.scan r.fed x k.has_work k.gathers e2.input.call came)) (call_stands, record { frames = stood.1.frames; shallow = stood.1.shallow }));
   }
 
   -- the states before and behind
@@ -173,7 +174,7 @@ module _ (sizes : Sizes) (e e2 : Engine) (book : Book) (r : Reading) (rs : List 
 
   finish : state_at (state_of e W) (fed ∷ rs) x (lists_by a ++ e.input.builds) ≡ state_of e2 W'
   finish =
-      ap (λ (l : List (List Token)). record (state_of e W) { work = fed ∷ rs; last = x; gathered = l ++ e.input.builds }) (sym (lists_after name h.long text k.scan r.fed x answer k.has_work k.gathers e2.input.call came))
+      ap (λ (l : List (List Token)). record (state_of e W) { work = fed ∷ rs; last = x; gathered = l ++ e.input.builds }) (sym (lists_after name h.long text k.scan r.fed x k.has_work k.gathers e2.input.call came))
       ∙ ap (λ (y : Engine). state_of y W') (sym behind)
 
   -- the machine's words
@@ -200,9 +201,21 @@ module _ (sizes : Sizes) (e e2 : Engine) (book : Book) (r : Reading) (rs : List 
       }
 
 -- the call takes tokens
-pub none_taken : (sizes : Sizes) (e : Engine) (book : Book) (r : Reading) (rs : List Reading) (name : Name) → e.call ≡ Some (open_call name) → AllStand sizes e (with_work (r ∷ rs) book) →
+pub none_taken : (sizes : Sizes) (e : Engine) (book : Book) (r : Reading) (rs : List Reading) (name : Name) → call_in e.input.call ≡ Some (open_call name) → AllStand sizes e (with_work (r ∷ rs) book) →
     (b : Bool) → b ≡ false → MatchBool b (IsTaking e.input.call) (IsTaking e.input.call → ⊥) → ⊥
 none_taken sizes e book r rs name is st true not_so never = absurd cc
 none_taken sizes e book r rs name is st false not_so never =
     let k = scanner e book.number name r (here_call sizes e book (open_call name) r rs is st).0 in
     never (subst IsTaking (sym k.is) tt)
+
+-- the token is taken
+pub went_if : (o : Result Unit Full) (e e2 : Engine) (x : Seen) →
+    e2 ≡ record e { last = e2.last; input = record e.input { call = e2.input.call; lists = e2.input.lists } } → OnOk o (e2.last ≡ x) → KeepsShared e.input e2.input →
+    OnOk o (Feeds (text_of e.input.lists e.input.groups.now.meanings) x.token e.input.call e2.input.call) →
+    OnOk o (stored_words e.input + length (growth (text_of e.input.lists e.input.groups.now.meanings) x.token e.input.call) ≤ e.input.sizes.main_memory_size) →
+    stored_words e2.input ≤ e2.input.sizes.main_memory_size →
+    OnOk o ((sizes : Sizes) (w : World) (book : Book) (r : Reading) (rs : List Reading) (name : Name) → call_in e.input.call ≡ Some (open_call name) → AllStand sizes e (with_work (r ∷ rs) book) →
+    Went sizes (state_of e (with_work (r ∷ rs) book)) e2 w w (feeding r x) 0)
+went_if (Ok u) e e2 x others last keeps comes fits within = λ sizes w book r rs name is st.
+    fed_went sizes e e2 book r rs name x is st (others ∙ ap (λ (y : Seen). record e { last = y; input = record e.input { call = e2.input.call; lists = e2.input.lists } }) last) keeps comes w fits within
+went_if (Err full) e e2 x others last keeps comes fits within = tt

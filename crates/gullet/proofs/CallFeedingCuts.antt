@@ -1,9 +1,9 @@
 -- A call that is fed with a token for which the main memory has no room.
-use Rattle.std.proofs.Common.{◌≡◌, ℕ, zero, suc, ◌+◌, ◌<◌, ◌≤◌, List, [], ◌∷◌, ◌++◌, length, drop, map, refl, sym, ap, subst, ◌∙◌, append_assoc, length-append, arith}
+use Rattle.std.proofs.Common.{Result, Ok, Err, ◌≡◌, ℕ, zero, suc, ◌+◌, ◌<◌, ◌≤◌, List, [], ◌∷◌, ◌++◌, length, drop, map, refl, sym, ap, subst, ◌∙◌, append_assoc, length-append, arith}
 use Rattle.std.proofs.lemmas.List.{length-drop}
 use Rattle.std.proofs.lemmas.List.Sums.{sum_by-cons, sum_by-append}
 use Rattle.std.proofs.Math.Seq.{drop-append_seam}
-use Rattle.std.specs.Prelude.{Option, Some, None, option_map, option_to_list, unwrap_or}
+use Rattle.std.specs.Prelude.{Option, Some, None, IfErr, OnErr, option_map, option_to_list, unwrap_or}
 use Rattle.tex_syntax.specs.declared.words.Want.TheVariants.{Raw}
 use Rattle.tex_defs.specs.declared.Full.{Full}
 use Rattle.tex_defs.specs.declared.Name.{Name}
@@ -23,18 +23,20 @@ use Rattle.plain_tokens.specs.Tables.{list_words, lists_words, memory, refused}
 use Rattle.plain_machine.specs.Demands.{refusal, words}
 use Rattle.plain_machine.specs.Plan.{feeding, argument_fed, grown_to, opened}
 use Rattle.plain_machine.specs.Does.{Did}
+use Rattle.input_state.specs.declared.answer.CallEnd.{CallEnd}
+use Rattle.input_state.specs.declared.answer.CallEnd.TheVariants as end
 use Rattle.macro_call.specs.Growths.{target_by, target_of}
 use Rattle.macro_call.specs.PlainScans.{Scan, resume_scan, scan_work, with_work as with_list}
 use Rattle.macro_call.specs.Scans.{args_with}
 use Rattle.macro_call.specs.Stages.{Stage}
 use Rattle.input_state.specs.CallFeeds.{call_work, CutTo, CutShort, IsCut, InGrowth, Between, IsCutInGrowth, IsCutBetween}
 use Rattle.input_state.specs.Callings as calls
-use Rattle.input_state.specs.Callings.{Calling, call_lists, last_first}
+use Rattle.input_state.specs.Callings.{Calling, call_lists, last_first, call_in}
 use Rattle.input_state.specs.Calls.{text_of}
 use Rattle.input_state.specs.Macros.{list_at}
 use Rattle.input_state.specs.Stored.{KeepsShared, words as stored_words}
 use Rattle.engine_state.specs.declared.broken.Broken.TheVariants as broken
-use Rattle.engine_state.specs.declared.call.Call.{Call}
+use Rattle.input_state.specs.declared.answer.Call.{Call}
 use Rattle.engine_state.specs.declared.engine.Engine.{Engine}
 use Rattle.engine_state.specs.Book.{Book, with_work}
 use Rattle.engine_state.specs.Calls.{AllStand, ReadingsStand, CallStands, Gathers, open_call}
@@ -82,7 +84,7 @@ arg_words : (was arg : List Token) (args : List (List Token)) → 0 < length (dr
 arg_words was [] args some = omega (arith, some, length-drop {A = Token} (length was) [])
 arg_words was (t ∷ ts) args some = omega (arith, some, length-drop {A = Token} (length was) (t ∷ ts), sum_by-cons list_words (t ∷ ts) args, sum_by-cons list_words was args)
 
-module _ (sizes : Sizes) (e e2 : Engine) (book : Book) (r : Reading) (rs : List Reading) (name : Name) (x : Seen) (full : Full) (w : World) (is : e.call ≡ Some (open_call name)) (st : AllStand sizes e (with_work (r ∷ rs) book))
+module _ (sizes : Sizes) (e e2 : Engine) (book : Book) (r : Reading) (rs : List Reading) (name : Name) (x : Seen) (full : Full) (w : World) (is : call_in e.input.call ≡ Some (open_call name)) (st : AllStand sizes e (with_work (r ∷ rs) book))
     (behind : e2 ≡ record e { last = e2.last; input = record e.input { call = e2.input.call; lists = e2.input.lists } }) (all_lists : KeepsShared e.input e2.input)
     (within : stored_words e2.input ≤ e2.input.sizes.main_memory_size) (refuses : refused e2.input.sizes (memory 1 (stored_words e2.input) ∷ []) ≡ Some full) where
   abbrev W : Book
@@ -134,33 +136,33 @@ module _ (sizes : Sizes) (e e2 : Engine) (book : Book) (r : Reading) (rs : List 
   no_more q lists same =
       ap (λ (u : State). refused sizes (memory 1 (words u) ∷ [])) (finish q lists same) ∙ words_more sizes e2 (with_work (q ∷ rs) book) 1 (Some full) sound refuses
 
-  frames_near : (q : Reading) → CallAtCut (broken.Full full) (open_call name) e2.input.call q → FramesAtCut (broken.Full full) e2 (q ∷ rs)
-  frames_near q near = record {
+  frames_near : (q : Reading) → call_in e2.input.call ≡ Some (open_call name) → CallAtCut (broken.Full full) (open_call name) e2.input.call q → FramesAtCut (broken.Full full) e2 (q ∷ rs)
+  frames_near q now near = record {
     lists = e2.input.builds;
     front = None;
     grown = refl;
     leads = tt;
-    stand = subst (λ (y : Engine). FramesIn (broken.Full full) y.call y y.input.builds (q ∷ rs)) (sym behind)
-        (subst (λ (c : Option Call). FramesIn (broken.Full full) c (record e { last = e2.last; input = record e.input { call = e2.input.call; lists = e2.input.lists } }) e.input.builds (q ∷ rs)) (sym is) (near, stood.1.frames));
+    stand = subst (λ (y : Engine). FramesIn (broken.Full full) (call_in y.input.call) y y.input.builds (q ∷ rs)) (sym behind)
+        (subst (λ (c : Option Call). FramesIn (broken.Full full) c (record e { last = e2.last; input = record e.input { call = e2.input.call; lists = e2.input.lists } }) e.input.builds (q ∷ rs)) (sym now) (near, stood.1.frames));
   }
 
   -- the first moves are done, and the next one has no room
-  cut_at : (q : Reading) (lists : List (List Token)) (done : List Move) (m : Move) (rest : List Move) → CallAtCut (broken.Full full) (open_call name) e2.input.call q → call_lists e2.input.call ≡ lists →
+  cut_at : (q : Reading) (lists : List (List Token)) (done : List Move) (m : Move) (rest : List Move) → call_in e2.input.call ≡ Some (open_call name) → CallAtCut (broken.Full full) (open_call name) e2.input.call q → call_lists e2.input.call ≡ lists →
       argument_fed x (scan_work k.scan) complete (work_in a) ≡ done ++ m ∷ rest →
       Did sizes (state_at (state_of e W) (r ∷ rs) e.last (lists_of k.scan.args (scan_work k.scan) ++ e.input.builds)) (state_at (state_of e W) (q ∷ rs) e2.last (lists ++ e.input.builds)) w w done →
       refusal sizes m (state_at (state_of e W) (q ∷ rs) e2.last (lists ++ e.input.builds)) ≡ Some full →
       CutsIn sizes (state_of e W) e2 w w (feeding r x) (broken.Full full)
-  cut_at q lists done m rest near same moves did no_room = record {
+  cut_at q lists done m rest now near same moves did no_room = record {
     book' = with_work (q ∷ rs) book;
     cuts = cuts_by sizes _ e2 (with_work (q ∷ rs) book) w w (done ++ m ∷ rest) (feeding r x) (broken.Full full) (feeding_is e book.number name r x h ∙ moves)
         (later_cuts sizes (state_of e W) (state_at (state_of e W) (q ∷ rs) e2.last (lists ++ e.input.builds)) e2 (with_work (q ∷ rs) book) w w w done (m ∷ rest) (broken.Full full)
         (subst (λ (u : State). Did sizes u (state_at (state_of e W) (q ∷ rs) e2.last (lists ++ e.input.builds)) w w done) start did)
         (full_cuts sizes _ e2 (with_work (q ∷ rs) book) w m rest full (broken.Full full) refl no_room (finish q lists same)));
-    near = frames_near q near;
+    near = frames_near q now near;
   }
 
   -- the call is this reading
-  call_near : (q : Reading) (next : Scan) → q.kind ≡ r.kind → asks.More Raw ≡ reading.ask q.kind q.fed → e2.input.call ≡ calls.Stopped name next → CutScan h.long text next q.fed →
+  call_near : (q : Reading) (next : Scan) → q.kind ≡ r.kind → asks.More Raw ≡ reading.ask q.kind q.fed → e2.input.call ≡ calls.Stopped name end.Full next → CutScan h.long text next q.fed →
       CallAtCut (broken.Full full) (open_call name) e2.input.call q
   call_near q next same asked now at = CutOff (record {
     full = full;
@@ -176,7 +178,7 @@ module _ (sizes : Sizes) (e e2 : Engine) (book : Book) (r : Reading) (rs : List 
   })
 
   -- WITHIN A GROWTH
-  growth_cut : (next : Scan) → ((was : List Token) → call_work e2.input.call ≡ Some was → e2.last ≡ e.last) → e2.input.call ≡ calls.Stopped name next → IsCutInGrowth text x.token k.scan next → CutsIn sizes (state_of e W) e2 w w (feeding r x) (broken.Full full)
+  growth_cut : (next : Scan) → ((was : List Token) → call_work e2.input.call ≡ Some was → e2.last ≡ e.last) → e2.input.call ≡ calls.Stopped name end.Full next → IsCutInGrowth text x.token k.scan next → CutsIn sizes (state_of e W) e2 w w (feeding r x) (broken.Full full)
   growth_cut next unfed now c = by_behind c.behind refl c.some where
     same : call_lists e2.input.call ≡ (cut_lists c.was c.front k.scan.args)
     same = ap call_lists now ∙ ap (λ (s : Scan). option_to_list (scan_work s) ++ last_first s.args []) c.after
@@ -206,11 +208,11 @@ module _ (sizes : Sizes) (e e2 : Engine) (book : Book) (r : Reading) (rs : List 
     by_behind : (ts : List Token) → c.behind ≡ ts → 0 < length ts → CutsIn sizes (state_of e W) e2 w w (feeding r x) (broken.Full full)
     by_behind [] left some = absurd (omega (arith, some))
     by_behind (t ∷ ts) left some =
-        cut_at r (cut_lists c.was c.front k.scan.args) (map Grows c.front) (Grows t) (map Grows ts ++ behind_growth x complete (work_in a)) near same
+        cut_at r (cut_lists c.was c.front k.scan.args) (map Grows c.front) (Grows t) (map Grows ts ++ behind_growth x complete (work_in a)) (ap call_in now) near same
         (moves ∙ ap (λ (us : List Token). map Grows c.front ++ (map Grows us ++ behind_growth x complete (work_in a))) left) did (no_more r (cut_lists c.was c.front k.scan.args) same)
 
   -- IN FRONT OF A PLACE
-  between_cut : (next : Scan) → (call_work e2.input.call ≡ None → e2.last ≡ x) → e2.input.call ≡ calls.Stopped name next → IsCutBetween text x.token k.scan next → CutsIn sizes (state_of e W) e2 w w (feeding r x) (broken.Full full)
+  between_cut : (next : Scan) → (call_work e2.input.call ≡ None → e2.last ≡ x) → e2.input.call ≡ calls.Stopped name end.Full next → IsCutBetween text x.token k.scan next → CutsIn sizes (state_of e W) e2 w w (feeding r x) (broken.Full full)
   between_cut next fed now c = by_present k.scan.present refl where
     asked : asks.More Raw ≡ reading.ask r.kind (r.fed ++ Tok x ∷ [])
     asked =
@@ -248,7 +250,7 @@ module _ (sizes : Sizes) (e e2 : Engine) (book : Book) (r : Reading) (rs : List 
         let bare : k.scan.args ≡ [] = k.has_work none in
         let lists : call_lists e2.input.call ≡ [] = lists_now ∙ ap (λ (us : List (List Token)). last_first us []) (same ∙ bare) in
         let had : lists_of k.scan.args (scan_work k.scan) ≡ [] = ap (λ (o : Option (List Token)). lists_of k.scan.args o) none ∙ ap (λ (us : List (List Token)). lists_of us None) bare in
-        cut_at q [] (Feeds (Tok x) ∷ []) Opened [] near lists (moves None k.scan.args none same)
+        cut_at q [] (Feeds (Tok x) ∷ []) Opened [] (ap call_in now) near lists (moves None k.scan.args none same)
         (subst (λ (y : Seen). Did sizes (state_at (state_of e W) (r ∷ rs) e.last (lists_of k.scan.args (scan_work k.scan) ++ e.input.builds)) (state_at (state_of e W) (q ∷ rs) y e.input.builds) w w (Feeds (Tok x) ∷ [])) (sym last)
         (subst (λ (l : List (List Token)). Did sizes (state_at (state_of e W) (r ∷ rs) e.last (l ++ e.input.builds)) (state_at (state_of e W) (q ∷ rs) x e.input.builds) w w (Feeds (Tok x) ∷ [])) (sym had) (feeds_did sizes (state_of e W) w r rs e.last x e.input.builds)))
         (no_more q [] lists)
@@ -260,7 +262,7 @@ module _ (sizes : Sizes) (e e2 : Engine) (book : Book) (r : Reading) (rs : List 
         let lists : call_lists e2.input.call ≡ list_of_tokens arg ++ args = lists_now ∙ ap (λ (us : List (List Token)). last_first us []) same ∙ last_more k.scan.args arg [] in
         let had : lists_of k.scan.args (scan_work k.scan) ≡ was ∷ args = ap (lists_of k.scan.args) work in
         let within_size = room q (list_of_tokens arg ++ args) lists in
-        cut_at q (list_of_tokens arg ++ args) (grown_to was arg ++ (Feeds (Tok x) ∷ Completed arg ∷ [])) Opened [] near lists
+        cut_at q (list_of_tokens arg ++ args) (grown_to was arg ++ (Feeds (Tok x) ∷ Completed arg ∷ [])) Opened [] (ap call_in now) near lists
         (moves (Some was) (k.scan.args ++ arg ∷ []) work same ∙ ap (λ (us : List (List Token)). argument_fed x (Some was) us (Some [])) (drop-append_seam k.scan.args (arg ∷ [])) ∙ sym (append_assoc (grown_to was arg) (Feeds (Tok x) ∷ Completed arg ∷ []) (Opened ∷ [])))
         (subst (λ (y : Seen). Did sizes (state_at (state_of e W) (r ∷ rs) e.last (lists_of k.scan.args (scan_work k.scan) ++ e.input.builds)) (state_at (state_of e W) (q ∷ rs) y ((list_of_tokens arg ++ args) ++ e.input.builds)) w w (grown_to was arg ++ (Feeds (Tok x) ∷ Completed arg ∷ []))) (sym last)
         (subst (λ (l : List (List Token)). Did sizes (state_at (state_of e W) (r ∷ rs) e.last (l ++ e.input.builds)) (state_at (state_of e W) (q ∷ rs) x ((list_of_tokens arg ++ args) ++ e.input.builds)) w w (grown_to was arg ++ (Feeds (Tok x) ∷ Completed arg ∷ []))) (sym had)
@@ -278,9 +280,9 @@ module _ (sizes : Sizes) (e e2 : Engine) (book : Book) (r : Reading) (rs : List 
     by_new : (c : Calling) → e2.input.call ≡ c → CutTo text x.token name k.scan c → CutsIn sizes (state_of e W) e2 w w (feeding r x) (broken.Full full)
     by_new calls.NotCalling now c = absurd c
     by_new (calls.Gathering n next) now c = absurd c
-    by_new (calls.Stopped n next) now c = by_cut c.1 where
-      own : e2.input.call ≡ calls.Stopped name next
-      own = now ∙ ap (λ (m : Name). calls.Stopped m next) c.0
+    by_new (calls.Stopped n why next) now c = by_cut c.2 where
+      own : e2.input.call ≡ calls.Stopped name end.Full next
+      own = now ∙ ap (λ (m : Name). calls.Stopped m why next) c.0 ∙ ap (λ (y : CallEnd). calls.Stopped name y next) c.1
 
       by_cut : IsCut text x.token k.scan next → CutsIn sizes (state_of e W) e2 w w (feeding r x) (broken.Full full)
       by_cut (InGrowth g) = growth_cut next unfed own g
@@ -291,3 +293,14 @@ module _ (sizes : Sizes) (e e2 : Engine) (book : Book) (r : Reading) (rs : List 
     fed_cut short =
         let at : CutShort (text_of e.input.lists e.input.groups.now.meanings) x.token (calls.Gathering name k.scan) e2.input.call = subst (λ (c : Calling). CutShort (text_of e.input.lists e.input.groups.now.meanings) x.token c e2.input.call) k.is short in
         by_new e2.input.call refl (subst (λ (ts : List Token). CutTo ts x.token name k.scan e2.input.call) (text_is e book.number name r h) at)
+
+-- the token has no room
+pub cuts_if : (o : Result Unit Full) (e e2 : Engine) (x : Seen) →
+    e2 ≡ record e { last = e2.last; input = record e.input { call = e2.input.call; lists = e2.input.lists } } → KeepsShared e.input e2.input → stored_words e2.input ≤ e2.input.sizes.main_memory_size →
+    IfErr o (λ full. refused e2.input.sizes (memory 1 (stored_words e2.input) ∷ []) ≡ Some full) → OnErr o (call_work e2.input.call ≡ None → e2.last ≡ x) → OnErr o ((was : List Token) → call_work e2.input.call ≡ Some was → e2.last ≡ e.last) →
+    OnErr o (CutShort (text_of e.input.lists e.input.groups.now.meanings) x.token e.input.call e2.input.call) →
+    IfErr o (λ full. (sizes : Sizes) (w : World) (book : Book) (r : Reading) (rs : List Reading) (name : Name) → call_in e.input.call ≡ Some (open_call name) → AllStand sizes e (with_work (r ∷ rs) book) →
+    CutsIn sizes (state_of e (with_work (r ∷ rs) book)) e2 w w (feeding r x) (broken.Full full))
+cuts_if (Ok u) e e2 x others keeps within refuses fed unfed cut = tt
+cuts_if (Err full) e e2 x others keeps within refuses fed unfed cut = λ sizes w book r rs name is st.
+    fed_cut sizes e e2 book r rs name x full w is st others keeps within refuses fed unfed cut

@@ -24,13 +24,13 @@ use Rattle.plain_machine.proofs.Renumbering.{settle_of, put_front_of, level_of, 
 use Rattle.plain_machine.proofs.Ties.{tied_settled, tied_put}
 use Rattle.world_io.specs.Contents.{FilesTold, SinkTold}
 use Rattle.input_state.specs.Callings as calls
-use Rattle.input_state.specs.Callings.{Calling, NotCalling, IsComplete}
+use Rattle.input_state.specs.Callings.{Calling, NotCalling, call_in}
 use Rattle.input_state.specs.Calls.{after_call, called_top, macro_put, put_of, when_put}
 use Rattle.input_state.specs.Macros.{list_at}
 use Rattle.input_state.specs.Stored.{Stored, KeepsShared, gathered, put_refusal}
 use Rattle.engine_state.specs.declared.broken.Broken.TheVariants as broken
-use Rattle.engine_state.specs.declared.call.Call.{Call}
-use Rattle.engine_state.specs.declared.call.CallAsk.TheVariants as asked
+use Rattle.input_state.specs.declared.answer.Call.{Call}
+use Rattle.macro_call.specs.declared.ask.CallAsk.TheVariants as asked
 use Rattle.engine_state.specs.declared.engine.Engine.{Engine}
 use Rattle.engine_state.specs.Book.{Book, with_work}
 use Rattle.engine_state.specs.Calls.{AllStand, ReadingsStand, CallStands, IsGathered, args_of}
@@ -51,7 +51,7 @@ put_is e number c r h at = by_calling e.input.call at where
   by_calling : (k : Calling) → IsGathered c.name k → put_of e.input.lists e.input.groups.now.meanings k ≡ call_put h.id (list_at e.input.lists h.id) (args_of k)
   by_calling calls.NotCalling where_it = absurd where_it
   by_calling (calls.Gathering n scan) where_it = absurd where_it
-  by_calling (calls.Stopped n scan) where_it = absurd where_it
+  by_calling (calls.Stopped n why scan) where_it = absurd where_it
   by_calling (calls.Gathered n args) where_it =
       ap (λ (x : Name). macro_put e.input.lists (name_meaning e.input.groups.now.meanings x) args) where_it ∙ ap (λ (m : Meaning (Option ℕ)). macro_put e.input.lists m args) h.meaning
 
@@ -66,7 +66,7 @@ pending_same p q is = ap (λ (xs : List Item). with_puts (called_top p xs q.puts
 pending_put : (p : Put) (q : Pending) (x : Item) (xs : List Item) → p.items ≡ x ∷ xs → after_call p q ≡ put_front p (end_token_lists q)
 pending_put p q x xs is = ap (λ (ys : List Item). with_puts (called_top p ys q.puts) q) is ∙ sym (ap (λ (ys : List Item). with_puts (put_top p ys (without_ended q.puts)) q) is)
 
-module _ (sizes : Sizes) (e : Engine) (book : Book) (r : Reading) (rs : List Reading) (c : Call) (is : e.call ≡ Some c) (st : AllStand sizes e (with_work (r ∷ rs) book)) (id : ℕ) (ts : List Token) (args : List (List Token)) (meant : is_listed (lists_held e.input.groups) id ≡ true) where
+module _ (sizes : Sizes) (e : Engine) (book : Book) (r : Reading) (rs : List Reading) (c : Call) (is : call_in e.input.call ≡ Some c) (st : AllStand sizes e (with_work (r ∷ rs) book)) (id : ℕ) (ts : List Token) (args : List (List Token)) (meant : is_listed (lists_held e.input.groups) id ≡ true) where
   abbrev p : Put
   p = call_put id ts args
 
@@ -101,7 +101,7 @@ module _ (sizes : Sizes) (e : Engine) (book : Book) (r : Reading) (rs : List Rea
         (full_cuts sizes settled_state e2 W w (CalledWith P) [] full (broken.Full full) refl (demands_same (Some full) x xs some refuses)
         (ap (λ (q : Pending). record (state_of e W) { pending = q }) (settle_of book.number e.input.pending) ∙ ap (λ (y : Engine). state_of y W) (sym after)))
 
-  module _ (e2 : Engine) (after : e2 ≡ record e { call = None; input = record e.input { pending = after_call p e.input.pending; call = NotCalling; lists = e2.input.lists } }) (all_lists : KeepsShared e.input e2.input) where
+  module _ (e2 : Engine) (after : e2 ≡ record e { input = record e.input { pending = after_call p e.input.pending; call = NotCalling; lists = e2.input.lists } }) (all_lists : KeepsShared e.input e2.input) where
     k : ReadingsStand (Some c) e book.number (r ∷ rs)
     k = here sizes e book c r rs is st
 
@@ -117,8 +117,8 @@ module _ (sizes : Sizes) (e : Engine) (book : Book) (r : Reading) (rs : List Rea
     }
 
     module _ (x : Item) (xs : List Item) (some : p.items ≡ x ∷ xs) where
-      now : e2 ≡ record e { call = None; input = record middle { lists = e2.input.lists } }
-      now = after ∙ ap (λ (q : Pending). record e { call = None; input = record e.input { pending = q; call = NotCalling; lists = e2.input.lists } }) (pending_put p e.input.pending x xs some)
+      now : e2 ≡ record e { input = record middle { lists = e2.input.lists } }
+      now = after ∙ ap (λ (q : Pending). record e { input = record e.input { pending = q; call = NotCalling; lists = e2.input.lists } }) (pending_put p e.input.pending x xs some)
 
       store : SameStore middle e2.input
       store = record {
@@ -134,7 +134,7 @@ module _ (sizes : Sizes) (e : Engine) (book : Book) (r : Reading) (rs : List Rea
       put_stands = record {
         sound = sound_still sizes (record e { input = middle }) e2 book.number book.all_lists (ap (λ (y : Engine). y.sizes) now) (ap (λ (y : Engine). y.readings.size) now) (ap (λ (y : Engine). y.conditionals) now) (ap (λ (y : Engine). y.names) now) (ap (λ (y : Engine). y.reports) now) store middle_sound;
         idle = ap (λ (y : Engine). y.input.making) now ∙ st.idle;
-        all = subst (λ (y : Engine). ReadingsStand y.call y book.number rs) (sym now) (record { frames = k.1.frames; shallow = k.1.shallow }, refl);
+        all = subst (λ (y : Engine). ReadingsStand (call_in y.input.call) y book.number rs) (sym now) (record { frames = k.1.frames; shallow = k.1.shallow });
       }
 
       put_state : made (CalledWith P) settled_state ≡ state_of e2 (with_work rs book)
@@ -149,7 +149,7 @@ module _ (sizes : Sizes) (e : Engine) (book : Book) (r : Reading) (rs : List Rea
     put_went f told fits = by_items p.items refl where
       by_items : (xs : List Item) → p.items ≡ xs → Went sizes (state_of e W) e2 (world_of f told e) (world_of f told e2) (arguments_put P xs) 0
       by_items [] none =
-          closed_went sizes e e2 book r rs c is st (after ∙ ap (λ (q : Pending). record e { call = None; input = record e.input { pending = q; call = NotCalling; lists = e2.input.lists } }) (pending_same p e.input.pending none)) all_lists
+          closed_went sizes e e2 book r rs c is st (after ∙ ap (λ (q : Pending). record e { input = record e.input { pending = q; call = NotCalling; lists = e2.input.lists } }) (pending_same p e.input.pending none)) all_lists
           (state_of e W) f told (world_of f told e) [] (did_none sizes (state_of e W) (world_of f told e)) refl
       by_items (x ∷ xs) some = record {
         book' = with_work rs book;
@@ -159,14 +159,7 @@ module _ (sizes : Sizes) (e : Engine) (book : Book) (r : Reading) (rs : List Rea
         count = refl;
       }
 
--- all arguments are there
-complete : (name : Name) (k : Calling) → IsGathered name k → IsComplete k
-complete name calls.NotCalling h = h
-complete name (calls.Gathering n scan) h = h
-complete name (calls.Stopped n scan) h = h
-complete name (calls.Gathered n args) h = tt
-
-module _ (sizes : Sizes) (e e2 : Engine) (book : Book) (r : Reading) (rs : List Reading) (name : Name) (is : e.call ≡ Some (record { name = name; ask = asked.Gathered })) (st : AllStand sizes e (with_work (r ∷ rs) book)) (h : CallStands e book.number (record { name = name; ask = asked.Gathered }) r) where
+module _ (sizes : Sizes) (e e2 : Engine) (book : Book) (r : Reading) (rs : List Reading) (name : Name) (is : call_in e.input.call ≡ Some (record { name = name; ask = asked.Gathered })) (st : AllStand sizes e (with_work (r ∷ rs) book)) (h : CallStands e book.number (record { name = name; ask = asked.Gathered }) r) where
   moves : called_with r.kind (args_of e.input.call) ≡ arguments_put (numbered book.number (call_put h.id (list_at e.input.lists h.id) (args_of e.input.call))) (call_put h.id (list_at e.input.lists h.id) (args_of e.input.call)).items
   moves = moves_are book.number name h.long h.id (list_at e.input.lists h.id) (args_of e.input.call) r.kind h.kind
 
@@ -176,14 +169,13 @@ module _ (sizes : Sizes) (e e2 : Engine) (book : Book) (r : Reading) (rs : List 
   meant : is_listed (lists_held e.input.groups) h.id ≡ true
   meant = meant_by e.input.groups name h.long h.outer h.id h.meaning
 
-  pub put_rule : (IsComplete e.input.call → e2 ≡ record e { call = None; input = record e.input { pending = after_call (put_of e.input.lists e.input.groups.now.meanings e.input.call) e.input.pending; call = NotCalling; lists = e2.input.lists } }) → KeepsShared e.input e2.input →
-      (IsComplete e.input.call → put_refusal (put_of e.input.lists e.input.groups.now.meanings e.input.call) e.input ≡ None) → (f : FilesTold) (told : SinkTold) →
+  pub put_rule : e2 ≡ record e { input = record e.input { pending = after_call (put_of e.input.lists e.input.groups.now.meanings e.input.call) e.input.pending; call = NotCalling; lists = e2.input.lists } } → KeepsShared e.input e2.input →
+      put_refusal (put_of e.input.lists e.input.groups.now.meanings e.input.call) e.input ≡ None → (f : FilesTold) (told : SinkTold) →
       Went sizes (state_of e (with_work (r ∷ rs) book)) e2 (world_of f told e) (world_of f told e2) (called_with r.kind (args_of e.input.call)) 0
   put_rule after all_lists fits f told =
-      let all : IsComplete e.input.call = complete name e.input.call h.at in
       went_by sizes _ e2 _ _ _ _ 0 moves (put_went sizes e book r rs _ is st h.id (list_at e.input.lists h.id) (args_of e.input.call) meant e2
-      (after all ∙ ap (λ (p : Put). record e { call = None; input = record e.input { pending = after_call p e.input.pending; call = NotCalling; lists = e2.input.lists } }) what) all_lists f told
-      (ap (λ (p : Put). put_refusal p e.input) (sym what) ∙ fits all))
+      (after ∙ ap (λ (p : Put). record e { input = record e.input { pending = after_call p e.input.pending; call = NotCalling; lists = e2.input.lists } }) what) all_lists f told
+      (ap (λ (p : Put). put_refusal p e.input) (sym what) ∙ fits))
 
   pub put_cut : e2 ≡ record e { input = record e.input { pending = end_token_lists e.input.pending; lists = e2.input.lists } } → (full : Full) → put_refusal (put_of e.input.lists e.input.groups.now.meanings e.input.call) e.input ≡ Some full → (w : World) →
       Cuts sizes (state_of e (with_work (r ∷ rs) book)) e2 (with_work (r ∷ rs) book) w w (called_with r.kind (args_of e.input.call)) (broken.Full full)

@@ -11,12 +11,12 @@ use Rattle.plain_readings.specs.Readings.{Kind, Reading, lists}
 use Rattle.plain_machine.specs.Plan.{failed_away}
 use Rattle.input_state.specs.CallFeeds.{call_work}
 use Rattle.input_state.specs.Callings as calls
-use Rattle.input_state.specs.Callings.{Calling, call_lists, last_first}
+use Rattle.input_state.specs.Callings.{Calling, call_lists, last_first, call_in}
 use Rattle.input_state.specs.Stored.{gathered}
 use Rattle.macro_call.specs.PlainScans.{Scan, scan_work}
-use Rattle.engine_state.specs.declared.call.Call.{Call}
-use Rattle.engine_state.specs.declared.call.CallAsk.{CallAsk}
-use Rattle.engine_state.specs.declared.call.CallAsk.TheVariants as asked
+use Rattle.input_state.specs.declared.answer.Call.{Call}
+use Rattle.macro_call.specs.declared.ask.CallAsk.{CallAsk}
+use Rattle.macro_call.specs.declared.ask.CallAsk.TheVariants as asked
 use Rattle.engine_state.specs.declared.engine.Engine.{Engine}
 use Rattle.engine_state.specs.Book.{Book}
 use Rattle.engine_state.specs.Calls.{CallStands, IsStopped, HasWork, open_call, argument_bytes, call_away_moves, work_or_none}
@@ -24,11 +24,11 @@ use Rattle.engine_state.specs.Rules.{WantsHere}
 use Rattle.engine_state.specs.Stands.{page_of}
 
 -- what the call is, where it asks for this
-pub asks_this : (e : Engine) (c : Call) (a : CallAsk) → e.call ≡ Some c → c.ask ≡ a → e.call ≡ Some (record { name = c.name; ask = a })
+pub asks_this : (e : Engine) (c : Call) (a : CallAsk) → call_in e.input.call ≡ Some c → c.ask ≡ a → call_in e.input.call ≡ Some (record { name = c.name; ask = a })
 asks_this e c a is same = is ∙ ap (λ (x : CallAsk). Some (record { name = c.name; ask = x })) same
 
 -- it takes a token as it stands
-pub call_wants : (e : Engine) (name : Name) → e.call ≡ Some (open_call name) → WantsHere e.call (Some Raw) e
+pub call_wants : (e : Engine) (name : Name) → call_in e.input.call ≡ Some (open_call name) → WantsHere (call_in e.input.call) (Some Raw) e
 call_wants e name is = subst (λ (c : Option Call). WantsHere c (Some Raw) e) (sym is) (refl, refl)
 
 -- AN ARGUMENT THAT RUNS AWAY
@@ -43,7 +43,7 @@ no_args scan h none = ap (λ (args : List (List Token)). last_first args []) (h 
 stopped_list : (name : Name) (k : Calling) (builds : List (List Token)) (n : ℕ) → IsStopped name k → n ≡ length (call_lists k) → list_on_top n (call_lists k ++ builds) ≡ work_or_none (call_work k)
 stopped_list name calls.NotCalling builds n h is = absurd h
 stopped_list name (calls.Gathering m scan) builds n h is = absurd h
-stopped_list name (calls.Stopped m scan) builds n h is = first_work (scan_work scan) (last_first scan.args []) builds n is (no_args scan h.1)
+stopped_list name (calls.Stopped m why scan) builds n h is = first_work (scan_work scan) (last_first scan.args []) builds n is (no_args scan h.1)
 stopped_list name (calls.Gathered m args) builds n h is = absurd h
 
 -- the call is what is read

@@ -1,6 +1,6 @@
 -- What a rule of a call makes lighter, and whether it has a step.
 use Rattle.std.proofs.Common.{◌≡◌, ◌+◌, ◌<◌, ◌≤◌, ap, ◌∙◌, subst, arith, Bool, false}
-use Rattle.std.specs.Prelude.{Option, Some, None, Result, Ok, Err, IfOk, OnErr, ◌&&◌}
+use Rattle.std.specs.Prelude.{Option, Some, None, Result, Ok, Err, IfOk, OnOk, OnErr, ◌&&◌}
 use Rattle.tex_defs.specs.declared.Name.{Name}
 use Rattle.plain_tokens.specs.Pending.{pulled}
 use Rattle.plain_readings.specs.Weights.{act_frame, act_weight}
@@ -10,15 +10,24 @@ use Rattle.reading_frames.proofs.Weights.{small as weights_small}
 use Rattle.input_state.specs.Reads.{gives_step}
 use Rattle.input_state.specs.Stored.{Stored}
 use Rattle.engine_state.specs.declared.broken.Broken.{Broken}
-use Rattle.engine_state.specs.declared.call.Call.{Call}
-use Rattle.engine_state.specs.declared.call.CallAsk.{CallAsk}
-use Rattle.engine_state.specs.declared.call.CallAsk.TheVariants as call
+use Rattle.input_state.specs.declared.answer.Call.{Call}
+use Rattle.macro_call.specs.PlainScans.{settled_scan}
+use Rattle.input_state.specs.CallFeeds.{with_scan}
+use Rattle.input_state.specs.Callings.{Calling, NotCalling, call_in}
+use Rattle.macro_call.specs.declared.ask.CallAsk.{CallAsk}
+use Rattle.macro_call.specs.declared.ask.CallAsk.TheVariants as call
 use Rattle.engine_state.specs.declared.engine.Engine.{Engine}
 use Rattle.engine_state.specs.declared.outcome.Ruled.{Ruled}
 use Rattle.engine_state.specs.declared.outcome.Ruled.TheVariants.{Step, Free, Halted}
 use Rattle.engine_state.specs.Calls.{brace_call, open_call}
+use Rattle.gullet.proofs.CallsIn.{settled_asks}
 use Rattle.engine_state.specs.Stands.{SameFrames}
 use Rattle.engine_state.specs.Steps.{stepping, asked, all_want, call_asks_more, pending_weight, readings_weight, call_weight, weight, IsStep, StepsIf}
+
+-- where there is none
+pub on_ok : {T E : Type 0} {P Q : Type 0} → (r : Result T E) → (P → Q) → OnOk r P → OnOk r Q
+on_ok (Ok x) f h = f h
+on_ok (Err e) f h = tt
 
 -- at an error
 pub on_err : {T E : Type 0} {P : Type 0} → (r : Result T E) → P → OnErr r P
@@ -30,7 +39,7 @@ on_err_to (Ok x) f h = tt
 on_err_to (Err e) f h = f h
 
 pub frames_join : (e e1 e2 : Engine) → SameFrames e e1 → SameFrames e1 e2 → SameFrames e e2
-frames_join e e1 e2 a b = record { readings = b.readings ∙ a.readings; lists = b.lists ∙ a.lists; call = b.call ∙ a.call; calling = b.calling ∙ a.calling }
+frames_join e e1 e2 a b = record { readings = b.readings ∙ a.readings; lists = b.lists ∙ a.lists; call = b.call ∙ a.call }
 
 -- WHAT THE ENGINE WEIGHS
 
@@ -40,7 +49,7 @@ readings_same e e1 (Some c) same = ap (λ (s : Stack). frames_weight s.frames + 
 
 pub same_weight : (e e1 : Engine) → SameFrames e e1 → pending_weight e1.input.pending ≡ pending_weight e.input.pending → weight e1 ≡ weight e
 same_weight e e1 same left =
-    let readings : readings_weight e1.call e1 ≡ readings_weight e.call e = ap (λ (c : Option Call). readings_weight c e1) same.call ∙ readings_same e e1 e.call same.readings in
+    let readings : readings_weight (call_in e1.input.call) e1 ≡ readings_weight (call_in e.input.call) e = ap (λ (k : Calling). readings_weight (call_in k) e1) same.call ∙ readings_same e e1 (call_in e.input.call) same.readings in
     omega (arith, readings, left)
 
 pub lighter_by : (e e1 e2 : Engine) → SameFrames e e1 → pending_weight e1.input.pending ≡ pending_weight e.input.pending → weight e2 < weight e1 → weight e2 < weight e
@@ -55,35 +64,38 @@ heavy call.Mismatch is = omega arith
 heavy (call.ParEnded silent) is = omega arith
 
 -- the engine without its call
-pub closed_light : (e : Engine) (i : Stored) (c : Call) → e.call ≡ Some c → call_asks_more c.ask ≡ false → pending_weight i.pending ≡ pending_weight e.input.pending → weight (record e { call = None; input = i }) < weight e
-closed_light e i c is none left =
-    let had : readings_weight e.call e ≡ readings_weight (Some c) e = ap (λ (c : Option Call). readings_weight c e) is in
-    omega (arith, had, left, heavy c.ask none, weights_small e.readings.frames)
+pub closed_light : (e : Engine) (i : Stored) (c : Call) → call_in e.input.call ≡ Some c → call_asks_more c.ask ≡ false → pending_weight i.pending ≡ pending_weight e.input.pending → i.call ≡ NotCalling → weight (record e { input = i }) < weight e
+closed_light e i c is none left gone =
+    let had : readings_weight (call_in e.input.call) e ≡ readings_weight (Some c) e = ap (λ (c : Option Call). readings_weight c e) is in
+    let has : readings_weight (call_in i.call) (record e { input = i }) ≡ stack_weight e.readings = ap (λ (k : Calling). readings_weight (call_in k) (record e { input = i })) gone in
+    omega (arith, had, has, left, heavy c.ask none, weights_small e.readings.frames)
 
 -- the same, where other lists may stand in front
-pub closed_within : (e x : Engine) (c : Call) → x.readings ≡ e.readings → pending_weight x.input.pending ≡ pending_weight e.input.pending → e.call ≡ Some c → call_asks_more c.ask ≡ false → weight (record x { call = None }) < weight e
-closed_within e x c same left is none =
-    let had : readings_weight e.call e ≡ readings_weight (Some c) e = ap (λ (c : Option Call). readings_weight c e) is in
-    let now : stack_weight x.readings ≡ stack_weight e.readings = ap stack_weight same in
-    omega (arith, had, now, left, heavy c.ask none, weights_small e.readings.frames)
+pub closed_within : (e x : Engine) (c : Call) → x ≡ record e { input = x.input } → x.input.call ≡ NotCalling → pending_weight x.input.pending ≡ pending_weight e.input.pending → call_in e.input.call ≡ Some c → call_asks_more c.ask ≡ false → weight x < weight e
+closed_within e x c now gone left is none =
+    let light : weight (record e { input = x.input }) < weight e = closed_light e x.input c is none left gone in
+    omega (arith, light, ap weight now)
 
 -- its call ends
-pub closed_lighter : (e e1 e2 : Engine) (i : Stored) (c : Call) → SameFrames e e1 → pending_weight e1.input.pending ≡ pending_weight e.input.pending → pending_weight i.pending ≡ pending_weight e1.input.pending → e2 ≡ record e1 { call = None; input = i } → e.call ≡ Some c → call_asks_more c.ask ≡ false → weight e2 < weight e
-closed_lighter e e1 e2 i c same before left after is none =
-    let light : weight (record e1 { call = None; input = i }) < weight e1 = closed_light e1 i c (same.call ∙ is) none left in
-    let now : weight e2 ≡ weight (record e1 { call = None; input = i }) = ap weight after in
+pub closed_lighter : (e e1 e2 : Engine) (i : Stored) (c : Call) → SameFrames e e1 → pending_weight e1.input.pending ≡ pending_weight e.input.pending → pending_weight i.pending ≡ pending_weight e1.input.pending → i.call ≡ NotCalling → e2 ≡ record e1 { input = i } → call_in e.input.call ≡ Some c → call_asks_more c.ask ≡ false → weight e2 < weight e
+closed_lighter e e1 e2 i c same before left gone after is none =
+    let light : weight (record e1 { input = i }) < weight e1 = closed_light e1 i c (ap call_in same.call ∙ is) none left gone in
+    let now : weight e2 ≡ weight (record e1 { input = i }) = ap weight after in
     omega (arith, light, now, same_weight e e1 same before)
 
 -- it goes on behind its extra brace
-pub brace_lighter : (e e1 e2 : Engine) (i : Stored) (name : Name) → SameFrames e e1 → pending_weight e1.input.pending ≡ pending_weight e.input.pending → pending_weight i.pending ≡ pending_weight e1.input.pending → e2 ≡ record e1 { call = Some (open_call name); input = i } → e.call ≡ Some (brace_call name) → weight e2 < weight e
-brace_lighter e e1 e2 i name same before left after is =
-    let now : weight e2 ≡ weight (record e1 { call = Some (open_call name); input = i }) = ap weight after in
-    let had : readings_weight e1.call e1 ≡ readings_weight (Some (brace_call name)) e1 = ap (λ (c : Option Call). readings_weight c e1) (same.call ∙ is) in
-    omega (arith, now, had, left, same_weight e e1 same before)
+pub brace_lighter : (e e1 e2 : Engine) (name : Name) → SameFrames e e1 → pending_weight e1.input.pending ≡ pending_weight e.input.pending → e2 ≡ record e1 { input = record e1.input { call = with_scan settled_scan e1.input.call } } → call_in e.input.call ≡ Some (brace_call name) → weight e2 < weight e
+brace_lighter e e1 e2 name same before after is =
+    let was : call_in e1.input.call ≡ Some (brace_call name) = ap call_in same.call ∙ is in
+    let i : Stored = record e1.input { call = with_scan settled_scan e1.input.call } in
+    let now : weight e2 ≡ weight (record e1 { input = i }) = ap weight after in
+    let has : readings_weight (call_in i.call) (record e1 { input = i }) ≡ readings_weight (Some (open_call name)) e1 = ap (λ (c : Option Call). readings_weight c (record e1 { input = i })) (settled_asks name e1.input.call was) in
+    let had : readings_weight (call_in e1.input.call) e1 ≡ readings_weight (Some (brace_call name)) e1 = ap (λ (c : Option Call). readings_weight c e1) was in
+    omega (arith, now, has, had, same_weight e e1 same before)
 
 -- WHETHER IT HAS A STEP
 
-pub call_steps : (e : Engine) (call : Call) → e.call ≡ Some call → stepping e ≡ (all_want (Some call) (asked e) && gives_step (pulled e.input.groups.now.categories e.input.pending))
+pub call_steps : (e : Engine) (call : Call) → call_in e.input.call ≡ Some call → stepping e ≡ (all_want (Some call) (asked e) && gives_step (pulled e.input.groups.now.categories e.input.pending))
 call_steps e call is = ap (λ (x : Option Call). all_want x (asked e) && gives_step (pulled e.input.groups.now.categories e.input.pending)) is
 
 pub steps_as_one : (r : Result Ruled Broken) (b b' : Bool) → b ≡ b' → IfOk r (λ ruled. StepsIf ruled b) → IfOk r (λ ruled. StepsIf ruled b')

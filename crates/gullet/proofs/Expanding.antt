@@ -40,6 +40,7 @@ use Rattle.gullet.specs.declared.expansion.Expansion.{Expansion}
 use Rattle.gullet.specs.declared.expansion.Once.TheVariants as once
 use Rattle.gullet.specs.Stepping.{EndsRun, Expands, ExpandsOnce, ExpandsTo, IsStayed, Steps, Stays, changes, expands, is_expansion, once_by, wants_raw}
 use Rattle.gullet.proofs.Stepping.{no}
+use Rattle.input_state.specs.Callings.{NotCalling, call_in}
 
 -- WHAT IS EXPANDED
 
@@ -174,7 +175,7 @@ stays_expands sizes want e e' book f s s' x same silent takes stays =
 
 -- BEHIND A STEP
 
-module _ (sizes : Sizes) (want : Option Want) (s : State) (e1 e2 : Engine) (book : Book) (w v w' : World) (moves : List Move) (x : Seen) (c : Comes sizes want s e1 book w v moves x 1) (none : e1.call ≡ None) where
+module _ (sizes : Sizes) (want : Option Want) (s : State) (e1 e2 : Engine) (book : Book) (w v w' : World) (moves : List Move) (x : Seen) (c : Comes sizes want s e1 book w v moves x 1) (none : e1.input.call ≡ NotCalling) where
   abbrev onward : List Move
   onward = onward_of (page_of e1 c.book') want c.book'.work x
 
@@ -205,7 +206,7 @@ noted_steps b sizes want s e book w w' moves (Over o) h = noted_halts b sizes s 
 -- THE OPEN READINGS
 
 pub halted_readings : (e e1 e2 : Engine) → SameReadings e e1 → SameFrames e1 e2 → SameReadings e e2
-halted_readings e e1 e2 a b = record { readings = b.readings ∙ a.readings; lists = b.lists ∙ a.lists; call = b.call ∙ a.call }
+halted_readings e e1 e2 a b = record { readings = b.readings ∙ a.readings; lists = b.lists ∙ a.lists; call = ap call_in b.call ∙ a.call }
 
 pub kept_readings : (e e1 e2 : Engine) → SameReadings e e1 → e2 ≡ e1 → SameReadings e e2
 kept_readings e e1 e2 a is = subst (SameReadings e) (sym is) a

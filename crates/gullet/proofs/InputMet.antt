@@ -36,8 +36,8 @@ met_first page t c is = ap (met_by t c) is
 pub naming_stands : (sizes : Sizes) (e : Engine) (book : Book) → Stands sizes e book → Stands sizes (record e { naming = true }) book
 naming_stands sizes e book st =
     let next : Engine = record e { naming = true } in
-    framed sizes next book st.uncalled.none
-    (all_still sizes e next book (record { readings = refl; lists = refl; call = refl; calling = refl }) (store_same e.input)
+    framed sizes next book st.uncalled
+    (all_still sizes e next book (record { readings = refl; lists = refl; call = refl }) (store_same e.input)
     (sound_still sizes e next book.number book.all_lists refl refl refl refl refl (store_same e.input) st.sound) st.idle (all_of sizes e book st))
 
 pub name_begins : (sizes : Sizes) (e e1 : Engine) (book : Book) (w : World) (t : Token) (c : Call) → e.naming ≡ false → refusal sizes (Begun (FileName c)) (state_of e book) ≡ None →

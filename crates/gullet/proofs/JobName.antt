@@ -40,7 +40,7 @@ full_in sizes e e' book w m rest full is refused st =
 -- behind its name
 pub name_stands : (sizes : Sizes) (e e' : Engine) (book : Book) → SameFrames e e' → SameOthers e e' → SameStore e.input e'.input → e'.input.making ≡ None → Stands sizes e book → Stands sizes e' book
 name_stands sizes e e' book same others store idle st =
-    framed sizes e' book (same.call ∙ st.uncalled.none)
+    framed sizes e' book (same.call ∙ st.uncalled)
     (all_still sizes e e' book same store (sound_still sizes e e' book.number book.all_lists others.sizes others.depth others.conditionals others.names others.reports store st.sound) idle (all_of sizes e book st))
 
 module _ (sizes : Sizes) (e e1 e2 : Engine) (book : Book) (w : World) (k : Kind) (fits : refusal sizes (Begun k) (state_of e book) ≡ None) (is : made (Begun k) (state_of e book) ≡ state_of e1 (with_work (opened k book.work) book)) (names : e1.names ≡ e.names) where

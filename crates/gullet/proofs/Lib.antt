@@ -11,6 +11,7 @@ pub mod CallLists
 pub mod CallPutting
 pub mod CallRules
 pub mod CallWeighing
+pub mod CallsIn
 pub mod Choosing
 pub mod Ending
 pub mod Expanding

@@ -1,2 +1,1 @@
-pub mod CallAsks
 pub mod Stepping

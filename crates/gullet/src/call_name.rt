@@ -18,14 +18,13 @@ ghost use Rattle.input_state.specs.Callings as calls;
 ghost use Rattle.input_state.specs.Calls.{call_kind, text_of};
 ghost use Rattle.input_state.specs.Stored.{KeepsShared};
 ghost use Rattle.engine_state.specs.Book.{Book};
-ghost use Rattle.engine_state.specs.Calls.{open_call};
 ghost use Rattle.engine_state.specs.Clauses.{GoesFree};
 ghost use Rattle.engine_state.specs.Stands.{Stands, Counts, SameFrames, state_of, page_of};
 ghost use Rattle.engine_state.specs.Rules.{Cuts};
 ghost use Rattle.engine_state.specs.Steps.{weight, pending_weight};
 ghost use Rattle.engine_state.specs.declared.broken.Broken.TheVariants as broken;
 
-use engine_state::{Call, CallAsk, Engine, name_of};
+use engine_state::{Engine, name_of};
 use input_state::CallKind;
 use tex_defs::{Full, Meaning, Name, Seen, Token};
 
@@ -42,7 +41,7 @@ pub(crate) fn call_name(engine: &mut Engine, token: Token) -> Result<(), Full>
     ensures frames { OnErr result (SameFrames engine.old engine.new) }
     ensures column { engine.new.in_line ≡ engine.old.in_line }
     ensures idle { engine.new.input.making ≡ engine.old.input.making }
-    ensures light { OnOk result (engine.old.call ≡ None → innermost_weight engine.old.readings.frames ≤ act_weight → weight engine.new ≤ frames_weight engine.old.readings.frames + act_weight + pending_weight engine.old.input.pending) }
+    ensures light { OnOk result (engine.old.input.call ≡ NotCalling → innermost_weight engine.old.readings.frames ≤ act_weight → weight engine.new ≤ frames_weight engine.old.readings.frames + act_weight + pending_weight engine.old.input.pending) }
 {
     if engine.input.is_calling() {
         return Ok(());
@@ -65,7 +64,7 @@ pub(crate) fn call_name(engine: &mut Engine, token: Token) -> Result<(), Full>
 fn begin_call(engine: &mut Engine, name: Name, long: bool) -> Result<(), Full>
     requires none { engine.old.input.call ≡ NotCalling }
     requires gathers { call_kind engine.old.input.lists (name_meaning engine.old.input.groups.now.meanings name) ≡ Gathers }
-    ensures ok { OnOk result (engine.new ≡ record engine.old { call = Some (open_call name); input = record engine.old.input { call = calls.Gathering name (first_scan (text_of engine.old.input.lists engine.old.input.groups.now.meanings name) (mode_of long)); lists = engine.new.input.lists } }) }
+    ensures ok { OnOk result (engine.new ≡ record engine.old { input = record engine.old.input { call = calls.Gathering name (first_scan (text_of engine.old.input.lists engine.old.input.groups.now.meanings name) (mode_of long)); lists = engine.new.input.lists } }) }
     ensures fits { OnOk result ((sizes : Sizes) (book : Book) (number : ℕ) → Counts sizes engine.old book → refusal sizes (Begun (Arguments name long number (text_of engine.old.input.lists engine.old.input.groups.now.meanings name))) (state_of engine.old book) ≡ None) }
     ensures refused { IfErr result (λ full. (sizes : Sizes) (book : Book) (number : ℕ) → Counts sizes engine.old book → refusal sizes (Begun (Arguments name long number (text_of engine.old.input.lists engine.old.input.groups.now.meanings name))) (state_of engine.old book) ≡ Some full) }
     ensures err { OnErr result (engine.new ≡ engine.old) }
@@ -77,10 +76,6 @@ fn begin_call(engine: &mut Engine, name: Name, long: bool) -> Result<(), Full>
         return Err(full);
     }
     engine.input.begin_call(name, long)?;
-    engine.call = Some(Call {
-        name,
-        ask: CallAsk::More,
-    });
     Ok(())
 }
 

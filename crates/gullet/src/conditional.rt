@@ -5,6 +5,7 @@ ghost use Rattle.conditionals.specs.Open.{constant_test as plain_constant};
 ghost use Rattle.plain_readings.specs.Weights.{act_frame, act_weight};
 ghost use Rattle.reading_frames.specs.Weights.{frames_weight, innermost_weight};
 ghost use Rattle.plain_machine.specs.Plan.{chosen, conditional_begun, ender_met, skips};
+ghost use Rattle.input_state.specs.Callings.{NotCalling};
 ghost use Rattle.engine_state.specs.Clauses.{GoesFree, CutsFree, GoesOnward, CutsOnward};
 ghost use Rattle.engine_state.specs.Stands.{SameFrames};
 ghost use Rattle.engine_state.specs.Steps.{pending_weight, weight, IsHalted};
@@ -25,8 +26,8 @@ use world_io::Sink;
 pub fn skip_on(engine: &mut Engine, call: Call, aim: Aim) -> Result<(), Broken>
     ensures rule { OnOk result (GoesFree engine.old engine.new (λ page. skips page call aim)) }
     ensures err { IfErr result (λ b. CutsFree engine.old engine.new (λ page. skips page call aim) b) }
-    ensures light { OnOk result ((most : ℕ) → engine.old.call ≡ None → act_frame ≤ most → weight engine.new ≤ frames_weight engine.old.readings.frames + most + pending_weight engine.old.input.pending) }
-    ensures call { engine.new.call ≡ engine.old.call }
+    ensures light { OnOk result ((most : ℕ) → engine.old.input.call ≡ NotCalling → act_frame ≤ most → weight engine.new ≤ frames_weight engine.old.readings.frames + most + pending_weight engine.old.input.pending) }
+    ensures call { engine.new.input.call ≡ engine.old.input.call }
     ensures column { engine.new.in_line ≡ engine.old.in_line }
     ensures idle { engine.new.input.making ≡ engine.old.input.making }
 {
@@ -43,8 +44,8 @@ pub fn skip_on(engine: &mut Engine, call: Call, aim: Aim) -> Result<(), Broken>
 pub fn choose(engine: &mut Engine, call: Call, value: Value) -> Result<(), Broken>
     ensures rule { OnOk result (GoesFree engine.old engine.new (λ page. chosen page call value)) }
     ensures err { IfErr result (λ b. CutsFree engine.old engine.new (λ page. chosen page call value) b) }
-    ensures light { OnOk result ((most : ℕ) → engine.old.call ≡ None → act_frame ≤ most → innermost_weight engine.old.readings.frames ≤ most → weight engine.new ≤ frames_weight engine.old.readings.frames + most + pending_weight engine.old.input.pending) }
-    ensures call { engine.new.call ≡ engine.old.call }
+    ensures light { OnOk result ((most : ℕ) → engine.old.input.call ≡ NotCalling → act_frame ≤ most → innermost_weight engine.old.readings.frames ≤ most → weight engine.new ≤ frames_weight engine.old.readings.frames + most + pending_weight engine.old.input.pending) }
+    ensures call { engine.new.input.call ≡ engine.old.input.call }
     ensures column { engine.new.in_line ≡ engine.old.in_line }
     ensures idle { engine.new.input.making ≡ engine.old.input.making }
 {
@@ -65,7 +66,7 @@ pub fn choose(engine: &mut Engine, call: Call, value: Value) -> Result<(), Broke
 pub(crate) fn begin_conditional(engine: &mut Engine, call: Call, number: u16) -> Result<(), Broken>
     ensures rule { OnOk result (GoesFree engine.old engine.new (λ page. conditional_begun page call number (plain_constant number))) }
     ensures err { IfErr result (λ b. CutsFree engine.old engine.new (λ page. conditional_begun page call number (plain_constant number)) b) }
-    ensures light { OnOk result (engine.old.call ≡ None → innermost_weight engine.old.readings.frames ≤ act_weight → weight engine.new ≤ frames_weight engine.old.readings.frames + act_weight + pending_weight engine.old.input.pending) }
+    ensures light { OnOk result (engine.old.input.call ≡ NotCalling → innermost_weight engine.old.readings.frames ≤ act_weight → weight engine.new ≤ frames_weight engine.old.readings.frames + act_weight + pending_weight engine.old.input.pending) }
     ensures column { engine.new.in_line ≡ engine.old.in_line }
     ensures idle { engine.new.input.making ≡ engine.old.input.making }
 {
@@ -93,7 +94,7 @@ pub(crate) fn meet_ender<S: Sink>(
     ender: Ender,
 ) -> Result<Ruled, Broken>
     requires idle { engine.old.input.making ≡ None }
-    requires uncalled { engine.old.call ≡ None }
+    requires uncalled { engine.old.input.call ≡ NotCalling }
     ensures rule { IfOk result (λ ruled. GoesOnward engine.old engine.new (S.told out.old) (S.told out.new) (λ page. ender_met page token call ender) ruled) }
     ensures err { IfErr result (λ b. CutsOnward engine.old engine.new (S.told out.old) (S.told out.new) (λ page. ender_met page token call ender) b) }
     ensures halts { IfOk result (λ ruled. IsHalted ruled → SameFrames engine.old engine.new) }

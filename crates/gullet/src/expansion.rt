@@ -1,20 +1,21 @@
 // A token is expanded where it can be.
 // *The TeXbook*, chapter 20; *TeX: The Program*, part 25 (`get_x_token`, `expand`).
-ghost use Rattle.std.specs.Prelude.{◌≡◌, ◌<◌, ◌≤◌, ◌+◌, not, IfOk, IfErr, OnOk, MatchResult, List, None, false, true};
+ghost use Rattle.std.specs.Prelude.{◌≡◌, ◌<◌, ◌≤◌, ◌+◌, IfOk, IfErr, OnOk, MatchResult, List, None, false, true};
 ghost use Rattle.tex_defs.specs.declared.Sizes.{Sizes};
 ghost use Rattle.plain_tokens.specs.Pending.{pulled};
 ghost use Rattle.plain_readings.specs.Weights.{act_weight};
 ghost use Rattle.reading_frames.specs.Views.{kind_of};
-ghost use Rattle.reading_frames.specs.Weights.{frames_weight, innermost_weight, begun_weight};
+ghost use Rattle.reading_frames.specs.Weights.{frames_weight, innermost_weight};
 ghost use Rattle.plain_machine.specs.States.{Move};
 ghost use Rattle.plain_machine.specs.Plan.{Page, call_of as plain_call, expanded, expansion as plain_expansion, input_met, is_expandable_primitive};
 ghost use Rattle.world_io.specs.Contents.{FilesTold};
 ghost use Rattle.input_state.specs.Reads.{gives_step};
+ghost use Rattle.input_state.specs.Callings.{NotCalling};
 ghost use Rattle.engine_state.specs.Book.{Book};
-ghost use Rattle.engine_state.specs.Clauses.{GoesFree, CutsFree};
+ghost use Rattle.engine_state.specs.Clauses.{GoesFree, CutsFree, CutsWhere, DoesWhere, Taking};
 ghost use Rattle.engine_state.specs.CutReadings.{CutsIn};
 ghost use Rattle.engine_state.specs.Stands.{Stands, SameFrames, SameReadings, state_of, page_of};
-ghost use Rattle.engine_state.specs.Rules.{world_of, onward_of, enters_of, Takes, next_moves};
+ghost use Rattle.engine_state.specs.Rules.{world_of, onward_of, enters_of, next_moves};
 ghost use Rattle.engine_state.specs.Steps.{weight, pending_weight};
 ghost use Rattle.gullet.specs.Stepping.{IsLight, ExpandsTo, is_expansion, expands, job_moves, row_moves, wants_raw, ExpandsOnce, IsExpanded, IsStayed, EndsRun, changes, once_by, Expands, Steps, StepStepsIf, IsSkipped, IsKept, IsOver, ends_run};
 
@@ -185,7 +186,7 @@ fn put_job(engine: &mut Engine, opening: Opening) -> Result<(), Broken>
     ensures rule { OnOk result (GoesFree engine.old engine.new (λ page. job_moves page (kind_of opening))) }
     ensures err { IfErr result (λ b. CutsFree engine.old engine.new (λ page. job_moves page (kind_of opening)) b) }
     ensures frames { OnOk result (engine.new.readings.frames ≡ engine.old.readings.frames) }
-    ensures call { OnOk result (engine.new.call ≡ engine.old.call) }
+    ensures call { OnOk result (engine.new.input.call ≡ engine.old.input.call) }
     ensures pending { OnOk result (pending_weight engine.new.input.pending ≡ pending_weight engine.old.input.pending) }
     ensures column { engine.new.in_line ≡ engine.old.in_line }
     ensures idle { OnOk result (engine.new.input.making ≡ None) }
@@ -205,8 +206,8 @@ fn begin_input(engine: &mut Engine, token: Token, call: Call) -> Result<(), Brok
     requires idle { engine.old.input.making ≡ None }
     ensures rule { OnOk result (GoesFree engine.old engine.new (λ page. input_met page token call)) }
     ensures err { IfErr result (λ b. CutsFree engine.old engine.new (λ page. input_met page token call) b) }
-    ensures light { OnOk result (engine.old.call ≡ None → innermost_weight engine.old.readings.frames ≤ act_weight → weight engine.new ≤ frames_weight engine.old.readings.frames + act_weight + pending_weight engine.old.input.pending) }
-    ensures call { OnOk result (engine.new.call ≡ engine.old.call) }
+    ensures light { OnOk result (engine.old.input.call ≡ NotCalling → innermost_weight engine.old.readings.frames ≤ act_weight → weight engine.new ≤ frames_weight engine.old.readings.frames + act_weight + pending_weight engine.old.input.pending) }
+    ensures call { OnOk result (engine.new.input.call ≡ engine.old.input.call) }
     ensures column { engine.new.in_line ≡ engine.old.in_line }
     ensures idle { OnOk result (engine.new.input.making ≡ None) }
 {
@@ -224,7 +225,7 @@ fn begin_input(engine: &mut Engine, token: Token, call: Call) -> Result<(), Brok
 /// There is no room for what comes, or a write failed: the engine stands for the moment before.
 pub fn expand_once<S: Sink>(engine: &mut Engine, out: &mut S, seen: Seen) -> Result<Once, Broken>
     requires idle { engine.old.input.making ≡ None }
-    requires uncalled { engine.old.call ≡ None }
+    requires uncalled { engine.old.input.call ≡ NotCalling }
     ensures rule { IfOk result (λ once. (sizes : Sizes) (f : FilesTold) (book : Book) (moves : List Move) → Stands sizes engine.old book →
         ExpandsOnce sizes (state_of engine.old book) engine.new book (world_of f (S.told out.old) engine.old) (world_of f (S.told out.new) engine.new) (expanded (page_of engine.old book) seen moves) moves once) }
     ensures err { IfErr result (λ b. (sizes : Sizes) (f : FilesTold) (book : Book) (moves : List Move) → Stands sizes engine.old book →
@@ -291,11 +292,9 @@ fn expand<S: Sink>(
     seen: Seen,
 ) -> Result<Stepped, Broken>
     requires idle { engine.old.input.making ≡ None }
-    requires uncalled { engine.old.call ≡ None }
-    ensures rule { IfOk result (λ stepped. (sizes : Sizes) (f : FilesTold) (book : Book) → Takes sizes want engine.old book →
-        Expands sizes want (state_of engine.old book) engine.new book (world_of f (S.told out.old) engine.old) (world_of f (S.told out.new) engine.new) (onward_of (page_of engine.old book) want book.work seen) seen stepped) }
-    ensures err { IfErr result (λ b. (sizes : Sizes) (f : FilesTold) (book : Book) → Takes sizes want engine.old book →
-        CutsIn sizes (state_of engine.old book) engine.new (world_of f (S.told out.old) engine.old) (world_of f (S.told out.new) engine.new) (onward_of (page_of engine.old book) want book.work seen) b) }
+    requires uncalled { engine.old.input.call ≡ NotCalling }
+    ensures rule { IfOk result (DoesWhere (Taking want) (λ sizes s e book w v moves stepped. Expands sizes want s e book w v moves seen stepped) engine.old engine.new (S.told out.old) (S.told out.new) (λ book. onward_of (page_of engine.old book) want book.work seen)) }
+    ensures err { IfErr result (CutsWhere (Taking want) engine.old engine.new (S.told out.old) (S.told out.new) (λ book. onward_of (page_of engine.old book) want book.work seen)) }
     ensures kept { IfOk result (λ stepped. IsSkipped stepped → ⊥) }
     ensures halts { IfOk result (λ stepped. IsOver stepped → SameFrames engine.old engine.new) }
     ensures stays { IfOk result (λ stepped. IsKept stepped → engine.new ≡ engine.old) }
@@ -332,14 +331,12 @@ pub fn step<S: Sink>(
     want: Option<Want>,
 ) -> Result<Stepped, Broken>
     requires idle { engine.old.input.making ≡ None }
-    requires uncalled { engine.old.call ≡ None }
+    requires uncalled { engine.old.input.call ≡ NotCalling }
     requires running { engine.old.stopped ≡ false }
     ensures light { IfOk result (λ stepped. IsSkipped stepped → weight engine.new < weight engine.old) }
     ensures step { IfOk result (λ stepped. StepStepsIf stepped (gives_step (pulled engine.old.input.groups.now.categories engine.old.input.pending))) }
-    ensures rule { IfOk result (λ stepped. (sizes : Sizes) (f : FilesTold) (book : Book) → Takes sizes want engine.old book →
-        Steps sizes want (state_of engine.old book) engine.new book (world_of f (S.told out.old) engine.old) (world_of f (S.told out.new) engine.new) (next_moves want engine.old book) stepped) }
-    ensures err { IfErr result (λ b. (sizes : Sizes) (f : FilesTold) (book : Book) → Takes sizes want engine.old book →
-        CutsIn sizes (state_of engine.old book) engine.new (world_of f (S.told out.old) engine.old) (world_of f (S.told out.new) engine.new) (next_moves want engine.old book) b) }
+    ensures rule { IfOk result (DoesWhere (Taking want) (λ sizes. Steps sizes want) engine.old engine.new (S.told out.old) (S.told out.new) (next_moves want engine.old)) }
+    ensures err { IfErr result (CutsWhere (Taking want) engine.old engine.new (S.told out.old) (S.told out.new) (next_moves want engine.old)) }
     ensures halts { IfOk result (λ stepped. IsOver stepped → SameReadings engine.old engine.new) }
     ensures stays { IfOk result (λ stepped. IsKept stepped → SameReadings engine.old engine.new) }
     ensures idle { OnOk result (engine.new.input.making ≡ None) }

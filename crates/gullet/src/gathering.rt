@@ -1,5 +1,5 @@
 // A call that gathers its arguments.
-ghost use Rattle.std.specs.Prelude.{◌≡◌, ◌++◌, ◌∷◌, ◌<◌, [], List, None, Some, IfOk, IfErr, OnOk, OnErr, MatchResult, false, true};
+ghost use Rattle.std.specs.Prelude.{◌≡◌, ◌++◌, ◌∷◌, ◌<◌, [], List, None, Some, IsSome, IfOk, IfErr, OnOk, OnErr, MatchResult, false, true};
 ghost use Rattle.tex_syntax.specs.declared.words.Report.TheVariants.{ParagraphEnded, ExtraBrace};
 ghost use Rattle.tex_syntax.specs.declared.words.Want.TheVariants.{Raw};
 ghost use Rattle.tex_defs.specs.declared.Sizes.{Sizes};
@@ -10,25 +10,26 @@ ghost use Rattle.plain_machine.specs.States.{Feeds};
 ghost use Rattle.plain_machine.specs.Plan.{failed, put_one, reported};
 ghost use Rattle.world_io.specs.Contents.{FilesTold};
 ghost use Rattle.macro_call.specs.PlainScans.{settled_scan};
-ghost use Rattle.input_state.specs.CallFeeds.{with_scan};
+ghost use Rattle.input_state.specs.CallFeeds.{IsTaking, with_scan};
 ghost use Rattle.plain_tokens.specs.Pending.{end_token_lists};
-ghost use Rattle.input_state.specs.Callings.{NotCalling, IsComplete};
+ghost use Rattle.input_state.specs.Callings.{NotCalling, IsComplete, call_in};
 ghost use Rattle.input_state.specs.Calls.{after_call, put_of};
 ghost use Rattle.input_state.specs.Stored.{KeepsShared, put_refusal};
 ghost use Rattle.engine_state.specs.Book.{Book, with_work};
-ghost use Rattle.engine_state.specs.Calls.{AllStand, argument_bytes, brace_call, open_call, call_away_moves};
-ghost use Rattle.engine_state.specs.CutReadings.{CutsIn};
+ghost use Rattle.engine_state.specs.Clauses.{CutsWhere, DoesWhere, Taking, DoesAtReading};
+ghost use Rattle.engine_state.specs.Calls.{AllStand, argument_bytes, brace_call, call_away_moves};
 ghost use Rattle.engine_state.specs.Stands.{SameFrames, state_of, page_of};
-ghost use Rattle.engine_state.specs.Rules.{world_of, next_moves, Takes, Cuts, DoesRule};
-ghost use Rattle.engine_state.specs.declared.call.CallAsk.TheVariants.{More as AsksMore};
+ghost use Rattle.engine_state.specs.Rules.{world_of, next_moves, Cuts, DoesRule};
 ghost use Rattle.input_state.specs.Reads.{gives_step};
 ghost use Rattle.plain_tokens.specs.Pending.{pulled};
 ghost use Rattle.engine_state.specs.Steps.{stepping, call_asks_more, stops_run, IsStep, IsFree, IsHalted, StepsIf, weight};
 ghost use Rattle.engine_state.specs.OneRule.{DoesPlan, CutsPlan};
-ghost use Rattle.engine_state.specs.declared.call.Call.{Call};
+ghost use Rattle.input_state.specs.declared.answer.Call.{Call};
 
 use crate::feeding::feed_call;
-use engine_state::{Broken, Call, CallAsk, Engine, Next, PAR, Ruled, stops};
+use engine_state::{Broken, Engine, Next, PAR, Ruled, stops};
+use input_state::Call;
+use macro_call::CallAsk;
 use tex_defs::{Fatal, Full, Name};
 use tex_syntax::{Outcome, Report};
 use world_io::Sink;
@@ -40,7 +41,7 @@ use world_io::Sink;
 pub fn gather<S: Sink>(engine: &mut Engine, out: &mut S, call: Call) -> Result<Ruled, Broken>
     requires idle { engine.old.input.making ≡ None }
     requires running { engine.old.stopped ≡ false }
-    requires call { engine.old.call ≡ Some call }
+    requires call { call_in engine.old.input.call ≡ Some call }
     ensures light { IfOk result (λ ruled. IsFree ruled → weight engine.new < weight engine.old) }
     ensures step { IfOk result (λ ruled. StepsIf ruled (stepping engine.old)) }
     ensures rule { IfOk result (λ ruled. DoesPlan engine.old engine.new (S.told out.old) (S.told out.new) ruled) }
@@ -58,7 +59,7 @@ pub fn gather<S: Sink>(engine: &mut Engine, out: &mut S, call: Call) -> Result<R
 fn call_rule<S: Sink>(engine: &mut Engine, out: &mut S, call: Call) -> Result<Ruled, Broken>
     requires idle { engine.old.input.making ≡ None }
     requires running { engine.old.stopped ≡ false }
-    requires call { engine.old.call ≡ Some call }
+    requires call { call_in engine.old.input.call ≡ Some call }
     ensures light { IfOk result (λ ruled. IsFree ruled → weight engine.new < weight engine.old) }
     ensures step { IfOk result (λ ruled. StepsIf ruled (stepping engine.old)) }
     ensures rule { IfOk result (λ ruled. DoesPlan engine.old engine.new (S.told out.old) (S.told out.new) ruled) }
@@ -67,7 +68,7 @@ fn call_rule<S: Sink>(engine: &mut Engine, out: &mut S, call: Call) -> Result<Ru
     ensures idle { OnOk result (engine.new.input.making ≡ None) }
 {
     match call.ask {
-        CallAsk::More => take(engine, out, call),
+        CallAsk::More => take(engine, out),
         CallAsk::ExtraBrace => settle_brace(engine, out, call.name),
         CallAsk::Gathered => {
             put_call(engine)?;
@@ -83,23 +84,20 @@ fn call_rule<S: Sink>(engine: &mut Engine, out: &mut S, call: Call) -> Result<Ru
 }
 
 /// The call takes the next token.
-fn take<S: Sink>(engine: &mut Engine, out: &mut S, call: Call) -> Result<Ruled, Broken>
+fn take<S: Sink>(engine: &mut Engine, out: &mut S) -> Result<Ruled, Broken>
     requires idle { engine.old.input.making ≡ None }
     requires running { engine.old.stopped ≡ false }
-    requires call { engine.old.call ≡ Some call }
-    requires asks { call.ask ≡ AsksMore }
+    requires call { IsSome (call_in engine.old.input.call) }
     ensures light { IfOk result (λ ruled. IsFree ruled → weight engine.new < weight engine.old) }
     ensures step { IfOk result (λ ruled. StepsIf ruled (gives_step (pulled engine.old.input.groups.now.categories engine.old.input.pending))) }
-    ensures rule { IfOk result (λ ruled. (sizes : Sizes) (f : FilesTold) (book : Book) → Takes sizes (Some Raw) engine.old book →
-        DoesRule sizes (state_of engine.old book) engine.new book (world_of f (S.told out.old) engine.old) (world_of f (S.told out.new) engine.new) (next_moves (Some Raw) engine.old book) ruled) }
-    ensures err { IfErr result (λ b. (sizes : Sizes) (f : FilesTold) (book : Book) → Takes sizes (Some Raw) engine.old book →
-        CutsIn sizes (state_of engine.old book) engine.new (world_of f (S.told out.old) engine.old) (world_of f (S.told out.new) engine.new) (next_moves (Some Raw) engine.old book) b) }
+    ensures rule { IfOk result (DoesWhere (Taking (Some Raw)) DoesRule engine.old engine.new (S.told out.old) (S.told out.new) (next_moves (Some Raw) engine.old)) }
+    ensures err { IfErr result (CutsWhere (Taking (Some Raw)) engine.old engine.new (S.told out.old) (S.told out.new) (next_moves (Some Raw) engine.old)) }
     ensures halts { IfOk result (λ ruled. IsHalted ruled → SameFrames engine.old engine.new) }
     ensures idle { OnOk result (engine.new.input.making ≡ None) }
 {
     match engine.next_token(out, true)? {
         Next::Token(seen) => {
-            feed_call(engine, call, seen)?;
+            feed_call(engine, seen)?;
             Ok(Ruled::Step)
         }
         Next::Line => Ok(Ruled::Step),
@@ -110,31 +108,28 @@ fn take<S: Sink>(engine: &mut Engine, out: &mut S, call: Call) -> Result<Ruled, 
 
 /// The arguments pass to the body of the macro, which is put; one without items isn't. The call has ended.
 fn put_call(engine: &mut Engine) -> Result<(), Full>
-    ensures ok { OnOk result (IsComplete engine.old.input.call → engine.new ≡ record engine.old { call = None; input = record engine.old.input { pending = after_call (put_of engine.old.input.lists engine.old.input.groups.now.meanings engine.old.input.call) engine.old.input.pending; call = NotCalling; lists = engine.new.input.lists } }) }
-    ensures fits { OnOk result (IsComplete engine.old.input.call → put_refusal (put_of engine.old.input.lists engine.old.input.groups.now.meanings engine.old.input.call) engine.old.input ≡ None) }
-    ensures light { OnOk result ((call : Call) → engine.old.call ≡ Some call → call_asks_more call.ask ≡ false → weight engine.new < weight engine.old) }
+    requires { IsComplete engine.old.input.call }
+    ensures ok { OnOk result (engine.new ≡ record engine.old { input = record engine.old.input { pending = after_call (put_of engine.old.input.lists engine.old.input.groups.now.meanings engine.old.input.call) engine.old.input.pending; call = NotCalling; lists = engine.new.input.lists } }) }
+    ensures fits { OnOk result (put_refusal (put_of engine.old.input.lists engine.old.input.groups.now.meanings engine.old.input.call) engine.old.input ≡ None) }
+    ensures light { OnOk result ((call : Call) → call_in engine.old.input.call ≡ Some call → call_asks_more call.ask ≡ false → weight engine.new < weight engine.old) }
     ensures refused { IfErr result (λ full. put_refusal (put_of engine.old.input.lists engine.old.input.groups.now.meanings engine.old.input.call) engine.old.input ≡ Some full) }
     ensures err { OnErr result (engine.new ≡ record engine.old { input = record engine.old.input { pending = end_token_lists engine.old.input.pending; lists = engine.new.input.lists } }) }
     ensures keeps { KeepsShared engine.old.input engine.new.input }
     ensures idle { engine.new.input.making ≡ engine.old.input.making }
     ensures column { engine.new.in_line ≡ engine.old.in_line }
 {
-    if engine.input.is_complete() {
-        engine.input.put_call()?;
-    }
-    engine.call = None;
+    engine.input.put_call()?;
     Ok(())
 }
 
 /// The call reports, and ends without its arguments.
 fn fail_call<S: Sink>(engine: &mut Engine, out: &mut S, report: Report) -> Result<Ruled, Broken>
     requires idle { engine.old.input.making ≡ None }
-    ensures rule { IfOk result (λ ruled. (sizes : Sizes) (f : FilesTold) (book : Book) (r : Reading) (rs : List Reading) (call : Call) → engine.old.call ≡ Some call → AllStand sizes engine.old (with_work (r ∷ rs) book) →
+    ensures rule { IfOk result (λ ruled. (sizes : Sizes) (f : FilesTold) (book : Book) (r : Reading) (rs : List Reading) (call : Call) → call_in engine.old.input.call ≡ Some call → AllStand sizes engine.old (with_work (r ∷ rs) book) →
         DoesRule sizes (state_of engine.old (with_work (r ∷ rs) book)) engine.new (with_work (r ∷ rs) book) (world_of f (S.told out.old) engine.old) (world_of f (S.told out.new) engine.new) (failed (page_of engine.old book) report) ruled) }
-    ensures err { IfErr result (λ b. (sizes : Sizes) (f : FilesTold) (book : Book) (r : Reading) (rs : List Reading) → AllStand sizes engine.old (with_work (r ∷ rs) book) →
-        Cuts sizes (state_of engine.old (with_work (r ∷ rs) book)) engine.new (with_work (r ∷ rs) book) (world_of f (S.told out.old) engine.old) (world_of f (S.told out.new) engine.new) (failed (page_of engine.old book) report) b) }
+    ensures err { IfErr result (DoesAtReading AllStand Cuts engine.old engine.new (S.told out.old) (S.told out.new) (λ book. failed (page_of engine.old book) report)) }
     ensures step { IfOk result (λ ruled. IsStep ruled → ⊥) }
-    ensures light { IfOk result (λ ruled. IsFree ruled → (call : Call) → engine.old.call ≡ Some call → call_asks_more call.ask ≡ false → weight engine.new < weight engine.old) }
+    ensures light { IfOk result (λ ruled. IsFree ruled → (call : Call) → call_in engine.old.input.call ≡ Some call → call_asks_more call.ask ≡ false → weight engine.new < weight engine.old) }
     ensures frames { OnErr result (SameFrames engine.old engine.new) }
     ensures halts { IfOk result (λ ruled. IsHalted ruled → SameFrames engine.old engine.new) }
     ensures idle { OnOk result (engine.new.input.making ≡ None) }
@@ -149,12 +144,11 @@ fn fail_call<S: Sink>(engine: &mut Engine, out: &mut S, report: Report) -> Resul
 /// A paragraph ended the call: the argument runs away, the token is put back, and the call reports and ends.
 fn run_away_call<S: Sink>(engine: &mut Engine, out: &mut S, name: Name) -> Result<Ruled, Broken>
     requires idle { engine.old.input.making ≡ None }
-    ensures rule { IfOk result (λ ruled. (sizes : Sizes) (f : FilesTold) (book : Book) (r : Reading) (rs : List Reading) (call : Call) → engine.old.call ≡ Some call → AllStand sizes engine.old (with_work (r ∷ rs) book) →
+    ensures rule { IfOk result (λ ruled. (sizes : Sizes) (f : FilesTold) (book : Book) (r : Reading) (rs : List Reading) (call : Call) → call_in engine.old.input.call ≡ Some call → AllStand sizes engine.old (with_work (r ∷ rs) book) →
         DoesRule sizes (state_of engine.old (with_work (r ∷ rs) book)) engine.new (with_work (r ∷ rs) book) (world_of f (S.told out.old) engine.old) (world_of f (S.told out.new) engine.new) (call_away_moves (page_of engine.old book) (argument_bytes engine.old) engine.old.last.token (ParagraphEnded name)) ruled) }
-    ensures err { IfErr result (λ b. (sizes : Sizes) (f : FilesTold) (book : Book) (r : Reading) (rs : List Reading) → AllStand sizes engine.old (with_work (r ∷ rs) book) →
-        Cuts sizes (state_of engine.old (with_work (r ∷ rs) book)) engine.new (with_work (r ∷ rs) book) (world_of f (S.told out.old) engine.old) (world_of f (S.told out.new) engine.new) (call_away_moves (page_of engine.old book) (argument_bytes engine.old) engine.old.last.token (ParagraphEnded name)) b) }
+    ensures err { IfErr result (DoesAtReading AllStand Cuts engine.old engine.new (S.told out.old) (S.told out.new) (λ book. call_away_moves (page_of engine.old book) (argument_bytes engine.old) engine.old.last.token (ParagraphEnded name))) }
     ensures step { IfOk result (λ ruled. IsStep ruled → ⊥) }
-    ensures light { IfOk result (λ ruled. IsFree ruled → (call : Call) → engine.old.call ≡ Some call → call_asks_more call.ask ≡ false → weight engine.new < weight engine.old) }
+    ensures light { IfOk result (λ ruled. IsFree ruled → (call : Call) → call_in engine.old.input.call ≡ Some call → call_asks_more call.ask ≡ false → weight engine.new < weight engine.old) }
     ensures frames { OnErr result (SameFrames engine.old engine.new) }
     ensures halts { IfOk result (λ ruled. IsHalted ruled → SameFrames engine.old engine.new) }
     ensures idle { OnOk result (engine.new.input.making ≡ None) }
@@ -168,12 +162,11 @@ fn run_away_call<S: Sink>(engine: &mut Engine, out: &mut S, name: Name) -> Resul
 /// An extra right brace is put back, and `\par` inserted; the call reports, and goes on.
 fn settle_brace<S: Sink>(engine: &mut Engine, out: &mut S, name: Name) -> Result<Ruled, Broken>
     requires idle { engine.old.input.making ≡ None }
-    ensures rule { IfOk result (λ ruled. (sizes : Sizes) (f : FilesTold) (book : Book) (r : Reading) (rs : List Reading) → engine.old.call ≡ Some (brace_call name) → AllStand sizes engine.old (with_work (r ∷ rs) book) →
-        DoesRule sizes (state_of engine.old (with_work (r ∷ rs) book)) engine.new (with_work (r ∷ rs) book) (world_of f (S.told out.old) engine.old) (world_of f (S.told out.new) engine.new) (put_one engine.old.last.token ++ (put_one par_token ++ reported (page_of engine.old book) (ExtraBrace name) (Feeds Told ∷ []))) ruled) }
-    ensures err { IfErr result (λ b. (sizes : Sizes) (f : FilesTold) (book : Book) (r : Reading) (rs : List Reading) → AllStand sizes engine.old (with_work (r ∷ rs) book) →
-        Cuts sizes (state_of engine.old (with_work (r ∷ rs) book)) engine.new (with_work (r ∷ rs) book) (world_of f (S.told out.old) engine.old) (world_of f (S.told out.new) engine.new) (put_one engine.old.last.token ++ (put_one par_token ++ reported (page_of engine.old book) (ExtraBrace name) (Feeds Told ∷ []))) b) }
+    requires call { call_in engine.old.input.call ≡ Some (brace_call name) }
+    ensures rule { IfOk result (DoesAtReading AllStand DoesRule engine.old engine.new (S.told out.old) (S.told out.new) (λ book. put_one engine.old.last.token ++ (put_one par_token ++ reported (page_of engine.old book) (ExtraBrace name) (Feeds Told ∷ [])))) }
+    ensures err { IfErr result (DoesAtReading AllStand Cuts engine.old engine.new (S.told out.old) (S.told out.new) (λ book. put_one engine.old.last.token ++ (put_one par_token ++ reported (page_of engine.old book) (ExtraBrace name) (Feeds Told ∷ [])))) }
     ensures step { IfOk result (λ ruled. IsStep ruled → ⊥) }
-    ensures light { IfOk result (λ ruled. IsFree ruled → engine.old.call ≡ Some (brace_call name) → weight engine.new < weight engine.old) }
+    ensures light { IfOk result (λ ruled. IsFree ruled → weight engine.new < weight engine.old) }
     ensures frames { OnErr result (SameFrames engine.old engine.new) }
     ensures halts { IfOk result (λ ruled. IsHalted ruled → SameFrames engine.old engine.new) }
     ensures idle { OnOk result (engine.new.input.making ≡ None) }
@@ -183,28 +176,22 @@ fn settle_brace<S: Sink>(engine: &mut Engine, out: &mut S, name: Name) -> Result
     if !engine.report(out, Report::ExtraBrace(name))? {
         return Ok(Ruled::Halted(Outcome::AtFatal(Fatal::HundredErrors)));
     }
-    go_on_behind_brace(engine, name);
+    go_on_behind_brace(engine);
     Ok(Ruled::Free)
 }
 
 /// The call asks for more behind its extra brace.
-fn go_on_behind_brace(engine: &mut Engine, name: Name)
-    ensures { engine.new ≡ record engine.old { call = Some (open_call name); input = record engine.old.input { call = with_scan settled_scan engine.old.input.call } } }
+fn go_on_behind_brace(engine: &mut Engine)
+    requires { IsTaking engine.old.input.call }
+    ensures { engine.new ≡ record engine.old { input = record engine.old.input { call = with_scan settled_scan engine.old.input.call } } }
 {
-    if engine.input.is_taking() {
-        engine.input.settle_call();
-    }
-    engine.call = Some(Call {
-        name,
-        ask: CallAsk::More,
-    });
+    engine.input.settle_call();
 }
 
 /// The call ends without its arguments, and its lists go.
 fn close_call(engine: &mut Engine)
-    ensures after { engine.new ≡ record engine.old { call = None; input = record engine.old.input { call = NotCalling; lists = engine.new.input.lists } } }
+    ensures after { engine.new ≡ record engine.old { input = record engine.old.input { call = NotCalling; lists = engine.new.input.lists } } }
     ensures keeps { KeepsShared engine.old.input engine.new.input }
 {
     engine.input.drop_call();
-    engine.call = None;
 }

@@ -140,13 +140,13 @@ keeping_stands sizes e book o st = let sized = st.sound.sized in record {
   };
   idle = st.idle;
   readings = record { frames = st.readings.frames; shallow = st.readings.shallow };
-  uncalled = record { none = st.uncalled.none; input = st.uncalled.input };
+  uncalled = st.uncalled;
 }
 
 -- the token that came behind it was put in front
 pub behind_stands : (sizes : Sizes) (e e' : Engine) (book : Book) → SameFrames e e' → SameOthers (record e { after = None }) e' → SameStore e.input e'.input → e'.input.making ≡ None → Stands sizes e book → Stands sizes e' book
 behind_stands sizes e e' book same others store idle st =
-    name_stands sizes (record e { after = None }) e' book (record { readings = same.readings; lists = same.lists; call = same.call; calling = same.calling }) others store idle (keeping_stands sizes e book None st)
+    name_stands sizes (record e { after = None }) e' book (record { readings = same.readings; lists = same.lists; call = same.call }) others store idle (keeping_stands sizes e book None st)
 
 -- It is made by these moves, if it is global or not, and the token that comes behind it is put.
 module _ (sizes : Sizes) (e e1 : Engine) (book : Book) (f : FilesTold) (t : SinkTold) (moves : Bool → List Move) (global asked : Bool) (is : global ≡ asked) (column : e1.in_line ≡ e.in_line) where

@@ -66,6 +66,7 @@ use Rattle.rows.specs.Suiting.{IsSuited, IsThere, IsVariable, TakesAll, AsksSuit
 use Rattle.stomach.specs.Effects.{done_alone, assignment_of, IsAlone}
 use Rattle.stomach.specs.Halting.{DoesRuleIn}
 use Rattle.stomach.proofs.Codes.{sets_small}
+use Rattle.input_state.specs.Callings.{NotCalling, call_in}
 
 -- WHAT IS DONE ALONE
 
@@ -113,8 +114,8 @@ small_effect sizes e book r rs c does st asks =
 
 -- THE OPEN READINGS
 
-pub frames_none : (e e' : Engine) (work : List Reading) → e.call ≡ None → SameFrames e e' → FramesStand e work → FramesOf e'.call e' work
-frames_none e e' work none same st = subst (λ (c : Option _). FramesOf c e' work) (sym (same.call ∙ none)) (frames_kept e e' work same st)
+pub frames_none : (e e' : Engine) (work : List Reading) → e.input.call ≡ NotCalling → SameFrames e e' → FramesStand e work → FramesOf (call_in e'.input.call) e' work
+frames_none e e' work none same st = subst (λ (c : Option _). FramesOf c e' work) (sym (ap call_in (same.call ∙ none))) (frames_kept e e' work same st)
 
 -- ONE MOVE OF THE READINGS
 
@@ -138,7 +139,7 @@ begun_leaves k s = (refl, refl)
 -- WHAT COMES BEHIND MOVES
 
 -- the readings being others then
-rules_behind : (sizes : Sizes) (s u : State) (e' : Engine) (book : Book) (w v w' : World) (ms ns : List Move) (ruled : Ruled) → u.reports ≡ s.reports → Did sizes s u w v ms → steps ms ≡ 0 → (IsHalted ruled → FramesOf e'.call e' book.work) →
+rules_behind : (sizes : Sizes) (s u : State) (e' : Engine) (book : Book) (w v w' : World) (ms ns : List Move) (ruled : Ruled) → u.reports ≡ s.reports → Did sizes s u w v ms → steps ms ≡ 0 → (IsHalted ruled → FramesOf (call_in e'.input.call) e' book.work) →
     DoesOnward sizes u e' book v w' ns ruled → DoesRuleIn sizes s e' w w' (ms ++ ns) (freed ruled)
 rules_behind sizes s u e' book w v w' ms ns Step same d n stand h = went_on sizes s u e' w v w' ms ns 0 0 d n h
 rules_behind sizes s u e' book w v w' ms ns Free same d n stand h = absurd h
@@ -182,7 +183,7 @@ module _ (sizes : Sizes) (e e1 : Engine) (book : Book) (r : Reading) (rs : List 
 
   -- and what comes then depends on what texts depend on
   module _ (e2 : Engine) (s' : SinkTold) (moves : Page → List Move) where
-    pub obeyed_rule : (ruled now : Ruled) → now ≡ freed ruled → e1.call ≡ None → (IsHalted ruled → SameFrames e1 e2) → Stands sizes e1 left →
+    pub obeyed_rule : (ruled now : Ruled) → now ≡ freed ruled → e1.input.call ≡ NotCalling → (IsHalted ruled → SameFrames e1 e2) → Stands sizes e1 left →
         DoesOnward sizes (state_of e1 left) e2 left (world_of f s e1) (world_of f s' e2) (moves (page_of e1 left)) ruled →
         DoesRuleIn sizes (state_of e all) e2 (world_of f s e) (world_of f s' e2) (Closed ∷ moves (page_of e book)) now
     obeyed_rule ruled now to none halts st h =
@@ -230,7 +231,7 @@ module _ (sizes : Sizes) (e e1 : Engine) (book : Book) (r : Reading) (rs : List 
       moves = acts (page_of e book) c (effect.ExpandBehind x y)
 
       -- the second token is expanded, or the run ends
-      pub expanded_rule : (ruled : Ruled) → e2.call ≡ None → (IsHalted ruled → SameFrames e2 e3) → Stands sizes e2 behind →
+      pub expanded_rule : (ruled : Ruled) → e2.input.call ≡ NotCalling → (IsHalted ruled → SameFrames e2 e3) → Stands sizes e2 behind →
           DoesOnward sizes (state_of e2 behind) e3 behind (world_of f s e2) (world_of f s' e3) (expanded (page_of e2 behind) y (put_one y.token)) ruled →
           DoesRuleIn sizes (state_of e all) e3 (world_of f s e) (world_of f s' e3) moves (freed ruled)
       expanded_rule ruled none halts st h =

@@ -13,9 +13,10 @@ use Rattle.plain_machine.proofs.Joins.{StepComes}
 use Rattle.plain_machine.proofs.Pulls.{answered_none, kind_none, wanted_none}
 use Rattle.input_state.specs.Reads.{gives_step}
 use Rattle.input_state.specs.Stored.{gathered}
-use Rattle.engine_state.specs.declared.call.Call.{Call}
-use Rattle.engine_state.specs.declared.call.CallAsk.{CallAsk}
-use Rattle.engine_state.specs.declared.call.CallAsk.TheVariants as call
+use Rattle.input_state.specs.declared.answer.Call.{Call}
+use Rattle.input_state.specs.Callings.{call_in}
+use Rattle.macro_call.specs.declared.ask.CallAsk.{CallAsk}
+use Rattle.macro_call.specs.declared.ask.CallAsk.TheVariants as call
 use Rattle.engine_state.specs.declared.engine.Engine.{Engine}
 use Rattle.engine_state.specs.Book.{Book, with_work}
 use Rattle.engine_state.specs.Calls.{AllStand, ReadingsStand, asks_by}
@@ -35,12 +36,12 @@ call_steps e book work r name a =
     free_of (answered (state_of e book) work r (asks_by name a e.input.call)) (answered_none (state_of e book) work r (asks_by name a e.input.call) (call_none name a e.input.call refl))
 
 steps_at : (e : Engine) (c : Option Call) (book : Book) (work : List Reading) → ReadingsStand c e book.number work → steps (plan_of e (with_work work book)) ≡ one_if (all_want c (asked e) && gives_step (pulled e.input.groups.now.categories e.input.pending))
-steps_at e None book work h = frame_steps e (with_work work book) h.0
+steps_at e None book work h = frame_steps e (with_work work book) h
 steps_at e (Some c) book [] h = absurd h
 steps_at e (Some c) book (r ∷ rs) h = rw (← h.0.asked) (call_steps e (with_work (r ∷ rs) book) (r ∷ rs) r c.name c.ask)
 
 pub plan_steps : (sizes : Sizes) (e : Engine) (book : Book) → AllStand sizes e book → steps (plan_of e book) ≡ one_if (stepping e)
-plan_steps sizes e book h = steps_at e e.call book book.work h.all
+plan_steps sizes e book h = steps_at e (call_in e.input.call) book book.work h.all
 
 -- a rule that begins with no step has none
 pub plan_silent : (sizes : Sizes) (e : Engine) → stepping e ≡ false → (book : Book) → AllStand sizes e book → steps (plan_of e book) ≡ 0
@@ -60,10 +61,10 @@ call_needs sizes e book work r name call.More unopened h g =
 call_needs sizes e book work r name a unopened h g = no g
 
 needs_at : (sizes : Sizes) (e : Engine) (c : Option Call) (book : Book) (work : List Reading) → e.input.pending.next ≡ None → ReadingsStand c e book.number work → (all_want c (asked e) && gives_step (pulled e.input.groups.now.categories e.input.pending)) ≡ true → StepComes sizes (state_of e (with_work work book))
-needs_at sizes e None book work unopened h g = frame_needs sizes e (with_work work book) unopened h.0 g
+needs_at sizes e None book work unopened h g = frame_needs sizes e (with_work work book) unopened h g
 needs_at sizes e (Some c) book [] unopened h g = absurd h
 needs_at sizes e (Some c) book (r ∷ rs) unopened h g =
     call_needs sizes e (with_work (r ∷ rs) book) (r ∷ rs) r c.name c.ask unopened (ap (answered (state_of e (with_work (r ∷ rs) book)) (r ∷ rs) r) (sym h.0.asked)) g
 
 pub stepping_needs : (sizes : Sizes) (e : Engine) → e.input.pending.next ≡ None → stepping e ≡ true → (book : Book) → AllStand sizes e book → StepComes sizes (state_of e book)
-stepping_needs sizes e unopened g book h = needs_at sizes e e.call book book.work unopened h.all g
+stepping_needs sizes e unopened g book h = needs_at sizes e (call_in e.input.call) book book.work unopened h.all g

@@ -17,7 +17,6 @@ use Rattle.rows.specs.Readings.{ActsOn}
 use Rattle.reading_frames.specs.Stack.{asks_in}
 use Rattle.reading_frames.specs.Weights.{frames_weight, innermost_weight, stack_weight}
 use Rattle.plain_readings.specs.Weights.{act_frame, act_weight}
-use Rattle.engine_state.specs.declared.call.Call.{Call as OpenCall}
 use Rattle.stomach.proofs.RuleCloses.{closed_lighter_behind}
 use Rattle.plain_machine.specs.States.{Move, Spelt, Closed, NameInProgress, ListsEnded, made}
 use Rattle.plain_machine.specs.Plan.{given_back}
@@ -25,6 +24,7 @@ use Rattle.plain_machine.specs.Does.{Did}
 use Rattle.plain_machine.proofs.Doing.{did_join, did_one}
 use Rattle.plain_machine.proofs.Renumbering.{settle_of}
 use Rattle.input_state.specs.Stored.{Stored, KeepsShared, spelt}
+use Rattle.input_state.specs.Callings.{NotCalling, Calling, call_in}
 use Rattle.engine_state.specs.declared.broken.Broken.{Broken}
 use Rattle.engine_state.specs.declared.engine.Engine.{Engine}
 use Rattle.engine_state.specs.Book.{Book, with_work}
@@ -94,7 +94,7 @@ unnamed_stands sizes e book b st = record {
   };
   idle = st.idle;
   readings = record { frames = st.readings.frames; shallow = st.readings.shallow };
-  uncalled = record { none = st.uncalled.none; input = st.uncalled.input };
+  uncalled = st.uncalled;
 }
 
 -- THE FINISHED LISTS IN FRONT HAVE GONE
@@ -102,8 +102,8 @@ unnamed_stands sizes e book b st = record {
 module _ (sizes : Sizes) (e : Engine) (i : Stored) (book : Book) (is : i ≡ record e.input { pending = end_token_lists e.input.pending; lists = i.lists }) where
   pub settled_stands : KeepsShared e.input i → Stands sizes e book → Stands sizes (record e { input = i }) book
   settled_stands kept st =
-      name_stands sizes e (record e { input = i }) book (record { readings = refl; lists = ap (λ (x : Stored). x.builds) is; call = refl; calling = ap (λ (x : Stored). x.call) is })
-      (record { depth = refl; call = refl; names = refl; after = refl; mag_set = refl; conditionals = refl; last = refl; naming = refl; in_line = refl; reports = refl; flawed = refl; quiet = refl; sizes = refl })
+      name_stands sizes e (record e { input = i }) book (record { readings = refl; lists = ap (λ (x : Stored). x.builds) is; call = ap (λ (x : Stored). x.call) is })
+      (record { depth = refl; names = refl; after = refl; mag_set = refl; conditionals = refl; last = refl; naming = refl; in_line = refl; reports = refl; flawed = refl; quiet = refl; sizes = refl })
       (store_settled e.input i is kept) (ap (λ (x : Stored). x.making) is ∙ st.idle) st
 
   pub settled_did : (w : World) → Did sizes (state_of e book) (state_of (record e { input = i }) book) w w (ListsEnded ∷ [])
@@ -176,12 +176,12 @@ module _ (e2 e3 : Engine) (i : Stored) (same : SameBut e2 e3) (is : i ≡ record
   sought_next = ap (λ (x : Stored). x.pending.next) is ∙ ap (λ (p : Pending). p.next) same.pending
 
   -- it is lighter
-  settled_weight : e3.call ≡ None → weight (record e3 { naming = false; input = i }) ≡ weight e3
+  settled_weight : e3.input.call ≡ NotCalling → weight (record e3 { naming = false; input = i }) ≡ weight e3
   settled_weight none =
-      ap (λ (c : Option OpenCall). readings_weight c (record e3 { naming = false; input = i }) + pending_weight i.pending) none
-      ∙ (ap (λ (x : Stored). stack_weight e3.readings + pending_weight x.pending) is ∙ ap (λ (c : Option OpenCall). readings_weight c e3 + pending_weight e3.input.pending) (sym none))
+      ap (λ (k : Calling). readings_weight (call_in k) (record e3 { naming = false; input = i }) + pending_weight i.pending) (ap (λ (x : Stored). x.call) is ∙ none)
+      ∙ (ap (λ (x : Stored). stack_weight e3.readings + pending_weight x.pending) is ∙ ap (λ (k : Calling). readings_weight (call_in k) e3 + pending_weight e3.input.pending) (sym none))
 
-  pub sought_lighter : (e : Engine) (c : Call) (x : Effect) → e.call ≡ None → SameFrames e e2 → pending_weight e2.input.pending ≡ pending_weight e.input.pending → asks_in e.readings.frames [] ≡ Some (ActsOn c x []) →
+  pub sought_lighter : (e : Engine) (c : Call) (x : Effect) → e.input.call ≡ NotCalling → SameFrames e e2 → pending_weight e2.input.pending ≡ pending_weight e.input.pending → asks_in e.readings.frames [] ≡ Some (ActsOn c x []) →
       frames_weight e3.readings.frames ≡ frames_weight (drop 1 e2.readings.frames) → innermost_weight e3.readings.frames < act_frame + act_weight → weight (record e3 { naming = false; input = i }) < weight e
   sought_lighter e c x none frames left asks count light =
-      omega (arith, settled_weight (same.others.call ∙ (frames.call ∙ none)), closed_lighter_behind e e2 e3 (ActsOn c x []) none asks tt frames left same count light)
+      omega (arith, settled_weight (same.call ∙ (frames.call ∙ none)), closed_lighter_behind e e2 e3 (ActsOn c x []) none asks tt frames left same count light)

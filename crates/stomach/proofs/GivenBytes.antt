@@ -10,6 +10,7 @@ use Rattle.plain_machine.specs.Bounded.{FitMoves}
 use Rattle.plain_machine.specs.Extended.{Rests, extended, extended_pending}
 use Rattle.plain_machine.specs.Numbers.{pending_of}
 use Rattle.input_state.specs.NextBytes.{with_bytes, with_first_bytes}
+use Rattle.input_state.specs.Callings.{call_in}
 use Rattle.line_reader.specs.Readers as readers
 use Rattle.line_reader.specs.Readers.{came_first}
 use Rattle.engine_state.specs.declared.engine.Engine.{Engine}
@@ -123,7 +124,7 @@ module _ (sizes : Sizes) (bytes : List ℕ) where
   given_store e (Some more) = record { sizes = refl; groups = refl; closing = refl; ending = refl; puts = λ n h. h; lists = record { tokens = λ n h. refl } }
 
   given_frames : (e : Engine) → SameFrames e (given bytes e)
-  given_frames e = record { readings = refl; lists = refl; call = refl; calling = refl }
+  given_frames e = record { readings = refl; lists = refl; call = refl }
 
   given_stands : (e : Engine) (book : Book) → AllStand sizes e book → AllStand sizes (given bytes e) book
   given_stands e book h =
@@ -157,9 +158,9 @@ innermost_now bytes e (innermost.Frame a) h = (h.0, record { asks = h.1.asks; st
 pub innermost_given : (all left : Rests) (e e' : Engine) → IsGiven all left e e' → (i : Innermost) → IsInnermost e i → IsInnermost e' i
 innermost_given all left e e' is i h = subst (λ (x : Engine). IsInnermost x i) (sym is.after) (innermost_now is.bytes e i h)
 
-wants_now : (bytes : List ℕ) (e : Engine) (b : Bool) → b ≡ all_want e.call (asked e) → b ≡ all_want (given bytes e).call (asked (given bytes e))
+wants_now : (bytes : List ℕ) (e : Engine) (b : Bool) → b ≡ all_want (call_in e.input.call) (asked e) → b ≡ all_want (call_in (given bytes e).input.call) (asked (given bytes e))
 wants_now bytes e b h = h
 
 -- and whether a token is wanted
-pub wants_given : (all left : Rests) (e e' : Engine) → IsGiven all left e e' → (b : Bool) → b ≡ all_want e.call (asked e) → b ≡ all_want e'.call (asked e')
-wants_given all left e e' is b h = subst (λ (x : Engine). b ≡ all_want x.call (asked x)) (sym is.after) (wants_now is.bytes e b h)
+pub wants_given : (all left : Rests) (e e' : Engine) → IsGiven all left e e' → (b : Bool) → b ≡ all_want (call_in e.input.call) (asked e) → b ≡ all_want (call_in e'.input.call) (asked e')
+wants_given all left e e' is b h = subst (λ (x : Engine). b ≡ all_want (call_in x.input.call) (asked x)) (sym is.after) (wants_now is.bytes e b h)

@@ -1,5 +1,5 @@
 -- A conditional goes on behind the reading that ends.
-use Rattle.std.proofs.Common.{◌≡◌, ℕ, ◌≤◌, ◌<◌, ◌+◌, List, [], ◌∷◌, ◌++◌, drop, Some, None, refl, ap, subst, arith}
+use Rattle.std.proofs.Common.{◌≡◌, ℕ, ◌≤◌, ◌<◌, ◌+◌, List, [], ◌∷◌, ◌++◌, drop, Some, refl, ap, subst, arith}
 use Rattle.tex_syntax.specs.declared.words.Report.TheVariants.{ExtraFiOrElse}
 use Rattle.tex_defs.specs.Places.{World, Transcript}
 use Rattle.tex_defs.specs.declared.Sizes.{Sizes}
@@ -25,6 +25,7 @@ use Rattle.plain_machine.specs.Does.{Did}
 use Rattle.plain_machine.proofs.Doing.{did_none, did_one}
 use Rattle.world_io.specs.Contents.{FilesTold, SinkTold}
 use Rattle.input_state.specs.Stored.{Stored}
+use Rattle.input_state.specs.Callings.{NotCalling}
 use Rattle.engine_state.specs.declared.broken.Broken.{Broken}
 use Rattle.engine_state.specs.declared.engine.Engine.{Engine}
 use Rattle.engine_state.specs.Book.{Book, with_work}
@@ -85,7 +86,7 @@ module _ (sizes : Sizes) (e e1 e2 : Engine) (book : Book) (w v v' : World) (c : 
 
 -- WHAT BECOMES LIGHTER: what comes behind the end weighs no more than the end did
 
-pub gone_on_lighter : (e e1 e2 : Engine) (a : Ask) → e.call ≡ None → asks_in e.readings.frames [] ≡ Some a → IsEnd a → SameBut e e1 → frames_weight e1.readings.frames ≡ frames_weight (drop 1 e.readings.frames) → innermost_weight e1.readings.frames < act_frame + act_weight →
+pub gone_on_lighter : (e e1 e2 : Engine) (a : Ask) → e.input.call ≡ NotCalling → asks_in e.readings.frames [] ≡ Some a → IsEnd a → SameBut e e1 → frames_weight e1.readings.frames ≡ frames_weight (drop 1 e.readings.frames) → innermost_weight e1.readings.frames < act_frame + act_weight →
     ((most : ℕ) → act_frame ≤ most → innermost_weight e1.readings.frames ≤ most → weight e2 ≤ frames_weight e1.readings.frames + most + pending_weight e1.input.pending) → weight e2 < weight e
 gone_on_lighter e e1 e2 a none asks end but frames light most =
     let small : innermost_weight e1.readings.frames ≤ 98 = omega (arith, light) in

@@ -19,7 +19,8 @@ use Rattle.plain_machine.specs.States.{State, Move}
 use Rattle.plain_machine.specs.Plan.{Page, expansion, expanded, expanded_as, command}
 use Rattle.plain_machine.specs.Does.{Did}
 use Rattle.engine_state.specs.declared.broken.Broken.{Broken}
-use Rattle.engine_state.specs.declared.call.Call.{Call}
+use Rattle.input_state.specs.declared.answer.Call.{Call}
+use Rattle.input_state.specs.Callings.{NotCalling, call_in}
 use Rattle.engine_state.specs.declared.engine.Engine.{Engine}
 use Rattle.gullet.specs.declared.expansion.Stepped.{Stepped}
 use Rattle.gullet.specs.declared.expansion.Stepped.TheVariants.{Unexpandable}
@@ -30,7 +31,7 @@ use Rattle.engine_state.specs.Stands.{Stands, SameReadings, state_of, page_of}
 use Rattle.engine_state.specs.Steps.{IsFree, StepsIf}
 use Rattle.gullet.specs.Stepping.{Steps, StepStepsIf, IsKept, Stays, expands}
 use Rattle.engine_state.specs.Rules.{onward_of, feeds_of, WantsHere, Takes, Comes, Went, DoesRule, DoesOnward}
-use Rattle.engine_state.proofs.Uncalled.{all_of, framed}
+use Rattle.engine_state.proofs.Uncalled.{all_of, framed, no_call}
 use Rattle.engine_state.proofs.Coming.{comes_went, comes_halts}
 use Rattle.gullet.proofs.Stepping.{feeds_none, free_of, no}
 use Rattle.stomach.specs.Obeying.{is_dropped}
@@ -73,14 +74,14 @@ no_frame : (fs : List Frame) (held : Lists) (a : Ask) → frames.FramesStand fs 
 no_frame [] held a st is = cc
 no_frame (f ∷ fs) held a st is = st
 
-module _ (sizes : Sizes) (e : Engine) (none : e.call ≡ None) where
+module _ (sizes : Sizes) (e : Engine) (none : e.input.call ≡ NotCalling) where
   -- the reading that wants a token is the innermost
   pub feeds_frame : (w : Want) (x : Seen) (P : Book → List Move → Type 0) →
       ((book : Book) (r : Reading) (rs : List Reading) → Stands sizes e (with_work (r ∷ rs) book) → P (with_work (r ∷ rs) book) (feeds_of (r ∷ rs) x)) →
       (book : Book) → Takes sizes (Some w) e book → P book (feeds_of book.work x)
   feeds_frame w x P h book t = at book.work (framed sizes e book none t.1) where
     wants : WantsHere None (Some w) e
-    wants = subst (λ (c : Option Call). WantsHere c (Some w) e) none t.0
+    wants = subst (λ (c : Option Call). WantsHere c (Some w) e) (ap call_in none) t.0
 
     at : (work : List Reading) → Stands sizes e (with_work work book) → P (with_work work book) (feeds_of work x)
     at [] st = absurd (no_frame e.readings.frames e.input.builds (More w) st.readings.frames wants)
@@ -97,7 +98,7 @@ frame_went sizes e e' x book w w' st did = record {
 
 -- BEHIND THE STEP
 
-module _ (sizes : Sizes) (want : Option Want) (s : State) (e1 e2 : Engine) (book : Book) (w v w' : World) (moves : List Move) (x : Seen) (c : Comes sizes want s e1 book w v moves x 1) (none : e1.call ≡ None) where
+module _ (sizes : Sizes) (want : Option Want) (s : State) (e1 e2 : Engine) (book : Book) (w v w' : World) (moves : List Move) (x : Seen) (c : Comes sizes want s e1 book w v moves x 1) (none : e1.input.call ≡ NotCalling) where
   pub rule_on : (ruled : Ruled) → DoesOnward sizes (state_of e1 c.book') e2 c.book' v w' (onward_of (page_of e1 c.book') want c.book'.work x) ruled → DoesRule sizes s e2 book w w' moves ruled
   rule_on Step h = comes_went sizes want s e1 e2 book w v w' moves x 1 c 0 h
   rule_on Free h = absurd h
@@ -108,8 +109,8 @@ pub steps_as : (sizes : Sizes) (want : Option Want) (s : State) (e' : Engine) (b
 steps_as sizes want s e' book w w' ms n m is h = subst (λ (x : Stepped). Steps sizes want s e' book w w' ms x) is h
 
 -- where the token stays, no call gathers its arguments, as before
-pub kept_uncalled : (e e1 : Engine) (n : Stepped) (x : Seen) → n ≡ Unexpandable x → (IsKept n → SameReadings e e1) → e.call ≡ None → e1.call ≡ None
-kept_uncalled e e1 n x is same none = (same (subst IsKept (sym is) tt)).call ∙ none
+pub kept_uncalled : (e e1 : Engine) (n : Stepped) (x : Seen) → n ≡ Unexpandable x → (IsKept n → SameReadings e e1) → e.input.call ≡ NotCalling → e1.input.call ≡ NotCalling
+kept_uncalled e e1 n x is same none = no_call e1.input.call ((same (subst IsKept (sym is) tt)).call ∙ ap call_in none)
 
 -- whether there was a step
 pub steps_stepped : (b : Bool) (n m : Stepped) → n ≡ m → StepStepsIf n b → StepStepsIf m b

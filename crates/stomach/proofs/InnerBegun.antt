@@ -42,6 +42,7 @@ use Rattle.engine_state.proofs.CuttingReadings.{in_by}
 use Rattle.engine_state.proofs.Putting.{back_none}
 use Rattle.engine_state.proofs.Weighing.{lighter, valued_lighter}
 use Rattle.stomach.proofs.FrameAsks.{innermost_begins_none, innermost_heavy}
+use Rattle.input_state.specs.Callings.{NotCalling}
 
 -- NO COMMAND BEGINS WITHIN A FRAME that stands for a reading
 
@@ -101,7 +102,7 @@ no_row : (k : Begun) → ((c : Call) → k ≡ Command c → ⊥) → IsInner k
 no_row (Command c) h = h c refl
 no_row k h = tt
 
-module _ (e e' : Engine) (none : e.call ≡ None) (none' : e'.call ≡ None) (same : e'.input.pending ≡ e.input.pending) (k : Begun) (begins : Bool) (asks : asks_in e.readings.frames [] ≡ Some (Inner k begins)) where
+module _ (e e' : Engine) (none : e.input.call ≡ NotCalling) (none' : e'.input.call ≡ NotCalling) (same : e'.input.pending ≡ e.input.pending) (k : Begun) (begins : Bool) (asks : asks_in e.readings.frames [] ≡ Some (Inner k begins)) where
   asks_so : (b : Bool) → begins ≡ b → asks_in e.readings.frames [] ≡ Some (Inner k b)
   asks_so b is = asks ∙ ap (λ (x : Bool). Some (Inner k x)) is
 
@@ -147,9 +148,9 @@ module _ (sizes : Sizes) (e e1 e2 : Engine) (book : Book) (w : World) (r : Readi
     count = steps_join (given_back back e.last) (Ended v tokens ∷ []) ∙ omega (arith, back_none back e.last);
   }
 
-pub done_light : (e e1 e2 : Engine) (v : Value) (back : Bool) → e.call ≡ None → SameFrames e e1 → pending_weight e1.input.pending ≡ pending_weight e.input.pending → e2.call ≡ e1.call → e2.input.pending ≡ e1.input.pending → asks_in e.readings.frames [] ≡ Some (Done v back) →
+pub done_light : (e e1 e2 : Engine) (v : Value) (back : Bool) → e.input.call ≡ NotCalling → SameFrames e e1 → pending_weight e1.input.pending ≡ pending_weight e.input.pending → e2.input.call ≡ e1.input.call → e2.input.pending ≡ e1.input.pending → asks_in e.readings.frames [] ≡ Some (Done v back) →
     frames_weight e2.readings.frames ≡ frames_weight (drop 1 e1.readings.frames) → innermost_weight e2.readings.frames < value_frame + value_weight → weight e2 < weight e
 done_light e e1 e2 v back none same left call pending asks frames light =
-    let none1 : e1.call ≡ None = same.call ∙ none in
+    let none1 : e1.input.call ≡ NotCalling = same.call ∙ none in
     let asks1 : asks_in e1.readings.frames [] ≡ Some (Done v back) = ap (λ (s : Stack). asks_in s.frames []) same.readings ∙ asks in
     lighter_by e e1 e2 same left (valued_lighter e1 e2 none1 (call ∙ none1) pending v back asks1 frames light)

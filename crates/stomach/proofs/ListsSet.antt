@@ -38,6 +38,7 @@ use Rattle.plain_machine.proofs.Ties.{tied_listed}
 use Rattle.input_state.specs.HeldLists as held
 use Rattle.input_state.specs.Standing.{SetsList}
 use Rattle.input_state.specs.Stored.{Stored, KeepsShared}
+use Rattle.input_state.specs.Callings.{NotCalling}
 use Rattle.gullet.proofs.Stepping.{free_of}
 use Rattle.engine_state.specs.declared.broken.Broken.{Broken}
 use Rattle.engine_state.specs.declared.broken.Broken.TheVariants as broken
@@ -194,5 +195,5 @@ copied_as true work h = copying work h
 copied_as false work h = copying_not work h
 
 -- behind the end of a reading, which made it lighter, it stays so
-pub given_lighter : (e e1 e2 : Engine) → weight e1 < weight e → e1.call ≡ None → e2.call ≡ e1.call → e2.readings ≡ e1.readings → pending_weight e2.input.pending ≡ pending_weight e1.input.pending → weight e2 < weight e
+pub given_lighter : (e e1 e2 : Engine) → weight e1 < weight e → e1.input.call ≡ NotCalling → e2.input.call ≡ e1.input.call → e2.readings ≡ e1.readings → pending_weight e2.input.pending ≡ pending_weight e1.input.pending → weight e2 < weight e
 given_lighter e e1 e2 less none call readings left = omega (arith, less, weight_none e1 none, weight_none e2 (call ∙ none), left, ap (λ (s : Stack). stack_weight s) readings)

@@ -49,7 +49,7 @@ mag_stands sizes e book n st = let sized = st.sound.sized in record {
   };
   idle = st.idle;
   readings = record { frames = st.readings.frames; shallow = st.readings.shallow };
-  uncalled = record { none = st.uncalled.none; input = st.uncalled.input };
+  uncalled = st.uncalled;
 }
 
 pub mag_did : (sizes : Sizes) (e : Engine) (book : Book) (w : World) (n : ℕ) → Did sizes (state_of e book) (state_of (record e { mag_set = n }) book) w w (MagnificationSet n ∷ [])
@@ -58,7 +58,7 @@ mag_did sizes e book w n =
 
 -- its frames are those of another
 pub mag_frames : (e e1 : Engine) (n : ℕ) → SameFrames e e1 → SameFrames e (record e1 { mag_set = n })
-mag_frames e e1 n same = record { readings = same.readings; lists = same.lists; call = same.call; calling = same.calling }
+mag_frames e e1 n same = record { readings = same.readings; lists = same.lists; call = same.call }
 
 -- a note has no step
 pub note_free : (s : State) (r : Reading) → steps (noting r) ≡ 0

@@ -48,10 +48,10 @@ use Rattle.engine_state.specs.Rules.{Halts, Cuts, CountsReports}
 use Rattle.engine_state.specs.Faults.{why_of}
 use Rattle.engine_state.specs.Stands.{Stands, state_of}
 use Rattle.engine_state.proofs.CuttingReadings.{near_all, near_none, near_still}
-use Rattle.engine_state.proofs.Uncalled.{all_of, framed}
+use Rattle.engine_state.proofs.Uncalled.{all_of, framed, no_call}
 use Rattle.stomach.specs.Files.{Sought, input_front}
 use Rattle.stomach.specs.Ran.{Came, CutBy, Stops, UnreadBy, ForFile, whole_state}
-use Rattle.engine_state.specs.declared.call.Call.{Call as EngineCall}
+use Rattle.input_state.specs.declared.answer.Call.{Call as EngineCall}
 use Rattle.engine_state.specs.Stands.{SameFrames, SameStore}
 use Rattle.engine_state.specs.Steps.{all_start}
 use Rattle.engine_state.proofs.CallKept.{all_still, frames_kept}
@@ -62,6 +62,7 @@ use Rattle.stomach.proofs.OneRule.{count_of}
 use Rattle.stomach.specs.Read.{AreTied}
 use Rattle.stomach.proofs.FilesFound.{found_at}
 use Rattle.stomach.proofs.Running.{same_moment, whole_moment}
+use Rattle.input_state.specs.Callings.{NotCalling, call_in, Calling}
 
 -- THE READING that has a file's name
 
@@ -71,7 +72,7 @@ module _ (sizes : Sizes) (e : Engine) (a : Ask) (asks : (held : Lists) (work : L
   work_named book [] st now = absurd cc
   work_named book (r ∷ rs) st now = h book r rs (sym (cc now)) st
 
-  pub by_name : (book : Book) → e.call ≡ None → AllStand sizes e book → P book
+  pub by_name : (book : Book) → e.input.call ≡ NotCalling → AllStand sizes e book → P book
   by_name book none stands =
       let st : Stands sizes e book = framed sizes e book none stands in
       work_named book book.work st (asks e.input.builds book.work st.readings.frames)
@@ -257,7 +258,7 @@ module _ (sizes : Sizes) (e : Engine) (c : Call) (back : Bool) (ts : List Token)
     split : (ms : List Move) → (front_moves ++ FileOpened name ∷ []) ++ ms ≡ front_moves ++ FileOpened name ∷ ms
     split ms = append_assoc front_moves (FileOpened name ∷ []) ms
 
-    pub missing_halts : (e2 : Engine) (w' : World) (o : Outcome) (j : ℕ) → Halts sizes (state_of e' (with_work rs book)) e2 (with_work rs book) w w' (unless_found (page_of (state_of e' (with_work rs book))) name None) o 0 → FramesOf e2.call e2 rs → Stops sizes s0 e2 left w w' j o
+    pub missing_halts : (e2 : Engine) (w' : World) (o : Outcome) (j : ℕ) → Halts sizes (state_of e' (with_work rs book)) e2 (with_work rs book) w w' (unless_found (page_of (state_of e' (with_work rs book))) name None) o 0 → FramesOf (call_in e2.input.call) e2 rs → Stops sizes s0 e2 left w w' j o
     missing_halts e2 w' o j halts frames =
         let d : Did sizes (state_of e' (with_work rs book)) halts.t w w' missed = subst (λ (ms : List Move). Did sizes (state_of e' (with_work rs book)) halts.t w w' ms) (page_kept back sought.did.state) halts.did in
         let more : Did sizes (whole_state left e' (with_work rs book)) (extended left halts.t) w w' missed = moves_did sizes (state_of e' (with_work rs book)) halts.t left missed missed_still w w' d in
@@ -315,7 +316,7 @@ module _ (e' e2 : Engine) (is : e2 ≡ record e' { input = record e'.input { pen
 
   pub next_stands : (sizes : Sizes) (book : Book) → AllStand sizes e' book → AllStand sizes e2 book
   next_stands sizes book h = subst (λ (x : Engine). AllStand sizes x book) (sym is)
-      (all_still sizes e' next_engine book (record { readings = refl; lists = refl; call = refl; calling = refl }) next_store (sound_still sizes e' next_engine book.number book.all_lists refl refl refl refl refl next_store h.sound) h.idle h)
+      (all_still sizes e' next_engine book (record { readings = refl; lists = refl; call = refl }) next_store (sound_still sizes e' next_engine book.number book.all_lists refl refl refl refl refl next_store h.sound) h.idle h)
 
   next_count : e'.input.pending.next ≡ None → open_files next_engine.input.pending ≡ suc (open_files e'.input.pending)
   next_count none = omega (arith, ap opened_files none)
@@ -326,9 +327,12 @@ module _ (e' e2 : Engine) (is : e2 ≡ record e' { input = record e'.input { pen
     room = subst (λ (x : Sizes). x.text_input_levels ≤ rs.most) (sym same) tied.room;
   }))
 
-pub no_call : (c : Option EngineCall) (o : Option reading.Ask) → all_start c o ≡ true → c ≡ None
-no_call None o h = refl
-no_call (Some c) o h = absurd (false≢true h)
+none_called : (c : Option EngineCall) (o : Option reading.Ask) → all_start c o ≡ true → c ≡ None
+none_called None o h = refl
+none_called (Some c) o h = absurd (false≢true h)
+
+pub starts_uncalled : (k : Calling) (o : Option reading.Ask) → all_start (call_in k) o ≡ true → k ≡ NotCalling
+starts_uncalled k o h = no_call k (none_called (call_in k) o h)
 
 pub match_true : (A B : Type 0) (b : Bool) → b ≡ true → MatchBool b A B → A
 match_true A B true is h = h
@@ -340,10 +344,10 @@ match_false A B false is h = h
 
 -- the same readings are open
 pub frames_near : (sizes : Sizes) (e e2 : Engine) (book : Book) (b : Broken) → SameFrames e e2 → Stands sizes e book → FramesAtCut b e2 book.work
-frames_near sizes e e2 book b same st = near_still b e e2 book.work same (near_none b e book.work st.uncalled.none st.readings)
+frames_near sizes e e2 book b same st = near_still b e e2 book.work same (near_none b e book.work st.uncalled st.readings)
 
-pub frames_by : (sizes : Sizes) (e e2 : Engine) (book : Book) → SameFrames e e2 → Stands sizes e book → FramesOf e2.call e2 book.work
-frames_by sizes e e2 book same st = subst (λ (c : Option EngineCall). FramesOf c e2 book.work) (sym (same.call ∙ st.uncalled.none)) (frames_kept e e2 book.work same st.readings)
+pub frames_by : (sizes : Sizes) (e e2 : Engine) (book : Book) → SameFrames e e2 → Stands sizes e book → FramesOf (call_in e2.input.call) e2 book.work
+frames_by sizes e e2 book same st = subst (λ (c : Option EngineCall). FramesOf c e2 book.work) (sym (ap call_in (same.call ∙ st.uncalled))) (frames_kept e e2 book.work same st.readings)
 
 -- there are as many readers as text input levels
 pub no_room : (sizes : Sizes) (e e' : Engine) (book book' : Book) (w : World) (back : Bool) (page : Page) (name other : List ℕ) (n : ℕ) (rs : OpenReaders) → AreTied rs e → Stands sizes e book → Sought sizes (state_of e book) e' book' w (input_front page back name) other n →

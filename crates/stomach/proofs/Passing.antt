@@ -29,6 +29,7 @@ use Rattle.plain_machine.proofs.Ties.{puts_renumbered}
 use Rattle.input_state.specs.HeldLists as held
 use Rattle.input_state.specs.Macros.{list_at, is_shared}
 use Rattle.input_state.specs.Stored.{Stored, KeepsShared, gathered}
+use Rattle.input_state.specs.Callings.{NotCalling}
 use Rattle.engine_state.specs.declared.broken.Broken.{Broken}
 use Rattle.engine_state.specs.declared.broken.Broken.TheVariants as broken
 use Rattle.engine_state.specs.declared.engine.Engine.{Engine}
@@ -157,7 +158,7 @@ module _ (sizes : Sizes) (e : Engine) (book : Book) (w : World) (r : Reading) (r
   under : (g : Groups) (lists : List (List Token)) → beneath (r ∷ rs) (gathered e.input) ≡ gathered (after g lists).input
   under g lists =
       ap (λ (l : List (List Token)). beneath (r ∷ rs) l) (stands_gathered sizes e here st) ∙ (held_beneath e.readings.frames e.input.builds (r ∷ rs) st.readings.frames ∙ (own_beneath
-      ∙ sym (gathered_is (after g lists).input st.uncalled.input)))
+      ∙ sym (gathered_is (after g lists).input st.uncalled)))
 
   module _ (number : ℕ → ℕ) (g : Groups) (lists : List (List Token)) (same : length g.now.meanings ≡ length e.input.groups.now.meanings) (tied : Tied number (book.all_lists ++ ts ∷ []) (lists_held g) (all_puts e.input.pending) lists)
       (same_pending : pending_of number e.input.pending ≡ pending_of book.number e.input.pending) (gives_it : groups_of number g ≡ given (groups_of book.number e.input.groups) (length book.all_lists)) where
@@ -188,7 +189,7 @@ module _ (sizes : Sizes) (e : Engine) (book : Book) (w : World) (r : Reading) (r
         frames = subst (λ (l : List (List Token)). frames.FramesStand stack.frames l rs) own_beneath (stand e.input.builds (r ∷ rs) st.readings.frames);
         shallow = subst (λ (l : List (List Token)). AreShallow stack.frames l) own_beneath (shallow e.input.builds st.readings.shallow);
       };
-      uncalled = record { none = st.uncalled.none; input = st.uncalled.input };
+      uncalled = st.uncalled;
     }
 
     abbrev given_state : Pending → Groups → List (List Token) → State
@@ -237,7 +238,7 @@ pub unpassed_cut : (sizes : Sizes) (e : Engine) (book : Book) (w : World) (i : S
     CutsIn sizes (state_of e book) (record e { input = i }) w w (m ∷ []) (broken.Full full)
 unpassed_cut sizes e book w i m full same refuses st =
     stands_in sizes e (record e { input = i }) book w w (m ∷ []) (broken.Full full) (unchanged_cuts sizes e i book w m [] full same refuses)
-    (record { readings = refl; lists = ap (λ (x : Stored). x.builds) same; call = refl; calling = ap (λ (x : Stored). x.call) same }) st
+    (record { readings = refl; lists = ap (λ (x : Stored). x.builds) same; call = ap (λ (x : Stored). x.call) same }) st
 
 -- BEHIND THESE MOVES comes the token that `\afterassignment` kept
 
@@ -254,7 +255,7 @@ module _ (sizes : Sizes) (s : State) (e e1 e2 : Engine) (w : World) (moves : Lis
   pub unmade_in : (b : Broken) → CutsIn sizes s e1 w w moves b → CutsIn sizes s e1 w w whole b
   unmade_in b cuts = first_in sizes s e1 w w moves (behind_assignment e.after) b cuts
 
-  module _ (none : e1.call ≡ None) (after : e1.after ≡ e.after) (same : SameFrames e1 e2) (went : Went sizes s e1 w w moves 0) where
+  module _ (none : e1.input.call ≡ NotCalling) (after : e1.after ≡ e.after) (same : SameFrames e1 e2) (went : Went sizes s e1 w w moves 0) where
     standing : Stands sizes e1 went.book'
     standing = framed sizes e1 went.book' none went.stands
 

@@ -21,7 +21,8 @@ use Rattle.engine_state.specs.declared.outcome.Ruled.{Ruled}
 use Rattle.engine_state.specs.declared.outcome.Ruled.TheVariants.{Step, Free, Halted}
 use Rattle.engine_state.specs.Rules.{world_of, plan_of}
 use Rattle.engine_state.specs.Stands.{state_of}
-use Rattle.engine_state.specs.declared.call.Call.{Call}
+use Rattle.input_state.specs.declared.answer.Call.{Call}
+use Rattle.input_state.specs.Callings.{call_in}
 use Rattle.engine_state.specs.Steps.{weight, readings_weight, pending_weight, stepping, all_want, all_start, asked}
 use Rattle.stomach.specs.declared.early.Early.{Early}
 use Rattle.stomach.specs.declared.early.Early.TheVariants as early
@@ -88,7 +89,7 @@ module _ (all left : Rests) (e e' : Engine) (is : IsGiven all left e e') where
   pending_given (Some bytes) = refl
 
   pub weight_given : weight e' ≡ weight e
-  weight_given = ap weight is.after ∙ omega (arith, readings_given e.call, pending_given e.input.pending.next)
+  weight_given = ap weight is.after ∙ omega (arith, readings_given (call_in e.input.call), pending_given e.input.pending.next)
 
 module _ (rs0 rs rs' : OpenReaders) (e0 e e' : Engine) (s0 s : SinkTold) (k : ℕ) where
   pub came_more : (all mid left : Rests) → (AreTied rs e → AreTied rs' e') → CameTo rs0 e0 s0 rs e s k all mid → IsGiven mid left e e' → CameTo rs0 e0 s0 rs' e' s k all left
@@ -178,13 +179,13 @@ module _ (sizes : Sizes) (e : Engine) (left : Rests) (rs : List OpenReader) (kno
   -- the file goes by no step
   keeps_open : e.input.pending.next ≡ None → stepping e ≡ true → closes (plan_of e book) ≡ false
   keeps_open unopened waits =
-      let never : all_start e.call (asked e) ≡ false = wants_no_start e (wants_step (all_want e.call (asked e)) (gives_step (pulled e.input.groups.now.categories e.input.pending)) waits) in
+      let never : all_start (call_in e.input.call) (asked e) ≡ false = wants_no_start e (wants_step (all_want (call_in e.input.call) (asked e)) (gives_step (pulled e.input.groups.now.categories e.input.pending)) waits) in
       let one : steps (plan_of e book) ≡ 1 = plan_one sizes e waits book stands in
       open_if (closes (plan_of e book)) (λ is. omega (arith, one, closing_is_free (state_of e book) (plan_of e book) (plan_counts (state_of e book) unopened (starts_same sizes e book stands ∙ never)) is))
 
   step_known : e.input.pending.next ≡ None → stepping e ≡ true → StepComes sizes (whole_state left e book)
   step_known unopened waits =
-      let wants : all_want e.call (asked e) ≡ true = wants_step (all_want e.call (asked e)) (gives_step (pulled e.input.groups.now.categories e.input.pending)) waits in
+      let wants : all_want (call_in e.input.call) (asked e) ≡ true = wants_step (all_want (call_in e.input.call) (asked e)) (gives_step (pulled e.input.groups.now.categories e.input.pending)) waits in
       let stays : closes (plan_of e book) ≡ false = keeps_open unopened waits in
       let may' : MayLeave rs (rests_before [] (plan_of e book) left).left = subst (λ (r : Rests). MayLeave rs r.left) (sym (open_before [] (plan_of e book) left stays)) may in
       comes_known sizes e left book [] stays (reads_known sizes e book stands [] left unopened (wants_no_start e wants) rs knows wants may') (stepping_needs sizes e unopened waits book stands)

@@ -20,7 +20,8 @@ use Rattle.plain_machine.specs.Plan.{Page, acts_in, acts_on, answered}
 use Rattle.plain_machine.specs.Extended.{starts}
 use Rattle.world_io.specs.Contents.{FilesTold, SinkTold}
 use Rattle.input_state.specs.Reads.{gives_step}
-use Rattle.engine_state.specs.declared.call.Call.{Call}
+use Rattle.input_state.specs.declared.answer.Call.{Call}
+use Rattle.input_state.specs.Callings.{NotCalling, call_in, Calling}
 use Rattle.engine_state.specs.declared.engine.Engine.{Engine}
 use Rattle.engine_state.specs.declared.broken.Broken.{Broken}
 use Rattle.engine_state.specs.declared.outcome.Ruled.{Ruled}
@@ -37,10 +38,10 @@ use Rattle.stomach.specs.Halting.{DoesRuleIn}
 
 -- WHAT THE INNERMOST READING ASKS FOR
 
-pub call_innermost : (e : Engine) (i : Innermost) (c : Call) → i ≡ innermost.Call c → IsInnermost e i → e.call ≡ Some c
+pub call_innermost : (e : Engine) (i : Innermost) (c : Call) → i ≡ innermost.Call c → IsInnermost e i → call_in e.input.call ≡ Some c
 call_innermost e i c is h = subst (λ (x : Innermost). IsInnermost e x) is h
 
-pub frame_innermost : (e : Engine) (i : Innermost) (a : Option Ask) → i ≡ innermost.Frame a → IsInnermost e i → (e.call ≡ None) × IsAsked e a
+pub frame_innermost : (e : Engine) (i : Innermost) (a : Option Ask) → i ≡ innermost.Frame a → IsInnermost e i → (e.input.call ≡ NotCalling) × IsAsked e a
 frame_innermost e i a is h = subst (λ (x : Innermost). IsInnermost e x) is h
 
 pub asked_is : (e : Engine) (a b : Option Ask) → a ≡ b → IsAsked e a → IsAsked e b
@@ -55,10 +56,10 @@ wants_frame : (held : Lists) (a : Option Ask) → frames_want (asked_of held a) 
 wants_frame held None = refl
 wants_frame held (Some x) = wants_of held x
 
-pub wants_same : (e : Engine) (i : Innermost) → IsInnermost e i → innermost_wants i ≡ all_want e.call (asked e)
+pub wants_same : (e : Engine) (i : Innermost) → IsInnermost e i → innermost_wants i ≡ all_want (call_in e.input.call) (asked e)
 wants_same e (innermost.Call c) h = sym (ap (λ (o : Option Call). all_want o (asked e)) h)
 wants_same e (innermost.Frame a) h =
-    sym (wants_frame e.input.builds a) ∙ (ap frames_want (h.1.asks e.input.builds) ∙ sym (ap (λ (o : Option Call). all_want o (asked e)) h.0))
+    sym (wants_frame e.input.builds a) ∙ (ap frames_want (h.1.asks e.input.builds) ∙ sym (ap (λ (k : Calling). all_want (call_in k) (asked e)) h.0))
 
 -- and whether that a file be opened
 opens_of : (held : Lists) (x : Ask) → starts (ask_of held x) ≡ ask_opens x
@@ -69,10 +70,10 @@ opens_frame : (held : Lists) (a : Option Ask) → asks_start (asked_of held a) �
 opens_frame held None = refl
 opens_frame held (Some x) = opens_of held x
 
-pub opens_same : (e : Engine) (i : Innermost) → IsInnermost e i → innermost_opens i ≡ all_start e.call (asked e)
+pub opens_same : (e : Engine) (i : Innermost) → IsInnermost e i → innermost_opens i ≡ all_start (call_in e.input.call) (asked e)
 opens_same e (innermost.Call c) h = sym (ap (λ (o : Option Call). all_start o (asked e)) h)
 opens_same e (innermost.Frame a) h =
-    sym (opens_frame e.input.builds a) ∙ (ap asks_start (h.1.asks e.input.builds) ∙ sym (ap (λ (o : Option Call). all_start o (asked e)) h.0))
+    sym (opens_frame e.input.builds a) ∙ (ap asks_start (h.1.asks e.input.builds) ∙ sym (ap (λ (k : Calling). all_start (call_in k) (asked e)) h.0))
 
 pub asks_as : (e : Engine) (a b : Ask) → a ≡ b → AsksFor e (Some a) → AsksFor e (Some b)
 asks_as e a b is h = subst (λ (x : Ask). AsksFor e (Some x)) is h
@@ -116,23 +117,23 @@ pub asked_cuts : (e e' : Engine) (s s' : SinkTold) (a b : Ask) (why : Broken) �
 asked_cuts e e' s s' a b why is asks sizes f h book st = by_ask sizes e a b (λ book plan. CutsIn sizes (state_of e book) e' (world_of f s e) (world_of f s' e') plan why) is asks h book st
 
 -- where none is open
-pub by_none : (sizes : Sizes) (e : Engine) (P : Book → List Move → Type 0) → AsksFor e None → StandsAsking e None → e.call ≡ None →
+pub by_none : (sizes : Sizes) (e : Engine) (P : Book → List Move → Type 0) → AsksFor e None → StandsAsking e None → e.input.call ≡ NotCalling →
     ((book : Book) → Takes sizes None e book → P book (next_moves None e book)) → (book : Book) → Stands sizes e book → P book (plan_of e book)
 by_none sizes e P asks stand none h book st = at book.work st (stand e.input.builds book.work st.readings.frames) where
   taken : (work : List Reading) → Stands sizes e (with_work work book) → Takes sizes None e (with_work work book)
-  taken work st = (subst (λ (c : Option Call). WantsHere c None e) (sym none) (sym (asks e.input.builds)), all_of sizes e (with_work work book) st)
+  taken work st = (subst (λ (c : Option Call). WantsHere c None e) (sym (ap call_in none)) (sym (asks e.input.builds)), all_of sizes e (with_work work book) st)
 
   at : (work : List Reading) → Stands sizes e (with_work work book) → None ≡ asked_in work → P (with_work work book) (plan_of e (with_work work book))
   at [] st now = h (with_work [] book) (taken [] st)
   at (r ∷ rs) st now = absurd cc
 
 -- a token is wanted
-pub more_taken : (sizes : Sizes) (e : Engine) (want : Want) (book : Book) → e.call ≡ None → asked e ≡ Some (reading.More want) → Stands sizes e book → Takes sizes (Some want) e book
-more_taken sizes e want book none asks st = (subst (λ (c : Option Call). WantsHere c (Some want) e) (sym none) asks, all_of sizes e book st)
+pub more_taken : (sizes : Sizes) (e : Engine) (want : Want) (book : Book) → e.input.call ≡ NotCalling → asked e ≡ Some (reading.More want) → Stands sizes e book → Takes sizes (Some want) e book
+more_taken sizes e want book none asks st = (subst (λ (c : Option Call). WantsHere c (Some want) e) (sym (ap call_in none)) asks, all_of sizes e book st)
 
 -- an act with a list that opens no file
-pub not_started : (e : Engine) (a : reading.Ask) → e.call ≡ None → asked e ≡ Some a → all_start e.call (asked e) ≡ false → starts a ≡ false
-not_started e a none is h = ap asks_start (sym is) ∙ (ap (λ (c : Option Call). all_start c (asked e)) (sym none) ∙ h)
+pub not_started : (e : Engine) (a : reading.Ask) → e.input.call ≡ NotCalling → asked e ≡ Some a → all_start (call_in e.input.call) (asked e) ≡ false → starts a ≡ false
+not_started e a none is h = ap asks_start (sym is) ∙ (ap (λ (k : Calling). all_start (call_in k) (asked e)) (sym none) ∙ h)
 
 pub acts_as : (files : Files) (page : Page) (c : Command) (e : Effect) (ts : List Token) → starts (reading.ActsOn c e ts) ≡ false → acts_in files page c e ts ≡ acts_on page c e ts
 acts_as files page c (effect.StartInput back) ts none = absurd cc
@@ -140,7 +141,7 @@ acts_as files page c x ts none = refl
 
 -- WHETHER THE RULE HAS A STEP
 
-pub asked_steps : (e : Engine) (a : Option reading.Ask) → e.call ≡ None → asked e ≡ a → stepping e ≡ (frames_want a && gives_step (pulled e.input.groups.now.categories e.input.pending))
+pub asked_steps : (e : Engine) (a : Option reading.Ask) → e.input.call ≡ NotCalling → asked e ≡ a → stepping e ≡ (frames_want a && gives_step (pulled e.input.groups.now.categories e.input.pending))
 asked_steps e a none is =
-    ap (λ (c : Option Call). all_want c (asked e) && gives_step (pulled e.input.groups.now.categories e.input.pending)) none
+    ap (λ (k : Calling). all_want (call_in k) (asked e) && gives_step (pulled e.input.groups.now.categories e.input.pending)) none
     ∙ ap (λ (o : Option reading.Ask). frames_want o && gives_step (pulled e.input.groups.now.categories e.input.pending)) is

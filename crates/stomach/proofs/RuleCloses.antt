@@ -1,6 +1,6 @@
 -- A rule behind whose moves the innermost reading ends without a value.
 use Rattle.std.proofs.Common.{◌≡◌, ℕ, ◌+◌, List, [], ◌∷◌, ◌++◌, refl, sym, ap, ◌∙◌, subst, arith, Bool, true, false, ◌<◌, drop}
-use Rattle.std.specs.Prelude.{Option, Some, None, if◌then◌else◌}
+use Rattle.std.specs.Prelude.{Option, Some, if◌then◌else◌}
 use Rattle.tex_syntax.specs.declared.words.Outcome.{Outcome}
 use Rattle.tex_defs.specs.Places.{World}
 use Rattle.tex_defs.specs.declared.Name.{Name}
@@ -39,6 +39,7 @@ use Rattle.engine_state.proofs.Standing.{only_frames}
 use Rattle.engine_state.proofs.Weighing.{acted_lighter}
 use Rattle.stomach.specs.Halting.{HaltsIn}
 use Rattle.stomach.proofs.RuleHalts.{halts_in}
+use Rattle.input_state.specs.Callings.{NotCalling, call_in}
 
 -- THE END
 
@@ -97,7 +98,7 @@ reported_closed sizes e e1 e2 book r rs f s0 s1 ts stands state but same input s
 
 pub reported_halts : (sizes : Sizes) (e e1 : Engine) (book : Book) (w w' : World) (moves : List Move) (o : Outcome) → SameFrames e e1 → Stands sizes e book → Halts sizes (state_of e book) e1 book w w' moves o 0 → HaltsIn sizes (state_of e book) e1 w w' moves o 1
 reported_halts sizes e e1 book w w' moves o same st h =
-    halts_in sizes e e1 book w w' moves o 1 st (record { readings = same.readings; lists = same.lists; call = same.call }) (halts_least sizes _ e1 book w w' moves o 0 1 (omega arith) h)
+    halts_in sizes e e1 book w w' moves o 1 st (record { readings = same.readings; lists = same.lists; call = ap call_in same.call }) (halts_least sizes _ e1 book w w' moves o 0 1 (omega arith) h)
 
 -- WHAT A COMMAND DOES WITH A LIST
 
@@ -131,11 +132,11 @@ name_free page characters =
 
 -- WHAT BECOMES LIGHTER
 
-pub closed_lighter : (e e' : Engine) (a : Ask) → e.call ≡ None → asks_in e.readings.frames [] ≡ Some a → IsEnd a → SameBut e e' → frames_weight e'.readings.frames ≡ frames_weight (drop 1 e.readings.frames) → innermost_weight e'.readings.frames < act_frame + act_weight → weight e' < weight e
-closed_lighter e e' a none asks end same frames light = acted_lighter e e' none (same.others.call ∙ none) same.pending a asks end frames light
+pub closed_lighter : (e e' : Engine) (a : Ask) → e.input.call ≡ NotCalling → asks_in e.readings.frames [] ≡ Some a → IsEnd a → SameBut e e' → frames_weight e'.readings.frames ≡ frames_weight (drop 1 e.readings.frames) → innermost_weight e'.readings.frames < act_frame + act_weight → weight e' < weight e
+closed_lighter e e' a none asks end same frames light = acted_lighter e e' none (same.call ∙ none) same.pending a asks end frames light
 
 -- behind what leaves the frames as they were
-pub closed_lighter_behind : (e e1 e' : Engine) (a : Ask) → e.call ≡ None → asks_in e.readings.frames [] ≡ Some a → IsEnd a → SameFrames e e1 → pending_weight e1.input.pending ≡ pending_weight e.input.pending →
+pub closed_lighter_behind : (e e1 e' : Engine) (a : Ask) → e.input.call ≡ NotCalling → asks_in e.readings.frames [] ≡ Some a → IsEnd a → SameFrames e e1 → pending_weight e1.input.pending ≡ pending_weight e.input.pending →
     SameBut e1 e' → frames_weight e'.readings.frames ≡ frames_weight (drop 1 e1.readings.frames) → innermost_weight e'.readings.frames < act_frame + act_weight → weight e' < weight e
 closed_lighter_behind e e1 e' a none asks end same left but frames light =
     lighter_by e e1 e' same left (closed_lighter e1 e' a (same.call ∙ none) (ap (λ (s : Stack). asks_in s.frames []) same.readings ∙ asks) end but frames light)

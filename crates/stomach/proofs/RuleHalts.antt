@@ -1,13 +1,13 @@
 -- Where a rule ends the run, the open readings are as they were.
-use Rattle.std.proofs.Common.{◌≡◌, ℕ, List, [], ◌∷◌, sym, subst, ◌∙◌}
+use Rattle.std.proofs.Common.{◌≡◌, ℕ, List, [], ◌∷◌, sym, subst, ◌∙◌, ap}
 use Rattle.std.specs.Prelude.{Bool, Option, Some, None}
 use Rattle.tex_syntax.specs.declared.words.Outcome.{Outcome}
 use Rattle.tex_defs.specs.Places.{World}
 use Rattle.tex_defs.specs.declared.Sizes.{Sizes}
 use Rattle.plain_readings.specs.Readings.{Reading}
 use Rattle.plain_machine.specs.States.{State, Move}
-use Rattle.input_state.specs.Callings.{Calling}
-use Rattle.engine_state.specs.declared.call.Call.{Call}
+use Rattle.input_state.specs.Callings.{Calling, call_in}
+use Rattle.input_state.specs.declared.answer.Call.{Call}
 use Rattle.engine_state.specs.declared.engine.Engine.{Engine}
 use Rattle.engine_state.specs.declared.outcome.Ruled.{Ruled}
 use Rattle.engine_state.specs.declared.outcome.Ruled.TheVariants.{Step, Free, Halted}
@@ -26,14 +26,14 @@ use Rattle.stomach.specs.Halting.{HaltsIn, DoesRuleIn}
 frames_by : (e e' : Engine) (c : Option Call) (work : List Reading) → SameFrames e e' → FramesOf c e work → FramesOf c e' work
 frames_by e e' None work same h = frames_kept e e' work same h
 frames_by e e' (Some c) [] same h = h
-frames_by e e' (Some c) (r ∷ rs) same h = (subst (λ (k : Calling). CallReads c k r) (sym same.calling) h.0, frames_kept e e' rs same h.1)
+frames_by e e' (Some c) (r ∷ rs) same h = (subst (λ (k : Calling). CallReads c k r) (sym same.call) h.0, frames_kept e e' rs same h.1)
 
-frames_still : (e e' : Engine) (work : List Reading) → SameFrames e e' → FramesOf e.call e work → FramesOf e'.call e' work
-frames_still e e' work same h = subst (λ (c : Option Call). FramesOf c e' work) (sym same.call) (frames_by e e' e.call work same h)
+frames_still : (e e' : Engine) (work : List Reading) → SameFrames e e' → FramesOf (call_in e.input.call) e work → FramesOf (call_in e'.input.call) e' work
+frames_still e e' work same h = subst (λ (c : Option Call). FramesOf c e' work) (sym (ap call_in same.call)) (frames_by e e' (call_in e.input.call) work same h)
 
 -- where no call gathers its arguments
-bare_frames : (sizes : Sizes) (e e' : Engine) (book : Book) → Stands sizes e book → SameReadings e e' → FramesOf e'.call e' book.work
-bare_frames sizes e e' book st same = subst (λ (c : Option Call). FramesOf c e' book.work) (sym (same.call ∙ st.uncalled.none)) (readings_still e e' book.work same st.readings)
+bare_frames : (sizes : Sizes) (e e' : Engine) (book : Book) → Stands sizes e book → SameReadings e e' → FramesOf (call_in e'.input.call) e' book.work
+bare_frames sizes e e' book st same = subst (λ (c : Option Call). FramesOf c e' book.work) (sym (same.call ∙ ap call_in st.uncalled)) (readings_still e e' book.work same st.readings)
 
 -- the same moves
 pub rules_by : (sizes : Sizes) (s : State) (e' : Engine) (w w' : World) (ms ns : List Move) (ruled : Ruled) → ns ≡ ms → DoesRuleIn sizes s e' w w' ms ruled → DoesRuleIn sizes s e' w w' ns ruled

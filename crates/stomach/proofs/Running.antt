@@ -235,7 +235,7 @@ module _ (sizes : Sizes) (e : Engine) (left : Rests) (i : Stored) (is : i ≡ re
   settled_engine = record e { input = i }
 
   settled_frames : SameFrames e settled_engine
-  settled_frames = record { readings = refl; lists = ap (λ (x : Stored). x.builds) is; call = refl; calling = ap (λ (x : Stored). x.call) is }
+  settled_frames = record { readings = refl; lists = ap (λ (x : Stored). x.builds) is; call = ap (λ (x : Stored). x.call) is }
 
   settled_stands : (book : Book) → AllStand sizes e book → AllStand sizes settled_engine book
   settled_stands book h = all_still sizes e settled_engine book settled_frames (store_settled e.input i is kept)

@@ -6,7 +6,8 @@ use Rattle.tex_defs.specs.Places.{World}
 use Rattle.plain_readings.specs.Readings.{Reading}
 use Rattle.plain_machine.specs.States.{State}
 use Rattle.world_io.specs.Contents.{SinkTold}
-use Rattle.engine_state.specs.declared.call.Call.{Call}
+use Rattle.input_state.specs.declared.answer.Call.{Call}
+use Rattle.input_state.specs.Callings.{call_in}
 use Rattle.engine_state.specs.declared.engine.Engine.{Engine}
 use Rattle.engine_state.specs.Calls.{FramesOf}
 use Rattle.engine_state.proofs.CallKept.{frames_kept}
@@ -31,7 +32,7 @@ frames_noted b e (Some c) (r ∷ rs) h = (h.0, frames_kept e (noted b e) rs (not
 
 module _ (b : Bool) (e' : Engine) (left : Rests) (t : State) where
   end_noted : IsEnd e' left t → IsEnd (noted b e') left t
-  end_noted h = record { book' = h.book'; frames = frames_noted b e' e'.call h.book'.work h.frames; same = h.same }
+  end_noted h = record { book' = h.book'; frames = frames_noted b e' (call_in e'.input.call) h.book'.work h.frames; same = h.same }
 
   at_noted : (sizes : Sizes) → IsAt sizes e' left t → IsAt sizes (noted b e') left t
   at_noted sizes h = record { book' = h.book'; stands = noted_stands b sizes e' h.book' h.stands; same = h.same }

@@ -58,7 +58,7 @@ top_too_long e listed full is h = record {
 }
 
 pub spelt_frames : (e e1 : Engine) → OnlySpelt e e1 → SameFrames e e1
-spelt_frames e e1 only = subst (λ (x : Engine). SameFrames e x) (sym only) (record { readings = refl; lists = refl; call = refl; calling = refl })
+spelt_frames e e1 only = subst (λ (x : Engine). SameFrames e x) (sym only) (record { readings = refl; lists = refl; call = refl })
 
 module _ (sizes : Sizes) (e e1 : Engine) (book : Book) (only : OnlySpelt e e1) where
   spelt_state : state_of e1 book ≡ state_of e book
@@ -111,7 +111,7 @@ few_spelt names (c ∷ d ∷ cs) = few_names true names (WordName (c ∷ d ∷ c
 module _ (sizes : Sizes) (e : Engine) (book : Book) where
   -- what stood stands
   names_stand : (new : List (List ℕ)) → Stands sizes e book → Stands sizes (with_names new e) book
-  names_stand new st = stands_still sizes e (with_names new e) book (record { readings = refl; lists = refl; call = refl; calling = refl }) (sound_names sizes e book new st.sound) st.idle st
+  names_stand new st = stands_still sizes e (with_names new e) book (record { readings = refl; lists = refl; call = refl }) (sound_names sizes e book new st.sound) st.idle st
 
 -- A NAME THAT MEANS NOTHING
 

@@ -1,6 +1,6 @@
 -- The innermost reading reports.
 use Rattle.std.proofs.Common.{◌≡◌, ◌<◌, ℕ, List, [], ◌∷◌, ◌++◌, Bool, sym, ap, ◌∙◌, subst, append_assoc}
-use Rattle.std.specs.Prelude.{Option, None}
+use Rattle.std.specs.Prelude.{Option}
 use Rattle.tex_defs.specs.declared.Meaning.TheVariants as means
 use Rattle.tex_defs.specs.declared.Name.{Name}
 use Rattle.plain_tokens.specs.Names.{relax_primitive}
@@ -24,7 +24,8 @@ use Rattle.plain_machine.proofs.Doing.{did_join}
 use Rattle.plain_machine.proofs.Pulls.{answered_none}
 use Rattle.world_io.specs.Contents.{FilesTold, SinkTold, world}
 use Rattle.engine_state.specs.declared.broken.Broken.{Broken}
-use Rattle.engine_state.specs.declared.call.Call.{Call}
+use Rattle.input_state.specs.declared.answer.Call.{Call}
+use Rattle.input_state.specs.Callings.{NotCalling, call_in}
 use Rattle.engine_state.specs.declared.engine.Engine.{Engine}
 use Rattle.engine_state.specs.Book.{Book, with_work}
 use Rattle.engine_state.specs.Calls.{FramesOf}
@@ -46,7 +47,7 @@ pub frames_halt : (sizes : Sizes) (e e' : Engine) (s : State) (book : Book) (w w
 frames_halt sizes e e' s book w w' moves o k same st h = record {
   book' = book;
   halts = h;
-  frames = subst (λ (c : Option Call). FramesOf c e' book.work) (sym (same.call ∙ st.uncalled.none)) (frames_kept e e' book.work same st.readings);
+  frames = subst (λ (c : Option Call). FramesOf c e' book.work) (sym (ap call_in (same.call ∙ st.uncalled))) (frames_kept e e' book.work same st.readings);
 }
 
 -- THE NOTE IS CUT OFF
@@ -77,11 +78,11 @@ module _ (sizes : Sizes) (e : Engine) (f : FilesTold) (s0 : SinkTold) (book : Bo
       (later_in sizes _ _ e3 _ _ _ written (noting r) b h.did (column_in sizes _ e3 f s2 e2.in_line (noting r) b column cuts)))
 
 -- WHAT BECOMES LIGHTER
-pub told_light : (e e1 e2 : Engine) → e.call ≡ None → SameFrames e e1 → pending_weight e1.input.pending ≡ pending_weight e.input.pending → e2.call ≡ e1.call → e2.input.pending ≡ e1.input.pending →
+pub told_light : (e e1 e2 : Engine) → e.input.call ≡ NotCalling → SameFrames e e1 → pending_weight e1.input.pending ≡ pending_weight e.input.pending → e2.input.call ≡ e1.input.call → e2.input.pending ≡ e1.input.pending →
     (IsReported (asks_in e1.readings.frames []) → innermost_weight e2.readings.frames < innermost_weight e1.readings.frames) → frames_weight e2.readings.frames ≡ frames_weight e1.readings.frames →
     IsReported (asks_in e.readings.frames []) → weight e2 < weight e
 told_light e e1 e2 none same left call pending light count reported =
-    let none1 : e1.call ≡ None = same.call ∙ none in
+    let none1 : e1.input.call ≡ NotCalling = same.call ∙ none in
     lighter_by e e1 e2 same left (noted_lighter e1 e2 none1 (call ∙ none1) pending (light (subst (λ (s : Stack). IsReported (asks_in s.frames [])) (sym same.readings) reported)) count)
 
 -- BEHIND MOVES WITHOUT A REPORT the innermost reading goes on

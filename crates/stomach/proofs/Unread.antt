@@ -13,10 +13,10 @@ use Rattle.reading_frames.specs.Stack.{asked_in}
 use Rattle.plain_machine.specs.Extended.{starts, starts_input}
 use Rattle.plain_machine.proofs.Pulls.{pulls, answered_none, WantsNone}
 use Rattle.plain_machine.proofs.FileRules.{WantsToken}
-use Rattle.input_state.specs.Callings.{Calling}
-use Rattle.engine_state.specs.declared.call.Call.{Call}
-use Rattle.engine_state.specs.declared.call.CallAsk.{CallAsk}
-use Rattle.engine_state.specs.declared.call.CallAsk.TheVariants as call
+use Rattle.input_state.specs.Callings.{Calling, call_in}
+use Rattle.input_state.specs.declared.answer.Call.{Call}
+use Rattle.macro_call.specs.declared.ask.CallAsk.{CallAsk}
+use Rattle.macro_call.specs.declared.ask.CallAsk.TheVariants as call
 use Rattle.engine_state.specs.declared.engine.Engine.{Engine}
 use Rattle.engine_state.specs.Book.{Book, with_work}
 use Rattle.engine_state.specs.Calls.{AllStand, ReadingsStand, asks_by}
@@ -40,13 +40,13 @@ frames_start : (e : Engine) (work : List Reading) → FramesStand e work → sta
 frames_start e work h = work_starts work ∙ ap asks_start (asked_same e.readings.frames e.input.builds work h.frames)
 
 starts_at : (e : Engine) (c : Option Call) (number : ℕ → ℕ) (work : List Reading) → ReadingsStand c e number work → starts_input work ≡ all_start c (asked e)
-starts_at e None number work h = frames_start e work h.0
+starts_at e None number work h = frames_start e work h
 starts_at e (Some c) number [] h = absurd h
 starts_at e (Some c) number (r ∷ rs) h = ap starts (sym h.0.asked) ∙ call_starts c.name c.ask e.input.call
 
 -- the machine begins a file by its name where the engine does
-pub starts_same : (sizes : Sizes) (e : Engine) (book : Book) → AllStand sizes e book → starts_input book.work ≡ all_start e.call (asked e)
-starts_same sizes e book h = starts_at e e.call book.number book.work h.all
+pub starts_same : (sizes : Sizes) (e : Engine) (book : Book) → AllStand sizes e book → starts_input book.work ≡ all_start (call_in e.input.call) (asked e)
+starts_same sizes e book h = starts_at e (call_in e.input.call) book.number book.work h.all
 
 -- NO TOKEN IS WANTED
 
@@ -69,13 +69,13 @@ work_unread e book [] none never = no (sym none)
 work_unread e book (r ∷ rs) none never = answered_none (state_of e (with_work (r ∷ rs) book)) (r ∷ rs) r (ask r.kind r.fed) (ask_none (ask r.kind r.fed) none never)
 
 unread_at : (e : Engine) (c : Option Call) (book : Book) (work : List Reading) → ReadingsStand c e book.number work → all_want c (asked e) ≡ false → all_start c (asked e) ≡ false → pulls (plan_of e (with_work work book)) ≡ 0
-unread_at e None book work h none never = work_unread e book work (frames_ask e work h.0 ∙ none) (frames_start e work h.0 ∙ never)
+unread_at e None book work h none never = work_unread e book work (frames_ask e work h ∙ none) (frames_start e work h ∙ never)
 unread_at e (Some c) book [] h none never = absurd h
 unread_at e (Some c) book (r ∷ rs) h none never =
     answered_none (state_of e (with_work (r ∷ rs) book)) (r ∷ rs) r (ask r.kind r.fed) (subst WantsNone h.0.asked (call_none c.name c.ask e.input.call none))
 
-pub plan_unread : (sizes : Sizes) (e : Engine) → all_want e.call (asked e) ≡ false → all_start e.call (asked e) ≡ false → (book : Book) → AllStand sizes e book → pulls (plan_of e book) ≡ 0
-plan_unread sizes e none never book h = unread_at e e.call book book.work h.all none never
+pub plan_unread : (sizes : Sizes) (e : Engine) → all_want (call_in e.input.call) (asked e) ≡ false → all_start (call_in e.input.call) (asked e) ≡ false → (book : Book) → AllStand sizes e book → pulls (plan_of e book) ≡ 0
+plan_unread sizes e none never book h = unread_at e (call_in e.input.call) book book.work h.all none never
 
 -- A TOKEN IS WANTED
 
@@ -92,12 +92,12 @@ work_asks [] h = tt
 work_asks (r ∷ rs) h = ask_wants (ask r.kind r.fed) h
 
 wants_at : (e : Engine) (c : Option Call) (number : ℕ → ℕ) (work : List Reading) → ReadingsStand c e number work → all_want c (asked e) ≡ true → WantsToken work
-wants_at e None number work h wants = work_asks work (frames_ask e work h.0 ∙ wants)
+wants_at e None number work h wants = work_asks work (frames_ask e work h ∙ wants)
 wants_at e (Some c) number [] h wants = absurd h
 wants_at e (Some c) number (r ∷ rs) h wants = (Raw, sym h.0.asked ∙ call_wants c.name c.ask e.input.call wants)
 
-pub work_wants : (sizes : Sizes) (e : Engine) → all_want e.call (asked e) ≡ true → (book : Book) → AllStand sizes e book → WantsToken book.work
-work_wants sizes e wants book h = wants_at e e.call book.number book.work h.all wants
+pub work_wants : (sizes : Sizes) (e : Engine) → all_want (call_in e.input.call) (asked e) ≡ true → (book : Book) → AllStand sizes e book → WantsToken book.work
+work_wants sizes e wants book h = wants_at e (call_in e.input.call) book.number book.work h.all wants
 
 -- where a token is wanted no file is to be opened
 wants_none : (a : Ask) → asks_more a ≡ true → starts a ≡ false
@@ -112,5 +112,5 @@ wants_by : (c : Option Call) (o : Option Ask) → all_want c o ≡ true → all_
 wants_by None o h = frames_none o h
 wants_by (Some c) o h = refl
 
-pub wants_no_start : (e : Engine) → all_want e.call (asked e) ≡ true → all_start e.call (asked e) ≡ false
-wants_no_start e h = wants_by e.call (asked e) h
+pub wants_no_start : (e : Engine) → all_want (call_in e.input.call) (asked e) ≡ true → all_start (call_in e.input.call) (asked e) ≡ false
+wants_no_start e h = wants_by (call_in e.input.call) (asked e) h

@@ -11,6 +11,7 @@ use Rattle.engine_state.specs.declared.engine.Engine.{Engine}
 use Rattle.engine_state.specs.Steps.{call_asks_more}
 use Rattle.stomach.specs.declared.innermost.Innermost.{Innermost}
 use Rattle.stomach.specs.declared.innermost.Innermost.TheVariants as innermost
+use Rattle.input_state.specs.Callings.{NotCalling, call_in}
 
 -- the innermost frame asks for this, or none is open, whatever lists it holds
 abbrev pub AsksFor : Engine → Option Ask → Type 0
@@ -28,8 +29,8 @@ pub record IsAsked (e : Engine) (a : Option Ask) : Type 0 where
 
 -- the innermost reading: a call, where one gathers its arguments, and else the innermost frame
 abbrev pub IsInnermost : Engine → Innermost → Type 0
-IsInnermost e (innermost.Call c) = e.call ≡ Some c
-IsInnermost e (innermost.Frame a) = (e.call ≡ None) × IsAsked e a
+IsInnermost e (innermost.Call c) = call_in e.input.call ≡ Some c
+IsInnermost e (innermost.Frame a) = (e.input.call ≡ NotCalling) × IsAsked e a
 
 -- it asks for a token, as the stomach does where no reading is open
 abbrev pub ask_wants : Ask → Bool

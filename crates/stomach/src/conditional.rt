@@ -1,6 +1,6 @@
 // Conditionals go on: by the values of their tests, and behind the text that was skipped.
 // *The TeXbook*, chapter 20; *TeX: The Program*, part 28 (`conditional`).
-ghost use Rattle.std.specs.Prelude.{◌≡◌, ◌<◌, ◌≤◌, ◌+◌, ℕ, List, [], IfOk, IfErr, OnOk, None, true, false};
+ghost use Rattle.std.specs.Prelude.{◌≡◌, ◌<◌, ◌≤◌, ◌+◌, ℕ, [], IfOk, IfErr, OnOk, None, true, false};
 ghost use Rattle.tex_defs.specs.Places.{World};
 ghost use Rattle.tex_defs.specs.declared.Sizes.{Sizes};
 ghost use Rattle.plain_readings.specs.Weights.{act_frame};
@@ -8,17 +8,15 @@ ghost use Rattle.rows.specs.Readings.{Ask};
 ghost use Rattle.rows.specs.declared.command.Effect.TheVariants as effects;
 ghost use Rattle.reading_frames.specs.Stack.{asks_in};
 ghost use Rattle.reading_frames.specs.Weights.{frames_weight, innermost_weight, IsEnd};
-ghost use Rattle.plain_machine.specs.States.{Move};
 ghost use Rattle.plain_machine.specs.Plan.{acts, ended_by, passed, reached};
 ghost use Rattle.plain_machine.specs.Does.{Did};
-ghost use Rattle.world_io.specs.Contents.{FilesTold};
 ghost use Rattle.engine_state.specs.Book.{Book};
-ghost use Rattle.engine_state.specs.Clauses.{Still, EndsAtHundredth, CutsReport, GoesAtReading, CutsAtReading, GoesOnward, CutsOnward};
-ghost use Rattle.engine_state.specs.Stands.{Stands, SameFrames, state_of, page_of};
-ghost use Rattle.engine_state.specs.Rules.{world_of};
+ghost use Rattle.engine_state.specs.Clauses.{Still, EndsAtHundredth, CutsReport, GoesAtReading, CutsAtReading, GoesOnward, CutsOnward, ReportsSo};
+ghost use Rattle.engine_state.specs.Stands.{Stands, SameFrames, state_of};
 ghost use Rattle.engine_state.specs.Steps.{pending_weight, weight, IsFree, IsHalted, IsStep};
 ghost use Rattle.stomach.specs.Halting.{DoesRuleAtReading, CutsRuleAtReading};
 ghost use Rattle.stomach.specs.Skipping.{Passes};
+ghost use Rattle.input_state.specs.Callings.{NotCalling};
 
 use crate::effects::free;
 use conditionals::{Aim, Choice, End, Ender, Passing, Step, Value, ender_number};
@@ -35,7 +33,7 @@ use world_io::Sink;
 /// There is no room for the reading that skips text: the engine stands for the moment before.
 pub(crate) fn choose_behind(engine: &mut Engine, call: Call, value: Value) -> Result<(), Broken>
     requires idle { engine.old.input.making ≡ None }
-    requires uncalled { engine.old.call ≡ None }
+    requires uncalled { engine.old.input.call ≡ NotCalling }
     ensures rule { OnOk result (GoesAtReading engine.old engine.new (λ page _. acts page call (effects.Choose value))) }
     ensures err { IfErr result (λ b. CutsAtReading engine.old engine.new (λ page _. acts page call (effects.Choose value)) b) }
     ensures light { OnOk result ((a : Ask) → asks_in engine.old.readings.frames [] ≡ Some a → IsEnd a → weight engine.new < weight engine.old) }
@@ -57,7 +55,7 @@ pub(crate) fn compare_behind(
     y: Seen,
 ) -> Result<(), Broken>
     requires idle { engine.old.input.making ≡ None }
-    requires uncalled { engine.old.call ≡ None }
+    requires uncalled { engine.old.input.call ≡ NotCalling }
     ensures rule { OnOk result (GoesAtReading engine.old engine.new (λ page _. acts page call (effects.Compare x y))) }
     ensures err { IfErr result (λ b. CutsAtReading engine.old engine.new (λ page _. acts page call (effects.Compare x y)) b) }
     ensures light { OnOk result ((a : Ask) → asks_in engine.old.readings.frames [] ≡ Some a → IsEnd a → weight engine.new < weight engine.old) }
@@ -73,8 +71,7 @@ pub(crate) fn compare_behind(
 /// # Errors
 /// A write failed: the engine stands for the moment before.
 fn pass<S: Sink>(engine: &mut Engine, out: &mut S, passing: Passing) -> Result<bool, Broken>
-    ensures on { IfOk result (λ on. on ≡ true → (sizes : Sizes) (f : FilesTold) (book : Book) (rest : List Move) →
-        Passes sizes (state_of engine.old book) (state_of engine.new book) (world_of f (S.told out.old) engine.old) (world_of f (S.told out.new) engine.new) (page_of engine.old book) passing rest) }
+    ensures on { IfOk result (λ on. on ≡ true → ReportsSo (λ sizes s t w v page rest. Passes sizes s t w v page passing rest) engine.old engine.new (S.told out.old) (S.told out.new)) }
     ensures last { IfOk result (λ on. on ≡ false → EndsAtHundredth engine.old engine.new (S.told out.old) (S.told out.new) (λ page rest. passed page passing rest)) }
     ensures err { IfErr result (λ b. CutsReport engine.old engine.new (S.told out.old) (S.told out.new) (λ page rest. passed page passing rest) b) }
     ensures stands { IfOk result (λ on. on ≡ true → Still Stands engine.old engine.new) }
@@ -114,7 +111,7 @@ fn follow<S: Sink>(
     step: Step,
 ) -> Result<Ruled, Broken>
     requires idle { engine.old.input.making ≡ None }
-    requires uncalled { engine.old.call ≡ None }
+    requires uncalled { engine.old.input.call ≡ NotCalling }
     ensures rule { IfOk result (λ ruled. GoesOnward engine.old engine.new (S.told out.old) (S.told out.new) (λ page. reached page call step) ruled) }
     ensures err { IfErr result (λ b. CutsOnward engine.old engine.new (S.told out.old) (S.told out.new) (λ page. reached page call step) b) }
     ensures halts { IfOk result (λ ruled. IsHalted ruled → SameFrames engine.old engine.new) }
@@ -150,7 +147,7 @@ pub(crate) fn reach<S: Sink>(
     ender: Ender,
 ) -> Result<Ruled, Broken>
     requires idle { engine.old.input.making ≡ None }
-    requires uncalled { engine.old.call ≡ None }
+    requires uncalled { engine.old.input.call ≡ NotCalling }
     ensures rule { IfOk result (λ ruled. DoesRuleAtReading engine.old engine.new (S.told out.old) (S.told out.new) (λ page _. acts page call (effects.Reach aim ender)) ruled) }
     ensures err { IfErr result (λ b. CutsRuleAtReading engine.old engine.new (S.told out.old) (S.told out.new) (λ page _. acts page call (effects.Reach aim ender)) b) }
     ensures step { IfOk result (λ ruled. IsStep ruled → ⊥) }

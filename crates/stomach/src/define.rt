@@ -8,6 +8,7 @@ ghost use Rattle.reading_frames.specs.Views.{top_list, kept_list_of};
 ghost use Rattle.reading_frames.specs.Stack.{asks_in, innermost_count};
 ghost use Rattle.plain_machine.specs.States.{Defined};
 ghost use Rattle.plain_machine.specs.Plan.{is_global as plain_global, macro_defined};
+ghost use Rattle.input_state.specs.Callings.{NotCalling};
 ghost use Rattle.engine_state.specs.declared.broken.Broken.TheVariants as broken;
 ghost use Rattle.engine_state.specs.Book.{Book, with_work};
 ghost use Rattle.engine_state.specs.Clauses.{CutsAtReading};
@@ -38,8 +39,8 @@ fn assign_macro(engine: &mut Engine, call: Call, name: Name) -> Result<(), Full>
     ensures rule { OnOk result ((sizes : Sizes) (w : World) (book : Book) (r : Reading) (rs : List Reading) → Stands sizes engine.old (with_work (r ∷ rs) book) → innermost_count engine.old.readings.frames ≡ 1 →
         Went sizes (state_of engine.old (with_work (r ∷ rs) book)) engine.new w w (Defined (plain_global (page_of engine.old book) call) name call.long call.outer (top_list engine.old.input.builds) ∷ []) 0) }
     ensures err { IfErr result (λ full. CutsAtReading engine.old engine.new (λ page _. Defined (plain_global page call) name call.long call.outer (top_list engine.old.input.builds) ∷ []) (broken.Full full)) }
-    ensures light { OnOk result (engine.old.call ≡ None → asks_in engine.old.readings.frames [] ≡ Some (Defines call name []) → weight engine.new < weight engine.old) }
-    ensures call { engine.new.call ≡ engine.old.call }
+    ensures light { OnOk result (engine.old.input.call ≡ NotCalling → asks_in engine.old.readings.frames [] ≡ Some (Defines call name []) → weight engine.new < weight engine.old) }
+    ensures call { engine.new.input.call ≡ engine.old.input.call }
     ensures after { engine.new.after ≡ engine.old.after }
     ensures column { engine.new.in_line ≡ engine.old.in_line }
     ensures idle { engine.new.input.making ≡ engine.old.input.making }
@@ -70,7 +71,7 @@ pub(crate) fn define(
         Went sizes (state_of engine.old (with_work (r ∷ rs) book)) engine.new w w (macro_defined (page_of engine.old book) call name (kept_list_of listed engine.old.input.builds)) 0) }
     ensures err { IfErr result (λ b. (sizes : Sizes) (w : World) (book : Book) (r : Reading) (rs : List Reading) → Stands sizes engine.old (with_work (r ∷ rs) book) → asked engine.old ≡ Some (Defines call name (kept_list_of listed engine.old.input.builds)) →
         CutsIn sizes (state_of engine.old (with_work (r ∷ rs) book)) engine.new w w (macro_defined (page_of engine.old book) call name (kept_list_of listed engine.old.input.builds)) b) }
-    ensures light { OnOk result (engine.old.call ≡ None → asks_in engine.old.readings.frames [] ≡ Some (Defines call name []) → weight engine.new < weight engine.old) }
+    ensures light { OnOk result (engine.old.input.call ≡ NotCalling → asks_in engine.old.readings.frames [] ≡ Some (Defines call name []) → weight engine.new < weight engine.old) }
     ensures column { engine.new.in_line ≡ engine.old.in_line }
     ensures idle { OnOk result (engine.new.input.making ≡ None) }
 {

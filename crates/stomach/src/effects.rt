@@ -13,20 +13,20 @@ ghost use Rattle.rows.specs.Readings.{Ask, Acts};
 ghost use Rattle.rows.specs.declared.command.Effect.TheVariants as effects;
 ghost use Rattle.reading_frames.specs.Stack.{asks_in};
 ghost use Rattle.reading_frames.specs.Weights.{IsEnd};
-ghost use Rattle.plain_machine.specs.States.{Move, Set, Assigned};
+ghost use Rattle.plain_machine.specs.States.{Set, Assigned};
 ghost use Rattle.plain_machine.specs.Plan.{acts, acts_above, computed_to, is_global as plain_global, marked as plain_marked, put_one, short_meaning as plain_short, standing_shown};
-ghost use Rattle.plain_machine.specs.Does.{Did};
 ghost use Rattle.world_io.specs.Contents.{FilesTold};
 ghost use Rattle.engine_state.specs.Book.{Book, with_work};
-ghost use Rattle.engine_state.specs.Clauses.{Still, MakesMoves, CutsMoves};
+ghost use Rattle.engine_state.specs.Clauses.{Still, MakesMoves, CutsMoves, CutsWritingWhere, HoldsLists, WritesWhere};
 ghost use Rattle.engine_state.specs.Making.{IsInFront};
 ghost use Rattle.engine_state.specs.CutReadings.{CutsIn};
-ghost use Rattle.engine_state.specs.Stands.{Stands, Counts, IsSound, SameFrames, state_of, page_of};
-ghost use Rattle.engine_state.specs.Rules.{world_of, Cuts, Went};
+ghost use Rattle.engine_state.specs.Stands.{Stands, Counts, SameFrames, state_of, page_of};
+ghost use Rattle.engine_state.specs.Rules.{world_of, Went};
 ghost use Rattle.engine_state.specs.Steps.{asked, pending_weight, freed, weight, IsFree, IsStep};
 ghost use Rattle.rows.specs.Suiting.{IsVariable, IsSuited, IsThere};
 ghost use Rattle.stomach.specs.Effects.{put_by, done_alone, assignment_of, IsAlone};
 ghost use Rattle.stomach.specs.Halting.{DoesRuleIn, DoesRuleAtReading, CutsRuleAtReading};
+ghost use Rattle.input_state.specs.Callings.{NotCalling};
 
 use crate::conditional::{choose_behind, compare_behind, reach};
 use crate::lists::{give_list, share_list};
@@ -253,10 +253,8 @@ fn set_glue(engine: &mut Engine, loc: Loc, glue: Glue, global: bool) -> Result<(
 /// # Errors
 /// A write failed or wanted memory: a front of the text was written.
 fn show_value<S: Sink>(engine: &mut Engine, out: &mut S, loc: Loc) -> Result<(), Broken>
-    ensures did { OnOk result (IsThere loc → (sizes : Sizes) (f : FilesTold) (book : Book) → IsSound sizes engine.old book.number book.all_lists →
-        Did sizes (state_of engine.old book) (state_of engine.new book) (world_of f (S.told out.old) engine.old) (world_of f (S.told out.new) engine.new) (standing_shown (page_of engine.old book) loc)) }
-    ensures err { IfErr result (λ b. (sizes : Sizes) (f : FilesTold) (book : Book) (more : List Move) → IsSound sizes engine.old book.number book.all_lists →
-        Cuts sizes (state_of engine.old book) engine.new book (world_of f (S.told out.old) engine.old) (world_of f (S.told out.new) engine.new) (standing_shown (page_of engine.old book) loc ++ more) b) }
+    ensures did { OnOk result (IsThere loc → WritesWhere HoldsLists engine.old engine.new (S.told out.old) (S.told out.new) (λ page. standing_shown page loc)) }
+    ensures err { IfErr result (λ b. CutsWritingWhere HoldsLists engine.old engine.new (S.told out.old) (S.told out.new) (λ page. standing_shown page loc) b) }
     ensures only { engine.new ≡ record engine.old { in_line = engine.new.in_line; flawed = engine.new.flawed } }
     ensures frames { SameFrames engine.old engine.new }
 {
@@ -299,10 +297,8 @@ fn act_alone<S: Sink>(
     effect: Effect,
 ) -> Result<(), Broken>
     requires idle { engine.old.input.making ≡ None }
-    ensures did { OnOk result (IsSuited effect → (sizes : Sizes) (f : FilesTold) (book : Book) → Stands sizes engine.old book →
-        Did sizes (state_of engine.old book) (state_of engine.new book) (world_of f (S.told out.old) engine.old) (world_of f (S.told out.new) engine.new) (done_alone (page_of engine.old book) call effect)) }
-    ensures err { IfErr result (λ b. IsSuited effect → (sizes : Sizes) (f : FilesTold) (book : Book) (more : List Move) → Stands sizes engine.old book →
-        Cuts sizes (state_of engine.old book) engine.new book (world_of f (S.told out.old) engine.old) (world_of f (S.told out.new) engine.new) (done_alone (page_of engine.old book) call effect ++ more) b) }
+    ensures did { OnOk result (IsSuited effect → WritesWhere Stands engine.old engine.new (S.told out.old) (S.told out.new) (λ page. done_alone page call effect)) }
+    ensures err { IfErr result (λ b. IsSuited effect → CutsWritingWhere Stands engine.old engine.new (S.told out.old) (S.told out.new) (λ page. done_alone page call effect) b) }
     ensures stands { OnOk result (Still Stands engine.old engine.new) }
     ensures frames { SameFrames engine.old engine.new }
     ensures light { OnOk result (pending_weight engine.new.input.pending ≡ pending_weight engine.old.input.pending) }
@@ -373,7 +369,7 @@ fn obey_behind<S: Sink>(
     x: Seen,
 ) -> Result<Ruled, Broken>
     requires idle { engine.old.input.making ≡ None }
-    requires uncalled { engine.old.call ≡ None }
+    requires uncalled { engine.old.input.call ≡ NotCalling }
     ensures rule { IfOk result (λ ruled. DoesRuleAtReading engine.old engine.new (S.told out.old) (S.told out.new) (λ page _. acts page call (effects.Obey x)) ruled) }
     ensures err { IfErr result (λ b. CutsRuleAtReading engine.old engine.new (S.told out.old) (S.told out.new) (λ page _. acts page call (effects.Obey x)) b) }
     ensures step { IfOk result (λ ruled. IsStep ruled → ⊥) }
@@ -399,7 +395,7 @@ fn expand_behind<S: Sink>(
     y: Seen,
 ) -> Result<Ruled, Broken>
     requires idle { engine.old.input.making ≡ None }
-    requires uncalled { engine.old.call ≡ None }
+    requires uncalled { engine.old.input.call ≡ NotCalling }
     ensures rule { IfOk result (λ ruled. DoesRuleAtReading engine.old engine.new (S.told out.old) (S.told out.new) (λ page _. acts page call (effects.ExpandBehind x y)) ruled) }
     ensures err { IfErr result (λ b. CutsRuleAtReading engine.old engine.new (S.told out.old) (S.told out.new) (λ page _. acts page call (effects.ExpandBehind x y)) b) }
     ensures step { IfOk result (λ ruled. IsStep ruled → ⊥) }
@@ -430,7 +426,7 @@ fn end_alone<S: Sink>(
     effect: Effect,
 ) -> Result<(), Broken>
     requires idle { engine.old.input.making ≡ None }
-    requires uncalled { engine.old.call ≡ None }
+    requires uncalled { engine.old.input.call ≡ NotCalling }
     ensures rule { OnOk result (IsAlone effect → IsSuited effect → (sizes : Sizes) (f : FilesTold) (book : Book) (r : Reading) (rs : List Reading) → Stands sizes engine.old (with_work (r ∷ rs) book) →
         Went sizes (state_of engine.old (with_work (r ∷ rs) book)) engine.new (world_of f (S.told out.old) engine.old) (world_of f (S.told out.new) engine.new) (acts (page_of engine.old book) call effect) 0) }
     ensures err { IfErr result (λ b. IsAlone effect → IsSuited effect → CutsRuleAtReading engine.old engine.new (S.told out.old) (S.told out.new) (λ page _. acts page call effect) b) }
@@ -448,7 +444,7 @@ fn end_alone<S: Sink>(
 /// There is no room for the token behind the assignment, or a write failed: the engine stands for the moment before.
 fn report_overflow<S: Sink>(engine: &mut Engine, out: &mut S, call: Call) -> Result<Ruled, Broken>
     requires idle { engine.old.input.making ≡ None }
-    requires uncalled { engine.old.call ≡ None }
+    requires uncalled { engine.old.input.call ≡ NotCalling }
     ensures rule { IfOk result (λ ruled. (sizes : Sizes) (f : FilesTold) (book : Book) (r : Reading) (rs : List Reading) (l : Loc) → Stands sizes engine.old (with_work (r ∷ rs) book) →
         DoesRuleIn sizes (state_of engine.old (with_work (r ∷ rs) book)) engine.new (world_of f (S.told out.old) engine.old) (world_of f (S.told out.new) engine.new) (computed_to (page_of engine.old book) call l None) ruled) }
     ensures err { IfErr result (λ b. (sizes : Sizes) (f : FilesTold) (book : Book) (r : Reading) (rs : List Reading) (l : Loc) → Stands sizes engine.old (with_work (r ∷ rs) book) →
@@ -477,7 +473,7 @@ fn compute<S: Sink>(
     datum: Datum,
 ) -> Result<Ruled, Broken>
     requires idle { engine.old.input.making ≡ None }
-    requires uncalled { engine.old.call ≡ None }
+    requires uncalled { engine.old.input.call ≡ NotCalling }
     ensures rule { IfOk result (λ ruled. IsVariable loc → DoesRuleAtReading engine.old engine.new (S.told out.old) (S.told out.new) (λ page _. acts page call (effects.Compute operation loc datum)) ruled) }
     ensures err { IfErr result (λ b. IsVariable loc → CutsRuleAtReading engine.old engine.new (S.told out.old) (S.told out.new) (λ page _. acts page call (effects.Compute operation loc datum)) b) }
     ensures step { IfOk result (λ ruled. IsStep ruled → ⊥) }
@@ -504,7 +500,7 @@ pub(crate) fn act<S: Sink>(
     effect: Effect,
 ) -> Result<Ruled, Broken>
     requires idle { engine.old.input.making ≡ None }
-    requires uncalled { engine.old.call ≡ None }
+    requires uncalled { engine.old.input.call ≡ NotCalling }
     ensures rule { IfOk result (λ ruled. (sizes : Sizes) (f : FilesTold) (book : Book) (r : Reading) (rs : List Reading) → Stands sizes engine.old (with_work (r ∷ rs) book) → asked engine.old ≡ Some (Acts call effect) →
         DoesRuleIn sizes (state_of engine.old (with_work (r ∷ rs) book)) engine.new (world_of f (S.told out.old) engine.old) (world_of f (S.told out.new) engine.new) (acts_above rs (page_of engine.old book) call effect) ruled) }
     ensures err { IfErr result (λ b. (sizes : Sizes) (f : FilesTold) (book : Book) (r : Reading) (rs : List Reading) → Stands sizes engine.old (with_work (r ∷ rs) book) → asked engine.old ≡ Some (Acts call effect) →

@@ -17,6 +17,7 @@ ghost use Rattle.engine_state.specs.Stands.{Stands, state_of, page_of};
 ghost use Rattle.engine_state.specs.Rules.{Went};
 ghost use Rattle.engine_state.specs.Steps.{asked, weight, IsFree, IsStep};
 ghost use Rattle.stomach.specs.Halting.{DoesRuleAtReading, CutsRuleAtReading};
+ghost use Rattle.input_state.specs.Callings.{NotCalling};
 
 use crate::effects::{give_meaning, is_global, set_number};
 use engine_state::{Broken, Engine, Ruled};
@@ -41,7 +42,7 @@ const TRUE_SIZE: u16 = 1000;
 /// # Errors
 /// There is no room for one more reading, or for its list: nothing has changed.
 pub(crate) fn begin_inner(engine: &mut Engine, kind: Kind, begins: bool) -> Result<(), Broken>
-    requires uncalled { engine.old.call ≡ None }
+    requires uncalled { engine.old.input.call ≡ NotCalling }
     ensures rule { OnOk result ((sizes : Sizes) (w : World) (book : Book) (r : Reading) (rs : List Reading) → Stands sizes engine.old (with_work (r ∷ rs) book) → asked engine.old ≡ Some (Inner kind begins) →
         Went sizes (state_of engine.old (with_work (r ∷ rs) book)) engine.new w w (inner_begun (Reads kind) begins) 0) }
     ensures err { IfErr result (λ b. CutsAtReading engine.old engine.new (λ _ _. inner_begun (Reads kind) begins) b) }
@@ -69,7 +70,7 @@ pub(crate) fn begin_inner(engine: &mut Engine, kind: Kind, begins: bool) -> Resu
 /// There is no room for the token: what had room is there.
 pub(crate) fn done(engine: &mut Engine, value: Value, back: bool) -> Result<(), Broken>
     requires idle { engine.old.input.making ≡ None }
-    requires uncalled { engine.old.call ≡ None }
+    requires uncalled { engine.old.input.call ≡ NotCalling }
     ensures rule { OnOk result ((sizes : Sizes) (w : World) (book : Book) (r : Reading) (rs : List Reading) → Stands sizes engine.old (with_work (r ∷ rs) book) → asked engine.old ≡ Some (Done value back) →
         Went sizes (state_of engine.old (with_work (r ∷ rs) book)) engine.new w w (plan_done (page_of engine.old book) r value back) 0) }
     ensures err { IfErr result (λ b. CutsAtReading engine.old engine.new (λ page r. plan_done page r value back) b) }
@@ -94,7 +95,7 @@ pub(crate) fn tell<S: Sink>(
     back: bool,
 ) -> Result<Ruled, Broken>
     requires idle { engine.old.input.making ≡ None }
-    requires uncalled { engine.old.call ≡ None }
+    requires uncalled { engine.old.input.call ≡ NotCalling }
     ensures rule { IfOk result (λ ruled. DoesRuleAtReading engine.old engine.new (S.told out.old) (S.told out.new) (λ page r. told page report inserted back r) ruled) }
     ensures err { IfErr result (λ b. CutsRuleAtReading engine.old engine.new (S.told out.old) (S.told out.new) (λ page r. told page report inserted back r) b) }
     ensures step { IfOk result (λ ruled. IsStep ruled → ⊥) }
@@ -116,7 +117,7 @@ pub(crate) fn tell<S: Sink>(
 /// There is no room for the token, or for what the note brings: the engine stands for the moment before.
 pub(crate) fn put(engine: &mut Engine, token: Token) -> Result<(), Broken>
     requires idle { engine.old.input.making ≡ None }
-    requires uncalled { engine.old.call ≡ None }
+    requires uncalled { engine.old.input.call ≡ NotCalling }
     ensures rule { OnOk result (GoesAtReading engine.old engine.new (λ _ r. put_one token ++ noting r)) }
     ensures err { IfErr result (λ b. CutsAtReading engine.old engine.new (λ _ r. put_one token ++ noting r) b) }
     ensures light { OnOk result (IsReported (asks_in engine.old.readings.frames []) → weight engine.new < weight engine.old) }
@@ -134,7 +135,7 @@ pub(crate) fn put(engine: &mut Engine, token: Token) -> Result<(), Broken>
 /// # Errors
 /// There is no room for what the name meant, or for what the note brings: the engine stands for the moment before.
 pub(crate) fn relax(engine: &mut Engine, call: Call, name: Name) -> Result<(), Broken>
-    requires uncalled { engine.old.call ≡ None }
+    requires uncalled { engine.old.input.call ≡ NotCalling }
     ensures rule { OnOk result (GoesAtReading engine.old engine.new (λ page r. Assigned (plain_global page call) name (means.Prim relax_primitive) ∷ noting r)) }
     ensures err { IfErr result (λ b. CutsAtReading engine.old engine.new (λ page r. Assigned (plain_global page call) name (means.Prim relax_primitive) ∷ noting r) b) }
     ensures light { OnOk result (IsReported (asks_in engine.old.readings.frames []) → weight engine.new < weight engine.old) }
@@ -165,7 +166,7 @@ fn correct_magnification<S: Sink>(
     mag: u16,
 ) -> Result<Ruled, Broken>
     requires idle { engine.old.input.making ≡ None }
-    requires uncalled { engine.old.call ≡ None }
+    requires uncalled { engine.old.input.call ≡ NotCalling }
     ensures rule { IfOk result (λ ruled. DoesRuleAtReading engine.old engine.new (S.told out.old) (S.told out.new) (λ page r. reported page report (magnification_set mag (noting r))) ruled) }
     ensures err { IfErr result (λ b. CutsRuleAtReading engine.old engine.new (S.told out.old) (S.told out.new) (λ page r. reported page report (magnification_set mag (noting r))) b) }
     ensures step { IfOk result (λ ruled. IsStep ruled → ⊥) }
@@ -186,7 +187,7 @@ fn correct_magnification<S: Sink>(
 /// # Errors
 /// There is no room for what the note brings: the engine stands for the moment before.
 fn set_magnification(engine: &mut Engine, mag: u16) -> Result<(), Broken>
-    requires uncalled { engine.old.call ≡ None }
+    requires uncalled { engine.old.input.call ≡ NotCalling }
     ensures rule { OnOk result (GoesAtReading engine.old engine.new (λ _ r. MagnificationSet mag ∷ noting r)) }
     ensures err { IfErr result (λ b. CutsAtReading engine.old engine.new (λ _ r. MagnificationSet mag ∷ noting r) b) }
     ensures light { OnOk result (IsReported (asks_in engine.old.readings.frames []) → weight engine.new < weight engine.old) }
@@ -203,7 +204,7 @@ fn set_magnification(engine: &mut Engine, mag: u16) -> Result<(), Broken>
 /// # Errors
 /// There is no room for what the note brings: the engine stands for the moment before.
 fn proceed(engine: &mut Engine) -> Result<(), Broken>
-    requires uncalled { engine.old.call ≡ None }
+    requires uncalled { engine.old.input.call ≡ NotCalling }
     ensures rule { OnOk result (GoesAtReading engine.old engine.new (λ _ r. noting r)) }
     ensures err { IfErr result (λ b. CutsAtReading engine.old engine.new (λ _ r. noting r) b) }
     ensures light { OnOk result (IsReported (asks_in engine.old.readings.frames []) → weight engine.new < weight engine.old) }
@@ -221,7 +222,7 @@ fn proceed(engine: &mut Engine) -> Result<(), Broken>
 /// There is no room for what the note brings, or a write failed: the engine stands for the moment before.
 pub(crate) fn magnify<S: Sink>(engine: &mut Engine, out: &mut S) -> Result<Ruled, Broken>
     requires idle { engine.old.input.making ≡ None }
-    requires uncalled { engine.old.call ≡ None }
+    requires uncalled { engine.old.input.call ≡ NotCalling }
     ensures rule { IfOk result (λ ruled. DoesRuleAtReading engine.old engine.new (S.told out.old) (S.told out.new) (λ page r. magnification_checked page (noting r)) ruled) }
     ensures err { IfErr result (λ b. CutsRuleAtReading engine.old engine.new (S.told out.old) (S.told out.new) (λ page r. magnification_checked page (noting r)) b) }
     ensures step { IfOk result (λ ruled. IsStep ruled → ⊥) }

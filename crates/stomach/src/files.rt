@@ -15,6 +15,7 @@ ghost use Rattle.plain_machine.specs.States.{Move, Spelt};
 ghost use Rattle.world_io.specs.Contents.{FilesTold};
 ghost use Rattle.world_io.specs.declared.traits.Fault.TheVariants.{Failed, NoMemory};
 ghost use Rattle.input_state.specs.Stored.{spelt as spelt_in};
+ghost use Rattle.input_state.specs.Callings.{NotCalling, call_in};
 ghost use Rattle.engine_state.specs.Book.{Book, with_work};
 ghost use Rattle.engine_state.specs.Clauses.{HoldsLists, MakesMoves, CutsMoves};
 ghost use Rattle.engine_state.specs.CutReadings.{CutsIn};
@@ -62,7 +63,7 @@ fn spell_file(engine: &mut Engine, listed: bool) -> Result<usize, Broken>
 /// There is no room for the token, or for the name in the buffer: what comes before is there.
 fn seek(engine: &mut Engine, back: bool, listed: bool) -> Result<usize, Broken>
     requires idle { engine.old.input.making ≡ None }
-    requires uncalled { engine.old.call ≡ None }
+    requires uncalled { engine.old.input.call ≡ NotCalling }
     ensures rule { IfOk result (λ n. (sizes : Sizes) (w : World) (book : Book) (r : Reading) (rs : List Reading) → Stands sizes engine.old (with_work (r ∷ rs) book) →
         Sought sizes (state_of engine.old (with_work (r ∷ rs) book)) engine.new (with_work rs book) w (input_front (page_of engine.old book) back (file_name (character_codes (kept_list_of listed engine.old.input.builds)))) (file_name (character_codes (kept_list_of listed engine.old.input.builds))) n) }
     ensures err { IfErr result (λ b. (sizes : Sizes) (w : World) (book : Book) (r : Reading) (rs : List Reading) (more : List Move) → Stands sizes engine.old (with_work (r ∷ rs) book) →
@@ -94,7 +95,7 @@ pub(crate) fn open_file<F: Files, S: Sink>(
 ) -> Result<Ruled, Early>
     requires idle { engine.old.input.making ≡ None }
     requires running { engine.old.stopped ≡ false }
-    requires starts { all_start engine.old.call (asked engine.old) ≡ true }
+    requires starts { all_start (call_in engine.old.input.call) (asked engine.old) ≡ true }
     requires none_opened { engine.old.input.pending.next ≡ None }
     requires open { AreOpen readers.old.readers (F.told files.old) }
     ensures rule { ReadsTo readers.old.readers readers.new.readers (F.told files.old) (F.told files.new) (λ all left. RuledTo readers.old engine.old (S.told out.old) readers.new engine.new (S.told out.new) all left result) }

@@ -2,8 +2,11 @@
 ghost use Rattle.std.specs.Prelude.{◌≡◌};
 ghost use Rattle.engine_state.specs.Steps.{all_want, asked};
 ghost use Rattle.stomach.specs.Innermost.{IsInnermost, innermost_wants, innermost_opens};
+ghost use Rattle.input_state.specs.Callings.{call_in};
 
-use engine_state::{Call, Engine};
+use engine_state::Engine;
+use input_state::Call;
+use macro_call::CallAsk;
 use reading_frames::Ask;
 use rows::Effect;
 
@@ -24,9 +27,9 @@ impl Innermost {
     #[inline(always)]
     pub fn look(&mut self, engine: &Engine)
         ensures is { IsInnermost engine.now self.new }
-        ensures wants { innermost_wants self.new ≡ all_want engine.now.call (asked engine.now) }
+        ensures wants { innermost_wants self.new ≡ all_want (call_in engine.now.input.call) (asked engine.now) }
     {
-        match engine.call {
+        match engine.input.call() {
             Some(call) => *self = Innermost::Call(call),
             None => *self = Innermost::Frame(engine.readings.ask()),
         }
@@ -38,7 +41,7 @@ impl Innermost {
         ensures { result ≡ innermost_wants self.now }
     {
         match self {
-            Innermost::Call(call) => call.asks_more(),
+            Innermost::Call(call) => matches!(call.ask, CallAsk::More),
             Innermost::Frame(None) => true,
             Innermost::Frame(Some(Ask::More(_))) => true,
             Innermost::Frame(Some(_)) => false,

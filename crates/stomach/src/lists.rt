@@ -21,6 +21,7 @@ ghost use Rattle.engine_state.specs.Stands.{Stands, SameFrames, state_of, page_o
 ghost use Rattle.engine_state.specs.Rules.{Went};
 ghost use Rattle.engine_state.specs.Steps.{asked, weight};
 ghost use Rattle.rows.specs.Suiting.{IsThere, TakesList};
+ghost use Rattle.input_state.specs.Callings.{NotCalling};
 
 use crate::define::has_token;
 use crate::effects::is_global;
@@ -69,7 +70,7 @@ pub(crate) fn share_list(
 /// There is no room for the list, or for one of its tokens, where those in front of it have entered: the engine stands for the moment before.
 pub(crate) fn give_list(engine: &mut Engine, loc: Loc) -> Result<(), Broken>
     requires idle { engine.old.input.making ≡ None }
-    requires uncalled { engine.old.call ≡ None }
+    requires uncalled { engine.old.input.call ≡ NotCalling }
     ensures rule { OnOk result (IsThere loc → (sizes : Sizes) (w : World) (book : Book) (call : Call) (r : Reading) (rs : List Reading) → Stands sizes engine.old (with_work (r ∷ rs) book) →
         Went sizes (state_of engine.old (with_work (r ∷ rs) book)) engine.new w w (acts_above rs (page_of engine.old book) call (effects.PutList loc)) 0) }
     ensures err { IfErr result (λ b. (sizes : Sizes) (w : World) (book : Book) (call : Call) (r : Reading) (rs : List Reading) → Stands sizes engine.old (with_work (r ∷ rs) book) →
@@ -99,8 +100,8 @@ fn assign_list(engine: &mut Engine, call: Call, loc: Loc) -> Result<(), Full>
     ensures rule { OnOk result (TakesList loc → (sizes : Sizes) (w : World) (book : Book) (r : Reading) (rs : List Reading) → Stands sizes engine.old (with_work (r ∷ rs) book) → innermost_count engine.old.readings.frames ≡ 1 →
         Went sizes (state_of engine.old (with_work (r ∷ rs) book)) engine.new w w (ListSet (plain_global (page_of engine.old book) call) loc (top_list engine.old.input.builds) ∷ []) 0) }
     ensures err { IfErr result (λ full. CutsAtReading engine.old engine.new (λ page _. ListSet (plain_global page call) loc (top_list engine.old.input.builds) ∷ []) (broken.Full full)) }
-    ensures light { OnOk result (engine.old.call ≡ None → (a : Ask) → asks_in engine.old.readings.frames [] ≡ Some a → IsEnd a → weight engine.new < weight engine.old) }
-    ensures call { engine.new.call ≡ engine.old.call }
+    ensures light { OnOk result (engine.old.input.call ≡ NotCalling → (a : Ask) → asks_in engine.old.readings.frames [] ≡ Some a → IsEnd a → weight engine.new < weight engine.old) }
+    ensures call { engine.new.input.call ≡ engine.old.input.call }
     ensures after { engine.new.after ≡ engine.old.after }
     ensures column { engine.new.in_line ≡ engine.old.in_line }
     ensures idle { engine.new.input.making ≡ engine.old.input.making }
@@ -122,8 +123,8 @@ fn assign_list(engine: &mut Engine, call: Call, loc: Loc) -> Result<(), Full>
 fn pass_nothing(engine: &mut Engine, call: Call, loc: Loc) -> Result<(), Full>
     ensures rule { OnOk result (TakesList loc → GoesAtReading engine.old engine.new (λ page _. Closed ∷ Set (plain_global page call) loc (val.Tokens None) ∷ [])) }
     ensures err { IfErr result (λ full. CutsAtReading engine.old engine.new (λ page _. Closed ∷ Set (plain_global page call) loc (val.Tokens None) ∷ []) (broken.Full full)) }
-    ensures light { OnOk result (engine.old.call ≡ None → (a : Ask) → asks_in engine.old.readings.frames [] ≡ Some a → IsEnd a → weight engine.new < weight engine.old) }
-    ensures call { engine.new.call ≡ engine.old.call }
+    ensures light { OnOk result (engine.old.input.call ≡ NotCalling → (a : Ask) → asks_in engine.old.readings.frames [] ≡ Some a → IsEnd a → weight engine.new < weight engine.old) }
+    ensures call { engine.new.input.call ≡ engine.old.input.call }
     ensures after { engine.new.after ≡ engine.old.after }
     ensures column { engine.new.in_line ≡ engine.old.in_line }
     ensures idle { engine.new.input.making ≡ engine.old.input.making }
@@ -152,7 +153,7 @@ pub(crate) fn set_list(
         Went sizes (state_of engine.old (with_work (r ∷ rs) book)) engine.new w w (list_set (page_of engine.old book) call loc (kept_list_of listed engine.old.input.builds)) 0) }
     ensures err { IfErr result (λ b. TakesList loc → (sizes : Sizes) (w : World) (book : Book) (r : Reading) (rs : List Reading) → Stands sizes engine.old (with_work (r ∷ rs) book) → asked engine.old ≡ Some (ActsOn call (effects.SetList loc) (kept_list_of listed engine.old.input.builds)) →
         CutsIn sizes (state_of engine.old (with_work (r ∷ rs) book)) engine.new w w (list_set (page_of engine.old book) call loc (kept_list_of listed engine.old.input.builds)) b) }
-    ensures light { OnOk result (engine.old.call ≡ None → (a : Ask) → asks_in engine.old.readings.frames [] ≡ Some a → IsEnd a → weight engine.new < weight engine.old) }
+    ensures light { OnOk result (engine.old.input.call ≡ NotCalling → (a : Ask) → asks_in engine.old.readings.frames [] ≡ Some a → IsEnd a → weight engine.new < weight engine.old) }
     ensures column { engine.new.in_line ≡ engine.old.in_line }
     ensures idle { OnOk result (engine.new.input.making ≡ None) }
 {

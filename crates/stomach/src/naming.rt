@@ -1,17 +1,15 @@
 // Names that are spelt. *The TeXbook*, chapter 7 (`\csname`); *TeX: The Program*, part 25.
 ghost use Rattle.std.specs.Prelude.{◌≡◌, ◌≤◌, ◌+◌, [], ◌∷◌, length, IfOk, IfErr, OnOk, OnErr, None};
-ghost use Rattle.tex_defs.specs.declared.Sizes.{Sizes};
 ghost use Rattle.plain_tokens.specs.Meanings.{name_meaning, seen_as};
 ghost use Rattle.plain_tokens.specs.Tokens.{character_codes, is_undefined as plain_undefined};
 ghost use Rattle.reading_frames.specs.Views.{kept_list_of};
 ghost use Rattle.plain_tokens.specs.Tables.{open_lines};
 ghost use Rattle.plain_machine.specs.States.{Spelt};
 ghost use Rattle.plain_machine.specs.Plan.{spelt, newly_spelt, relax_if_undefined as made_relax, name_made};
-ghost use Rattle.engine_state.specs.Book.{Book};
-ghost use Rattle.engine_state.specs.Clauses.{Still, HoldsLists, MakesMoves, CutsMoves};
+ghost use Rattle.engine_state.specs.Clauses.{Still, HoldsLists, MakesMoves, CutsMoves, WhereSound};
 ghost use Rattle.engine_state.specs.Entering.{joined, with_names, EntryFits, EntryRefused};
 ghost use Rattle.input_state.specs.Stored.{spelt as spelt_in};
-ghost use Rattle.engine_state.specs.Stands.{Stands, IsSound, SameFrames};
+ghost use Rattle.engine_state.specs.Stands.{Stands, SameFrames};
 ghost use Rattle.engine_state.specs.Steps.{pending_weight};
 ghost use Rattle.stomach.specs.Naming.{IsTooLong, OnlySpelt};
 
@@ -65,10 +63,10 @@ pub(crate) fn spell_list(engine: &mut Engine, listed: bool) -> Result<usize, Bro
 /// There is no room for a new name; nothing has changed.
 fn enter_spelt(engine: &mut Engine, n: usize) -> Result<Name, Full>
     requires { open_lines engine.old.input.pending + n ≤ engine.old.input.sizes.buffer_size }
-    ensures name { IfOk result (λ name. (sizes : Sizes) (book : Book) → IsSound sizes engine.old book.number book.all_lists → name ≡ spelt engine.old.names.names (spelt_in engine.old.input n)) }
-    ensures after { OnOk result ((sizes : Sizes) (book : Book) → IsSound sizes engine.old book.number book.all_lists → engine.new ≡ with_names (newly_spelt engine.old.names.names (spelt_in engine.old.input n)) engine.old) }
-    ensures fits { OnOk result ((sizes : Sizes) (book : Book) → IsSound sizes engine.old book.number book.all_lists → EntryFits engine.old.names (newly_spelt engine.old.names.names (spelt_in engine.old.input n))) }
-    ensures refused { IfErr result (λ full. (sizes : Sizes) (book : Book) → IsSound sizes engine.old book.number book.all_lists → EntryRefused engine.old.names (newly_spelt engine.old.names.names (spelt_in engine.old.input n)) full) }
+    ensures name { IfOk result (λ name. WhereSound engine.old (λ _. name ≡ spelt engine.old.names.names (spelt_in engine.old.input n))) }
+    ensures after { OnOk result (WhereSound engine.old (λ _. engine.new ≡ with_names (newly_spelt engine.old.names.names (spelt_in engine.old.input n)) engine.old)) }
+    ensures fits { OnOk result (WhereSound engine.old (λ _. EntryFits engine.old.names (newly_spelt engine.old.names.names (spelt_in engine.old.input n)))) }
+    ensures refused { IfErr result (λ full. WhereSound engine.old (λ _. EntryRefused engine.old.names (newly_spelt engine.old.names.names (spelt_in engine.old.input n)) full)) }
     ensures err { OnErr result (engine.new ≡ engine.old) }
     ensures only { engine.new ≡ record engine.old { names = engine.new.names; input = record engine.old.input { groups = engine.new.input.groups } } }
     ensures frames { SameFrames engine.old engine.new }

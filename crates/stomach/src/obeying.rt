@@ -14,6 +14,7 @@ ghost use Rattle.engine_state.specs.Steps.{pending_weight, IsFree, IsHalted};
 ghost use Rattle.engine_state.specs.declared.outcome.Ruled.TheVariants.{Step};
 ghost use Rattle.gullet.specs.Stepping.{Stays};
 ghost use Rattle.stomach.specs.Obeying.{Obeys, is_dropped as plain_dropped};
+ghost use Rattle.input_state.specs.Callings.{NotCalling};
 
 use engine_state::{Broken, Engine, Last, Ruled};
 use gullet::call_of;
@@ -53,7 +54,7 @@ const RIGHT_BRACE: Token = Token::Char {
 /// A group opens.
 fn open_group(engine: &mut Engine, kind: GroupKind) -> Result<Ruled, Broken>
     requires idle { engine.old.input.making ≡ None }
-    requires uncalled { engine.old.call ≡ None }
+    requires uncalled { engine.old.input.call ≡ NotCalling }
     ensures rule { IfOk result (λ ruled. (sizes : Sizes) (w : World) (book : Book) → Stands sizes engine.old book →
         DoesOnward sizes (state_of engine.old book) engine.new book w w (GroupOpened kind ∷ []) ruled) }
     ensures err { IfErr result (λ b. CutsFree engine.old engine.new (λ _. GroupOpened kind ∷ []) b) }
@@ -70,7 +71,7 @@ fn open_group(engine: &mut Engine, kind: GroupKind) -> Result<Ruled, Broken>
 /// A right brace in the stomach. *TeX: The Program*, part 47 (`handle_right_brace`, `extra_right_brace`).
 fn meet_brace<S: Sink>(engine: &mut Engine, out: &mut S) -> Result<Ruled, Broken>
     requires idle { engine.old.input.making ≡ None }
-    requires uncalled { engine.old.call ≡ None }
+    requires uncalled { engine.old.input.call ≡ NotCalling }
     ensures rule { IfOk result (λ ruled. GoesOnward engine.old engine.new (S.told out.old) (S.told out.new) (λ page. brace_met page page.group) ruled) }
     ensures err { IfErr result (λ b. CutsOnward engine.old engine.new (S.told out.old) (S.told out.new) (λ page. brace_met page page.group) b) }
     ensures on { IfOk result (λ ruled. IsFree ruled → ⊥) }
@@ -92,7 +93,7 @@ fn meet_brace<S: Sink>(engine: &mut Engine, out: &mut S) -> Result<Ruled, Broken
 /// (`off_save`).
 fn meet_endgroup<S: Sink>(engine: &mut Engine, out: &mut S, token: Token) -> Result<Ruled, Broken>
     requires idle { engine.old.input.making ≡ None }
-    requires uncalled { engine.old.call ≡ None }
+    requires uncalled { engine.old.input.call ≡ NotCalling }
     ensures rule { IfOk result (λ ruled. GoesOnward engine.old engine.new (S.told out.old) (S.told out.new) (λ page. endgroup_met page token page.group) ruled) }
     ensures err { IfErr result (λ b. CutsOnward engine.old engine.new (S.told out.old) (S.told out.new) (λ page. endgroup_met page token page.group) b) }
     ensures on { IfOk result (λ ruled. IsFree ruled → ⊥) }
@@ -117,7 +118,7 @@ fn meet_endgroup<S: Sink>(engine: &mut Engine, out: &mut S, token: Token) -> Res
 /// A command is read by its row.
 fn begin_row(engine: &mut Engine, token: Token, head: Head) -> Result<Ruled, Broken>
     requires idle { engine.old.input.making ≡ None }
-    requires uncalled { engine.old.call ≡ None }
+    requires uncalled { engine.old.input.call ≡ NotCalling }
     ensures rule { IfOk result (λ ruled. (sizes : Sizes) (w : World) (book : Book) → Stands sizes engine.old book →
         DoesOnward sizes (state_of engine.old book) engine.new book w w (begun token head) ruled) }
     ensures err { IfErr result (λ b. CutsFree engine.old engine.new (λ _. begun token head) b) }
@@ -125,7 +126,7 @@ fn begin_row(engine: &mut Engine, token: Token, head: Head) -> Result<Ruled, Bro
     ensures column { engine.new.in_line ≡ engine.old.in_line }
     ensures frames { OnOk result (Obeys engine.old engine.new) }
     ensures light { OnOk result (pending_weight engine.new.input.pending ≡ pending_weight engine.old.input.pending) }
-    ensures call { OnOk result (engine.new.call ≡ engine.old.call) }
+    ensures call { OnOk result (engine.new.input.call ≡ engine.old.input.call) }
     ensures idle { OnOk result (engine.new.input.making ≡ None) }
 {
     engine.begin(Opening::Reads(Kind::Command(call_of(token, head))))?;
@@ -140,14 +141,14 @@ fn obey_primitive<S: Sink>(
     number: u16,
 ) -> Result<Ruled, Broken>
     requires idle { engine.old.input.making ≡ None }
-    requires uncalled { engine.old.call ≡ None }
+    requires uncalled { engine.old.input.call ≡ NotCalling }
     ensures rule { IfOk result (λ ruled. GoesOnward engine.old engine.new (S.told out.old) (S.told out.new) (λ page. primitive page token number) ruled) }
     ensures err { IfErr result (λ b. CutsOnward engine.old engine.new (S.told out.old) (S.told out.new) (λ page. primitive page token number) b) }
     ensures halts { IfOk result (λ ruled. IsHalted ruled → SameFrames engine.old engine.new) }
     ensures on { IfOk result (λ ruled. IsFree ruled → ⊥) }
     ensures frames { OnOk result (Obeys engine.old engine.new) }
     ensures light { OnOk result (pending_weight engine.new.input.pending ≡ pending_weight engine.old.input.pending) }
-    ensures call { OnOk result (engine.new.call ≡ engine.old.call) }
+    ensures call { OnOk result (engine.new.input.call ≡ engine.old.input.call) }
     ensures idle { OnOk result (engine.new.input.making ≡ None) }
 {
     let head = Head::Primitive(number);
@@ -176,13 +177,13 @@ fn obey_register<S: Sink>(
     no: u8,
 ) -> Result<Ruled, Broken>
     requires idle { engine.old.input.making ≡ None }
-    requires uncalled { engine.old.call ≡ None }
+    requires uncalled { engine.old.input.call ≡ NotCalling }
     ensures rule { IfOk result (λ ruled. GoesOnward engine.old engine.new (S.told out.old) (S.told out.new) (λ page. register page token kind no) ruled) }
     ensures err { IfErr result (λ b. CutsOnward engine.old engine.new (S.told out.old) (S.told out.new) (λ page. register page token kind no) b) }
     ensures step { IfOk result (λ ruled. ruled ≡ Step) }
     ensures frames { OnOk result (Obeys engine.old engine.new) }
     ensures light { OnOk result (pending_weight engine.new.input.pending ≡ pending_weight engine.old.input.pending) }
-    ensures call { OnOk result (engine.new.call ≡ engine.old.call) }
+    ensures call { OnOk result (engine.new.input.call ≡ engine.old.input.call) }
     ensures idle { OnOk result (engine.new.input.making ≡ None) }
 {
     let head = Head::Register(kind, no);
@@ -201,7 +202,7 @@ fn obey_character<S: Sink>(
     code: u8,
 ) -> Result<Ruled, Broken>
     requires idle { engine.old.input.making ≡ None }
-    requires uncalled { engine.old.call ≡ None }
+    requires uncalled { engine.old.input.call ≡ NotCalling }
     ensures rule { IfOk result (λ ruled. GoesOnward engine.old engine.new (S.told out.old) (S.told out.new) (λ page. character page cat code) ruled) }
     ensures err { IfErr result (λ b. CutsOnward engine.old engine.new (S.told out.old) (S.told out.new) (λ page. character page cat code) b) }
     ensures on { IfOk result (λ ruled. IsFree ruled → ⊥) }
@@ -225,14 +226,14 @@ fn obey_character<S: Sink>(
 /// There is no room for what comes, or a write failed: the engine stands for the moment before.
 pub(crate) fn obey<S: Sink>(engine: &mut Engine, out: &mut S, x: Seen) -> Result<Ruled, Broken>
     requires idle { engine.old.input.making ≡ None }
-    requires uncalled { engine.old.call ≡ None }
+    requires uncalled { engine.old.input.call ≡ NotCalling }
     ensures rule { IfOk result (λ ruled. GoesOnward engine.old engine.new (S.told out.old) (S.told out.new) (λ page. command page x.token x.meaning) ruled) }
     ensures err { IfErr result (λ b. CutsOnward engine.old engine.new (S.told out.old) (S.told out.new) (λ page. command page x.token x.meaning) b) }
     ensures halts { IfOk result (λ ruled. IsHalted ruled → SameFrames engine.old engine.new) }
     ensures on { IfOk result (λ ruled. IsFree ruled → ⊥) }
     ensures frames { OnOk result (Obeys engine.old engine.new) }
     ensures light { OnOk result (pending_weight engine.new.input.pending ≡ pending_weight engine.old.input.pending) }
-    ensures call { OnOk result (engine.new.call ≡ engine.old.call) }
+    ensures call { OnOk result (engine.new.input.call ≡ engine.old.input.call) }
     ensures idle { OnOk result (engine.new.input.making ≡ None) }
 {
     match x.meaning {
@@ -271,7 +272,7 @@ pub(crate) fn hand_on<S: Sink>(
     x: Seen,
 ) -> Result<Ruled, Broken>
     requires idle { engine.old.input.making ≡ None }
-    requires uncalled { engine.old.call ≡ None }
+    requires uncalled { engine.old.input.call ≡ NotCalling }
     ensures rule { IfOk result (λ ruled. (sizes : Sizes) (f : FilesTold) (book : Book) → Stays want x → Takes sizes want engine.old book →
         DoesOnward sizes (state_of engine.old book) engine.new book (world_of f (S.told out.old) engine.old) (world_of f (S.told out.new) engine.new) (onward_of (page_of engine.old book) want book.work x) ruled) }
     ensures err { IfErr result (λ b. (sizes : Sizes) (f : FilesTold) (book : Book) → Stays want x → Takes sizes want engine.old book →

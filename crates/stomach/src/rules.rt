@@ -11,10 +11,12 @@ ghost use Rattle.plain_machine.specs.Plan.{acts_on, reported_as};
 ghost use Rattle.plain_machine.specs.States.{Closed};
 ghost use Rattle.world_io.specs.Contents.{FilesTold};
 ghost use Rattle.input_state.specs.Reads.{gives_step};
+ghost use Rattle.input_state.specs.Callings.{NotCalling, call_in};
 ghost use Rattle.engine_state.specs.Book.{Book, with_work};
+ghost use Rattle.engine_state.specs.Clauses.{CutsWhere, DoesWhere, Taking};
 ghost use Rattle.engine_state.specs.CutReadings.{CutsIn};
 ghost use Rattle.engine_state.specs.Stands.{Stands, SameReadings, state_of, page_of};
-ghost use Rattle.engine_state.specs.Rules.{world_of, plan_of, next_moves, Takes, DoesRule};
+ghost use Rattle.engine_state.specs.Rules.{world_of, plan_of, next_moves, DoesRule};
 ghost use Rattle.engine_state.specs.Steps.{all_start, asked, stepping, stops_run, IsStep, IsFree, IsHalted, StepsIf, weight};
 ghost use Rattle.stomach.specs.Innermost.{IsAsked, IsInnermost};
 ghost use Rattle.stomach.specs.Halting.{DoesRuleIn, DoesPlanIn, CutsPlanIn, DoesRuleAtReading, CutsRuleAtReading};
@@ -41,14 +43,12 @@ fn token_rule<S: Sink>(
     want: Option<Want>,
 ) -> Result<Ruled, Broken>
     requires idle { engine.old.input.making ≡ None }
-    requires uncalled { engine.old.call ≡ None }
+    requires uncalled { engine.old.input.call ≡ NotCalling }
     requires running { engine.old.stopped ≡ false }
     ensures light { IfOk result (λ ruled. IsFree ruled → weight engine.new < weight engine.old) }
     ensures step { IfOk result (λ ruled. StepsIf ruled (gives_step (pulled engine.old.input.groups.now.categories engine.old.input.pending))) }
-    ensures rule { IfOk result (λ ruled. (sizes : Sizes) (f : FilesTold) (book : Book) → Takes sizes want engine.old book →
-        DoesRule sizes (state_of engine.old book) engine.new book (world_of f (S.told out.old) engine.old) (world_of f (S.told out.new) engine.new) (next_moves want engine.old book) ruled) }
-    ensures err { IfErr result (λ b. (sizes : Sizes) (f : FilesTold) (book : Book) → Takes sizes want engine.old book →
-        CutsIn sizes (state_of engine.old book) engine.new (world_of f (S.told out.old) engine.old) (world_of f (S.told out.new) engine.new) (next_moves want engine.old book) b) }
+    ensures rule { IfOk result (DoesWhere (Taking want) DoesRule engine.old engine.new (S.told out.old) (S.told out.new) (next_moves want engine.old)) }
+    ensures err { IfErr result (CutsWhere (Taking want) engine.old engine.new (S.told out.old) (S.told out.new) (next_moves want engine.old)) }
     ensures halts { IfOk result (λ ruled. IsHalted ruled → SameReadings engine.old engine.new) }
     ensures idle { OnOk result (engine.new.input.making ≡ None) }
 {
@@ -66,7 +66,7 @@ fn token_rule<S: Sink>(
 /// A write failed: the engine stands for the moment before.
 fn report_list<S: Sink>(engine: &mut Engine, out: &mut S, listed: bool) -> Result<Ruled, Broken>
     requires idle { engine.old.input.making ≡ None }
-    requires uncalled { engine.old.call ≡ None }
+    requires uncalled { engine.old.input.call ≡ NotCalling }
     ensures rule { IfOk result (λ ruled. DoesRuleAtReading engine.old engine.new (S.told out.old) (S.told out.new) (λ page _. reported_as page (kept_list_of listed engine.old.input.builds) (Closed ∷ [])) ruled) }
     ensures err { IfErr result (λ b. CutsRuleAtReading engine.old engine.new (S.told out.old) (S.told out.new) (λ page _. reported_as page (kept_list_of listed engine.old.input.builds) (Closed ∷ [])) b) }
     ensures step { IfOk result (λ ruled. IsStep ruled → ⊥) }
@@ -92,7 +92,7 @@ fn act_on<S: Sink>(
     listed: bool,
 ) -> Result<Ruled, Broken>
     requires idle { engine.old.input.making ≡ None }
-    requires uncalled { engine.old.call ≡ None }
+    requires uncalled { engine.old.input.call ≡ NotCalling }
     ensures rule { IfOk result (λ ruled. (sizes : Sizes) (f : FilesTold) (book : Book) (r : Reading) (rs : List Reading) → Stands sizes engine.old (with_work (r ∷ rs) book) → asked engine.old ≡ Some (ActsOn call effect (kept_list_of listed engine.old.input.builds)) →
         DoesRuleIn sizes (state_of engine.old (with_work (r ∷ rs) book)) engine.new (world_of f (S.told out.old) engine.old) (world_of f (S.told out.new) engine.new) (acts_on (page_of engine.old book) call effect (kept_list_of listed engine.old.input.builds)) ruled) }
     ensures err { IfErr result (λ b. (sizes : Sizes) (f : FilesTold) (book : Book) (r : Reading) (rs : List Reading) → Stands sizes engine.old (with_work (r ∷ rs) book) → asked engine.old ≡ Some (ActsOn call effect (kept_list_of listed engine.old.input.builds)) →
@@ -119,18 +119,16 @@ fn act_on<S: Sink>(
 /// Does the rule of what the innermost frame asks for, where no call gathers its arguments.
 fn ask_rule<S: Sink>(engine: &mut Engine, out: &mut S, ask: Ask) -> Result<Ruled, Broken>
     requires idle { engine.old.input.making ≡ None }
-    requires no_start { all_start engine.old.call (asked engine.old) ≡ false }
-    requires uncalled { engine.old.call ≡ None }
+    requires no_start { all_start (call_in engine.old.input.call) (asked engine.old) ≡ false }
+    requires uncalled { engine.old.input.call ≡ NotCalling }
     requires running { engine.old.stopped ≡ false }
     requires asks { (held : Lists) → asked_of held (Some ask) ≡ asks_in engine.old.readings.frames held }
     requires stands { (held : Lists) (work : List Reading) → frames.FramesStand engine.old.readings.frames held work → asked_of held (Some ask) ≡ asked_in work }
     requires found { IsFetchedAt ask }
     ensures light { IfOk result (λ ruled. IsFree ruled → weight engine.new < weight engine.old) }
     ensures step { IfOk result (λ ruled. StepsIf ruled (stepping engine.old)) }
-    ensures rule { IfOk result (λ ruled. (sizes : Sizes) (f : FilesTold) (book : Book) → Stands sizes engine.old book →
-        DoesRuleIn sizes (state_of engine.old book) engine.new (world_of f (S.told out.old) engine.old) (world_of f (S.told out.new) engine.new) (plan_of engine.old book) ruled) }
-    ensures err { IfErr result (λ b. (sizes : Sizes) (f : FilesTold) (book : Book) → Stands sizes engine.old book →
-        CutsIn sizes (state_of engine.old book) engine.new (world_of f (S.told out.old) engine.old) (world_of f (S.told out.new) engine.new) (plan_of engine.old book) b) }
+    ensures rule { IfOk result (DoesWhere Stands (λ sizes s e book. DoesRuleIn sizes s e) engine.old engine.new (S.told out.old) (S.told out.new) (plan_of engine.old)) }
+    ensures err { IfErr result (CutsWhere Stands engine.old engine.new (S.told out.old) (S.told out.new) (plan_of engine.old)) }
     ensures idle { OnOk result (engine.new.input.making ≡ None) }
 {
     match ask {
@@ -175,15 +173,13 @@ fn ask_rule<S: Sink>(engine: &mut Engine, out: &mut S, ask: Ask) -> Result<Ruled
 fn frame_rule<S: Sink>(engine: &mut Engine, out: &mut S, ask: &Option<Ask>) -> Result<Ruled, Broken>
     requires asked { IsAsked engine.old ask.now }
     requires idle { engine.old.input.making ≡ None }
-    requires no_start { all_start engine.old.call (asked engine.old) ≡ false }
-    requires uncalled { engine.old.call ≡ None }
+    requires no_start { all_start (call_in engine.old.input.call) (asked engine.old) ≡ false }
+    requires uncalled { engine.old.input.call ≡ NotCalling }
     requires running { engine.old.stopped ≡ false }
     ensures light { IfOk result (λ ruled. IsFree ruled → weight engine.new < weight engine.old) }
     ensures step { IfOk result (λ ruled. StepsIf ruled (stepping engine.old)) }
-    ensures rule { IfOk result (λ ruled. (sizes : Sizes) (f : FilesTold) (book : Book) → Stands sizes engine.old book →
-        DoesRuleIn sizes (state_of engine.old book) engine.new (world_of f (S.told out.old) engine.old) (world_of f (S.told out.new) engine.new) (plan_of engine.old book) ruled) }
-    ensures err { IfErr result (λ b. (sizes : Sizes) (f : FilesTold) (book : Book) → Stands sizes engine.old book →
-        CutsIn sizes (state_of engine.old book) engine.new (world_of f (S.told out.old) engine.old) (world_of f (S.told out.new) engine.new) (plan_of engine.old book) b) }
+    ensures rule { IfOk result (DoesWhere Stands (λ sizes s e book. DoesRuleIn sizes s e) engine.old engine.new (S.told out.old) (S.told out.new) (plan_of engine.old)) }
+    ensures err { IfErr result (CutsWhere Stands engine.old engine.new (S.told out.old) (S.told out.new) (plan_of engine.old)) }
     ensures idle { OnOk result (engine.new.input.making ≡ None) }
 {
     match ask {
@@ -206,7 +202,7 @@ pub(crate) fn rule<S: Sink>(
 ) -> Result<Ruled, Broken>
     requires innermost { IsInnermost engine.old innermost.now }
     requires idle { engine.old.input.making ≡ None }
-    requires no_start { all_start engine.old.call (asked engine.old) ≡ false }
+    requires no_start { all_start (call_in engine.old.input.call) (asked engine.old) ≡ false }
     requires running { engine.old.stopped ≡ false }
     ensures light { IfOk result (λ ruled. IsFree ruled → weight engine.new < weight engine.old) }
     ensures step { IfOk result (λ ruled. StepsIf ruled (stepping engine.old)) }

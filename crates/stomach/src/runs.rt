@@ -9,6 +9,7 @@ ghost use Rattle.stomach.specs.Ahead.{Knows, needs_step as plain_needs_step};
 ghost use Rattle.stomach.specs.Innermost.{IsInnermost};
 ghost use Rattle.stomach.specs.Read.{ReadsTo, AreTied};
 ghost use Rattle.stomach.specs.Ran.{RuledTo, FreeTo, RanTo, StoppedTo};
+ghost use Rattle.input_state.specs.Callings.{call_in};
 
 use crate::ahead::{has_token, read_ahead};
 use crate::early::Early;
@@ -30,7 +31,7 @@ pub enum Ended {
 /// Whether the next rule needs a step; `wants`: whether it wants a token.
 #[inline(always)]
 fn needs_step(engine: &Engine, wants: bool) -> bool
-    requires { wants ≡ all_want engine.now.call (asked engine.now) }
+    requires { wants ≡ all_want (call_in engine.now.input.call) (asked engine.now) }
     ensures { result ≡ plain_needs_step engine.now }
 {
     engine.input.has_next() || wants && engine.input.is_ready()

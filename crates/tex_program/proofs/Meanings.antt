@@ -261,8 +261,8 @@ opened_stands sizes e st =
         bodies = sound.bodies;
       };
       idle = st.idle;
-      readings = frames_kept e (opened_engine e) first_book.work (record { readings = refl; lists = refl; call = refl; calling = refl }) st.readings;
-      uncalled = record { none = st.uncalled.none; input = st.uncalled.input };
+      readings = frames_kept e (opened_engine e) first_book.work (record { readings = refl; lists = refl; call = refl }) st.readings;
+      uncalled = st.uncalled;
     }
 
 -- there is room for it

@@ -17,7 +17,7 @@ returns-in_err-some-clause-err c = let l = c.loop-token in let i = c.in_err-some
 
 pub loop-token-preserved : goal.loop-token-preserved
 loop-token-preserved c = let l = c.loop-token in let i = c.in_ok-some in let s = c.in-Some in let style = names_style c.args.names in
-    let stays : to_come c.grow_piece.new.input s.next ≡ to_come l.input s.next = c.walks_stay.ensures l.input c.grow_piece.new.input i.ensures.ok.all_lists (ap (λ (x : Stored). x.groups.now.meanings) i.ensures.ok.is) s.next in
+    let stays : to_come c.grow_piece.new.input s.next ≡ to_come l.input s.next = c.walks_stay.ensures l.input c.grow_piece.new.input i.ensures.ok.keeps (ap (λ (x : Stored). x.groups.now.meanings) i.ensures.ok.is) s.next in
     let flag : c.if-branch.some ≡ (i.some || l.some) = elim c.if-branch.branch [
       | then-branch w ↦ or_then i.some l.some c.if-branch.some w.if-branch.true w.some-is
       | else-branch w ↦ or_else i.some l.some c.if-branch.some w.if-branch.false w.some-is

@@ -20,6 +20,7 @@ use Rattle.engine_state.proofs.Joining.{on_ok, same_err, skip_onward, went_by}
 use Rattle.engine_state.proofs.Standing.{same_engine}
 use Rattle.gullet.proofs.CallBeginning.{at_once_has, gathers_has, none_stays, gathers_stays, called_none, called_went, called_cuts, begun_went, begun_cuts, on_both, if_both}
 use Rattle.gullet.proofs.CallWeighing.{on_err, on_err_to}
+use Rattle.gullet.proofs.CallsIn.{first_asks}
 use Rattle.gullet.proofs.ExpandingWeighs.{put_light, called_light}
 use Rattle.gullet.proofs.call_name.call_name.Goals as goal
 
@@ -36,7 +37,7 @@ returns-in-None-clause-idle c = ap (λ (i : Stored). i.making) (c.in_ok-call_at_
 
 pub returns-in-None-clause-light : goal.returns-in-None-clause-light
 returns-in-None-clause-light c =
-    λ none light. put_light c.args.engine.now none light c.call_at_once.new.self (ap (λ (i : Stored). pending_weight i.pending) (c.in_ok-call_at_once.ensures.others (none_stays c.in_ok-call_at_once.field-0 c.in-None.is)))
+    λ none light. put_light c.args.engine.now none light c.call_at_once.new.self (ap (λ (i : Stored). i.call) (c.in_ok-call_at_once.ensures.others (none_stays c.in_ok-call_at_once.field-0 c.in-None.is))) (ap (λ (i : Stored). pending_weight i.pending) (c.in_ok-call_at_once.ensures.others (none_stays c.in_ok-call_at_once.field-0 c.in-None.is)))
 
 -- WHERE THE BODY IS PUT
 
@@ -49,7 +50,7 @@ returns-in-AtOnce-clause-idle c = ap (λ (i : Stored). i.making) (c.in_ok-call_a
 
 pub returns-in-AtOnce-clause-light : goal.returns-in-AtOnce-clause-light
 returns-in-AtOnce-clause-light c =
-    λ none light. put_light c.args.engine.now none light c.call_at_once.new.self (ap (λ (i : Stored). pending_weight i.pending) (c.in_ok-call_at_once.ensures.ok c.in-AtOnce.is))
+    λ none light. put_light c.args.engine.now none light c.call_at_once.new.self (ap (λ (i : Stored). i.call) (c.in_ok-call_at_once.ensures.ok c.in-AtOnce.is)) (ap (λ (i : Stored). pending_weight i.pending) (c.in_ok-call_at_once.ensures.ok c.in-AtOnce.is))
 
 pub returns-in_err-call_at_once-clause-err : goal.returns-in_err-call_at_once-clause-err
 returns-in_err-call_at_once-clause-err c = let e = c.args.engine.now in let i = c.in_err-call_at_once in let n = i.ensures in let name = c.name_of-name.result in
@@ -58,7 +59,7 @@ returns-in_err-call_at_once-clause-err c = let e = c.args.engine.now in let i = 
 
 pub returns-in_err-call_at_once-clause-frames : goal.returns-in_err-call_at_once-clause-frames
 returns-in_err-call_at_once-clause-frames c = let err = c.in_err-call_at_once.ensures.err in
-    on_err c.from_residual.result (record { readings = refl; lists = ap (λ (i : Stored). i.builds) err; call = refl; calling = ap (λ (i : Stored). i.call) err })
+    on_err c.from_residual.result (record { readings = refl; lists = ap (λ (i : Stored). i.builds) err; call = ap (λ (i : Stored). i.call) err })
 
 pub returns-in_err-call_at_once-clause-idle : goal.returns-in_err-call_at_once-clause-idle
 returns-in_err-call_at_once-clause-idle c = ap (λ (i : Stored). i.making) c.in_err-call_at_once.ensures.err
@@ -105,4 +106,4 @@ returns-in-Gathers-clause-idle c = c.begin_call.ensures.idle ∙ ap (λ (i : Sto
 pub returns-in-Gathers-clause-light : goal.returns-in-Gathers-clause-light
 returns-in-Gathers-clause-light c =
     let e = c.args.engine.now in let n = c.begin_call in let same_input = c.in_ok-call_at_once.ensures.others (gathers_stays c.in_ok-call_at_once.field-0 c.in-Gathers.is) in
-    on_ok n.result (λ ok none light. called_light e none light n.new.engine c.name_of-name.result _ ok (ap (λ (i : Stored). pending_weight i.pending) same_input)) n.ensures.ok
+    on_ok n.result (λ ok none light. called_light e none light n.new.engine c.name_of-name.result _ ok (first_asks c.name_of-name.result _ _) (ap (λ (i : Stored). pending_weight i.pending) same_input)) n.ensures.ok

@@ -80,7 +80,7 @@ pub returns-in-None-clause-light : goal.returns-in-None-clause-light
 returns-in-None-clause-light c = let e = c.args.engine.now in let e1 = c.begin.new.self in let e2 = c.begin_conditional.new.self in let b = c.in_ok-begin.ensures in
     λ none light.
     subst (λ (x : Engine). weight x ≤ frames_weight e.readings.frames + act_weight + pending_weight e.input.pending) (sym c.in_ok-begin_conditional.ensures.only)
-    (begun_light e none light (record e1 { conditionals = e2.conditionals }) (OpensRow (Command c.args.call)) 11 b.same.others.call b.frames b.weight (omega arith) b.same.pending)
+    (begun_light e none light (record e1 { conditionals = e2.conditionals }) (OpensRow (Command c.args.call)) 11 b.same.call b.frames b.weight (omega arith) b.same.pending)
 
 pub returns-in-Some-clause-light : goal.returns-in-Some-clause-light
 returns-in-Some-clause-light c = let e = c.args.engine.now in let e3 = c.close_reading.new.self in let b = c.in_ok-begin.ensures in let n = c.in_ok-begin_conditional.ensures in let l = c.close_reading.ensures in
@@ -89,5 +89,5 @@ returns-in-Some-clause-light c = let e = c.args.engine.now in let e3 = c.close_r
     let frames : e3.readings.frames ≡ e.readings.frames = l.beneath ∙ ap (λ (s : Stack). drop 1 s.frames) n.frames.readings ∙ b.beneath in
     let asks : innermost_weight e3.readings.frames ≡ innermost_weight e.readings.frames = ap innermost_weight frames in
     from_same e none act_weight e3 c.choose.new.engine frames (l.same.pending ∙ ap (λ (x : Engine). x.input.pending) n.only ∙ b.same.pending)
-    (h act_weight (l.same.others.call ∙ n.frames.call ∙ b.same.others.call ∙ none) (omega arith) (omega (arith, asks, light))))
+    (h act_weight (l.same.call ∙ n.frames.call ∙ b.same.call ∙ none) (omega arith) (omega (arith, asks, light))))
     c.choose.ensures.light

@@ -22,4 +22,4 @@ returns-clause-rule c = let e = c.args.engine.now in let n = c.in_ok-begin.ensur
 
 pub returns-clause-light : goal.returns-clause-light
 returns-clause-light c = let n = c.in_ok-begin.ensures in
-    λ most none room. skips_within c.args.engine.now none most c.begin.new.self _ room n.same.others.call n.frames n.weight refl n.same.pending
+    λ most none room. skips_within c.args.engine.now none most c.begin.new.self _ room n.same.call n.frames n.weight refl n.same.pending

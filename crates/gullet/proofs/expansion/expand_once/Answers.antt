@@ -182,7 +182,7 @@ returns-in_ok-call_name-in-Call-clause-light g c expanded light = c.in_ok-call_n
 
 pub returns-in_ok-begin-in-Begin-clause-light : goal.returns-in_ok-begin-in-Begin-clause-light
 returns-in_ok-begin-in-Begin-clause-light g c expanded light = let e = c.args.engine.now in let n = c.in_ok-begin-in-Begin.ensures in
-    begun_light e c.requires.uncalled light c.begin.new.self c.in-Begin.opening _ n.same.others.call n.frames n.weight (subst IsLight c.in-Begin.is c.expansion_of.ensures.light) n.same.pending
+    begun_light e c.requires.uncalled light c.begin.new.self c.in-Begin.opening _ n.same.call n.frames n.weight (subst IsLight c.in-Begin.is c.expansion_of.ensures.light) n.same.pending
 
 pub returns-in_ok-put_job-in-JobName-clause-light : goal.returns-in_ok-put_job-in-JobName-clause-light
 returns-in_ok-put_job-in-JobName-clause-light g c expanded light = let e = c.args.engine.now in let n = c.in_ok-put_job-in-JobName.ensures in

@@ -1,4 +1,6 @@
 use Rattle.std.proofs.Common.{sym, ap, subst, ◌∙◌}
+use Rattle.input_state.specs.Callings.{call_in}
+use Rattle.engine_state.proofs.Uncalled.{no_call}
 use Rattle.engine_state.specs.declared.outcome.Next.TheVariants as next
 use Rattle.engine_state.specs.Stands.{state_of}
 use Rattle.engine_state.specs.Rules.{world_of, next_moves, Comes}
@@ -20,7 +22,7 @@ returns-in-Token-clause-rule g c = let e = c.args.engine.now in let e1 = c.next_
     let w = world_of f (g.S.Sink.told c.args.out.now) e in let w1 = world_of f s e1 in let w2 = world_of f (g.S.Sink.told c.expand-stepped.new.out) e2 in let moves = next_moves c.args.want e book in
     let comes : Comes sizes c.args.want (state_of e book) e1 book w w1 moves x 1 = next_as sizes c.args.want (state_of e book) e1 book w w1 moves n.field-0 (next.Token x) (sym c.in-Token.is) (n.ensures.rule sizes f book c.args.want c.enters_names.ensures t) in
     noted_steps c.stops-engine.result sizes c.args.want (state_of e book) e2 book w w2 moves stepped
-    (steps_on sizes c.args.want (state_of e book) e1 e2 book w w1 w2 moves x comes (c.next_token.ensures.readings.call ∙ c.requires.uncalled) stepped (h sizes f comes.book' comes.takes))) c.expand-stepped.ensures.rule
+    (steps_on sizes c.args.want (state_of e book) e1 e2 book w w1 w2 moves x comes (no_call c.next_token.new.self.input.call (c.next_token.ensures.readings.call ∙ ap call_in c.requires.uncalled)) stepped (h sizes f comes.book' comes.takes))) c.expand-stepped.ensures.rule
 
 pub returns-in-Token-clause-err : goal.returns-in-Token-clause-err
 returns-in-Token-clause-err g c = let e = c.args.engine.now in let e1 = c.next_token.new.self in let e2 = c.expand-stepped.new.engine in let x = c.in-Token.seen in let n = c.in_ok-seen in let s = g.S.Sink.told c.next_token.new.out in
@@ -157,4 +159,4 @@ pub expand-stepped-requires-clause-idle : goal.expand-stepped-requires-clause-id
 expand-stepped-requires-clause-idle g c = c.in_ok-seen.ensures.idle
 
 pub expand-stepped-requires-clause-uncalled : goal.expand-stepped-requires-clause-uncalled
-expand-stepped-requires-clause-uncalled g c = c.next_token.ensures.readings.call ∙ c.requires.uncalled
+expand-stepped-requires-clause-uncalled g c = no_call c.next_token.new.self.input.call (c.next_token.ensures.readings.call ∙ ap call_in c.requires.uncalled)

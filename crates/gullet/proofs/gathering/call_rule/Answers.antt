@@ -1,10 +1,11 @@
 use Rattle.std.proofs.lemmas.Grind.{common_steps}
 use Rattle.std.proofs.Common.{arith, true, false, ◌∷◌, [], refl, ap, sym, subst, ◌∙◌, List}
+use Rattle.std.specs.Prelude.{is_some}
 use Rattle.plain_tokens.specs.Pending.{end_token_lists}
 use Rattle.plain_machine.specs.States.{Move}
 use Rattle.plain_machine.proofs.Doing.{did_none}
 use Rattle.engine_state.specs.declared.broken.Broken.TheVariants as broken
-use Rattle.engine_state.specs.declared.call.CallAsk.TheVariants as asked
+use Rattle.macro_call.specs.declared.ask.CallAsk.TheVariants as asked
 use Rattle.engine_state.specs.Book.{with_work}
 use Rattle.engine_state.specs.Calls.{brace_call}
 use Rattle.engine_state.specs.declared.engine.Engine.{Engine}
@@ -16,6 +17,7 @@ use Rattle.gullet.proofs.CallBraces.{brace_moves}
 use Rattle.gullet.proofs.CallEnding.{by_call, closed_went}
 use Rattle.gullet.proofs.CallPutting.{put_rule, put_cut}
 use Rattle.gullet.proofs.CallRules.{asks_this, away_is, call_wants}
+use Rattle.gullet.proofs.CallsIn.{complete_at}
 use Rattle.engine_state.proofs.Cutting.{cuts_by}
 use Rattle.engine_state.proofs.Joining.{ok_to, err_to, err_both, same_err}
 use Rattle.engine_state.proofs.CuttingReadings.{cuts_in, column_in}
@@ -41,7 +43,7 @@ returns-in-ExtraBrace-clause-rule g c = let e = c.args.engine.now in let n = c.s
     let is = asks_this e c.args.call asked.ExtraBrace c.requires.call c.in-ExtraBrace.is in
     ok_to n.result (λ ruled h sizes f. by_call sizes e (brace_call name) (λ book plan. DoesRule sizes (state_of e book) n.new.engine book (world_of f (g.S.Sink.told c.args.out.now) e) (world_of f (g.S.Sink.told n.new.out) n.new.engine) plan ruled) is
     (λ book r rs st k. subst (λ (ms : List Move). DoesRule sizes (state_of e (with_work (r ∷ rs) book)) n.new.engine (with_work (r ∷ rs) book) (world_of f (g.S.Sink.told c.args.out.now) e) (world_of f (g.S.Sink.told n.new.out) n.new.engine) ms ruled) (sym (brace_moves e book.number name r (page_of e book) k))
-    (h sizes f book r rs is st))) n.ensures.rule
+    (h sizes f book r rs st))) n.ensures.rule
 
 pub returns-in-ExtraBrace-clause-err : goal.returns-in-ExtraBrace-clause-err
 returns-in-ExtraBrace-clause-err g c = let e = c.args.engine.now in let n = c.settle_brace in let name = c.args.call.name in
@@ -113,7 +115,7 @@ returns-in-More-clause-idle g c = c.take.ensures.idle
 
 pub returns-in-ExtraBrace-clause-light : goal.returns-in-ExtraBrace-clause-light
 returns-in-ExtraBrace-clause-light g c =
-    ok_to c.settle_brace.result (λ ruled h free. h free (asks_this c.args.engine.now c.args.call asked.ExtraBrace c.requires.call c.in-ExtraBrace.is)) c.settle_brace.ensures.light
+    c.settle_brace.ensures.light
 
 pub returns-in-ExtraBrace-clause-step : goal.returns-in-ExtraBrace-clause-step
 returns-in-ExtraBrace-clause-step g c =
@@ -187,7 +189,7 @@ returns-in_ok-put_call-in-Gathered-clause-idle g c = c.put_call.ensures.idle ∙
 
 pub returns-in-ParEnded-true-clause-light : goal.returns-in-ParEnded-true-clause-light
 returns-in-ParEnded-true-clause-light g c free =
-    closed_lighter c.args.engine.now c.args.engine.now c.close_call.new.engine _ c.args.call (same_engine c.args.engine.now c.args.engine.now refl) refl refl c.close_call.ensures.after c.requires.call (ap call_asks_more c.in-ParEnded-true.is)
+    closed_lighter c.args.engine.now c.args.engine.now c.close_call.new.engine _ c.args.call (same_engine c.args.engine.now c.args.engine.now refl) refl refl refl c.close_call.ensures.after c.requires.call (ap call_asks_more c.in-ParEnded-true.is)
 
 pub returns-in-ParEnded-true-clause-step : goal.returns-in-ParEnded-true-clause-step
 returns-in-ParEnded-true-clause-step g c =
@@ -202,3 +204,14 @@ returns-in-ParEnded-true-clause-halts g c halted = absurd halted
 pub returns-in-ParEnded-true-clause-idle : goal.returns-in-ParEnded-true-clause-idle
 returns-in-ParEnded-true-clause-idle g c =
     ap (λ (y : Engine). y.input.making) c.close_call.ensures.after ∙ c.requires.idle
+
+-- WHAT IS ASKED OF THE CALL
+
+pub take-requires-clause-call : goal.take-requires-clause-call
+take-requires-clause-call g c = ap is_some c.requires.call
+
+pub settle_brace-requires-clause-call : goal.settle_brace-requires-clause-call
+settle_brace-requires-clause-call g c = asks_this c.args.engine.now c.args.call asked.ExtraBrace c.requires.call c.in-ExtraBrace.is
+
+pub put_call-requires : goal.put_call-requires
+put_call-requires g c = complete_at c.args.engine.now.input.call c.args.call.name (asks_this c.args.engine.now c.args.call asked.Gathered c.requires.call c.in-Gathered.is)

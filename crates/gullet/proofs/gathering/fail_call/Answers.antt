@@ -28,4 +28,4 @@ returns-clause-rule g c =
 
 pub returns-clause-light : goal.returns-clause-light
 returns-clause-light g c free call is asks =
-    closed_lighter c.args.engine.now c.report.new.self c.close_call.new.engine _ call c.report.ensures.frames (ap (λ (x : Stored). pending_weight x.pending) c.report.ensures.input) refl c.close_call.ensures.after is asks
+    closed_lighter c.args.engine.now c.report.new.self c.close_call.new.engine _ call c.report.ensures.frames (ap (λ (x : Stored). pending_weight x.pending) c.report.ensures.input) refl refl c.close_call.ensures.after is asks

@@ -1,6 +1,7 @@
 use Rattle.std.proofs.Common.{◌∷◌, ap, ◌∙◌}
 use Rattle.tex_syntax.specs.declared.words.Report.TheVariants.{ParagraphEnded}
 use Rattle.input_state.specs.Stored.{Stored}
+use Rattle.input_state.specs.Callings.{call_in}
 use Rattle.engine_state.specs.declared.engine.Engine.{Engine}
 use Rattle.engine_state.specs.Book.{with_work}
 use Rattle.engine_state.specs.Steps.{pending_weight}
@@ -30,7 +31,7 @@ returns-clause-rule g c = let e = c.args.engine.now in let e1 = c.write_argument
     ok_both c.fail_call.result (λ ruled h free sizes f book r rs call is st. let st1 = written_stands sizes e e1 (with_work (r ∷ rs) book) c.write_argument.ensures.only st in
     call_away_rule sizes e e1 e2 f (g.S.Sink.told c.args.out.now) (g.S.Sink.told c.write_argument.new.out) (argument_bytes e) c.args.engine.now.last.token (ParagraphEnded c.args.name) (with_work (r ∷ rs) book) c.write_argument.ensures.only (p.page (with_work (r ∷ rs) book))
     (c.in_ok-write_argument.ensures.did sizes f (with_work (r ∷ rs) book)) _ c.fail_call.new.engine (λ w. c.in_ok-put_one.ensures.did sizes w (with_work (r ∷ rs) book) (call_counts sizes e1 (with_work (r ∷ rs) book) st1) st1.idle) ruled free
-    (h sizes f book r rs call (p.frames.call ∙ ap (λ (y : Engine). y.call) c.write_argument.ensures.only.same ∙ is) (put_stands sizes e1 e2 (with_work (r ∷ rs) book) p.frames p.others p.store c.in_ok-put_one.ensures.idle st1))) c.fail_call.ensures.rule c.fail_call.ensures.step
+    (h sizes f book r rs call (ap call_in (p.frames.call ∙ ap (λ (y : Engine). y.input.call) c.write_argument.ensures.only.same) ∙ is) (put_stands sizes e1 e2 (with_work (r ∷ rs) book) p.frames p.others p.store c.in_ok-put_one.ensures.idle st1))) c.fail_call.ensures.rule c.fail_call.ensures.step
 
 pub returns-clause-err : goal.returns-clause-err
 returns-clause-err g c = let e = c.args.engine.now in let e1 = c.write_argument.new.self in let e2 = c.put_one.new.self in let p = c.put_one.ensures in
@@ -89,7 +90,7 @@ returns-clause-step g c = c.fail_call.ensures.step
 
 pub returns-clause-light : goal.returns-clause-light
 returns-clause-light g c =
-    ok_to c.fail_call.result (λ ruled h free call is asks. lighter_by c.args.engine.now c.put_one.new.self c.fail_call.new.engine (frames_join c.args.engine.now c.write_argument.new.self c.put_one.new.self (only_frames c.args.engine.now c.write_argument.new.self c.write_argument.ensures.only) c.put_one.ensures.frames) (c.put_one.ensures.light ∙ ap (λ (x : Stored). pending_weight x.pending) (only_input c.args.engine.now c.write_argument.new.self c.write_argument.ensures.only)) (h free call (c.put_one.ensures.frames.call ∙ (ap (λ (y : Engine). y.call) c.write_argument.ensures.only.same ∙ is)) asks)) c.fail_call.ensures.light
+    ok_to c.fail_call.result (λ ruled h free call is asks. lighter_by c.args.engine.now c.put_one.new.self c.fail_call.new.engine (frames_join c.args.engine.now c.write_argument.new.self c.put_one.new.self (only_frames c.args.engine.now c.write_argument.new.self c.write_argument.ensures.only) c.put_one.ensures.frames) (c.put_one.ensures.light ∙ ap (λ (x : Stored). pending_weight x.pending) (only_input c.args.engine.now c.write_argument.new.self c.write_argument.ensures.only)) (h free call (ap call_in (c.put_one.ensures.frames.call ∙ ap (λ (y : Engine). y.input.call) c.write_argument.ensures.only.same) ∙ is) asks)) c.fail_call.ensures.light
 
 pub returns-clause-frames : goal.returns-clause-frames
 returns-clause-frames g c =

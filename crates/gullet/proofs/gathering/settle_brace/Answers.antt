@@ -1,10 +1,13 @@
-use Rattle.std.proofs.Common.{◌≡◌, ◌∷◌, [], refl, ap, ◌∙◌, arith, true, false}
+use Rattle.std.proofs.Common.{◌≡◌, ◌∷◌, [], refl, sym, ap, subst, ◌∙◌, arith, true, false}
 use Rattle.std.proofs.lemmas.Grind.{common_steps}
 use Rattle.tex_syntax.specs.declared.words.Outcome.TheVariants.{AtFatal}
 use Rattle.tex_defs.specs.declared.Fatal.TheVariants as fatal
 use Rattle.rows.specs.Readings.{Told}
 use Rattle.plain_machine.specs.States.{Feeds}
 use Rattle.input_state.specs.Stored.{Stored}
+use Rattle.input_state.specs.Callings.{call_in}
+use Rattle.input_state.specs.CallFeeds.{IsTaking}
+use Rattle.gullet.proofs.CallsIn.{braced_at}
 use Rattle.engine_state.specs.declared.engine.Engine.{Engine}
 use Rattle.engine_state.specs.Book.{with_work}
 use Rattle.engine_state.specs.Steps.{pending_weight}
@@ -38,16 +41,16 @@ returns-in_err-report-clause-err g c = let e = c.args.engine.now in let e1 = c.p
 pub returns-then-not-branch-clause-rule : goal.returns-then-not-branch-clause-rule
 returns-then-not-branch-clause-rule g c = let e = c.args.engine.now in let e1 = c.put_one.new.self in let e2 = c.put_one-2.new.self in let p = c.put_one.ensures in let q = c.put_one-2.ensures in
     let no : c.in_ok-report.field-0 ≡ false = grind (arith, common_steps, c.if-not-branch.true) in
-    λ sizes f book r rs is st. let W = with_work (r ∷ rs) book in let st1 = put_stands sizes e e1 W p.frames p.others p.store c.in_ok-put_one.ensures.idle st in let st2 = put_stands sizes e1 e2 W q.frames q.others q.store c.in_ok-put_one-2.ensures.idle st1 in
+    λ sizes f book r rs st. let W = with_work (r ∷ rs) book in let st1 = put_stands sizes e e1 W p.frames p.others p.store c.in_ok-put_one.ensures.idle st in let st2 = put_stands sizes e1 e2 W q.frames q.others q.store c.in_ok-put_one-2.ensures.idle st1 in
     brace_halts sizes e e1 e2 f _ c.args.name c.args.engine.now.last book r rs (p.page W) (q.page W) (λ w. c.in_ok-put_one.ensures.did sizes w W (call_counts sizes e W st) st.idle) (λ w. c.in_ok-put_one-2.ensures.did sizes w W (call_counts sizes e1 W st1) st1.idle) c.report.new.self _ (AtFatal fatal.HundredErrors)
     (c.in_ok-report.ensures.last no sizes f W (Feeds Told ∷ []))
 
 pub returns-clause-rule : goal.returns-clause-rule
 returns-clause-rule g c = let e = c.args.engine.now in let e1 = c.put_one.new.self in let e2 = c.put_one-2.new.self in let e3 = c.report.new.self in let p = c.put_one.ensures in let q = c.put_one-2.ensures in let t = c.report.ensures in
     let yes : c.in_ok-report.field-0 ≡ true = grind (arith, common_steps, c.if-not-branch.false) in
-    λ sizes f book r rs is st. let W = with_work (r ∷ rs) book in let st1 = put_stands sizes e e1 W p.frames p.others p.store c.in_ok-put_one.ensures.idle st in let st2 = put_stands sizes e1 e2 W q.frames q.others q.store c.in_ok-put_one-2.ensures.idle st1 in
+    λ sizes f book r rs st. let W = with_work (r ∷ rs) book in let st1 = put_stands sizes e e1 W p.frames p.others p.store c.in_ok-put_one.ensures.idle st in let st2 = put_stands sizes e1 e2 W q.frames q.others q.store c.in_ok-put_one-2.ensures.idle st1 in
     brace_went sizes e e1 e2 f _ c.args.name c.args.engine.now.last book r rs (p.page W) (q.page W) (λ w. c.in_ok-put_one.ensures.did sizes w W (call_counts sizes e W st) st.idle) (λ w. c.in_ok-put_one-2.ensures.did sizes w W (call_counts sizes e1 W st1) st1.idle) e3 _ c.go_on_behind_brace.new.engine
-    (t.frames.call ∙ q.frames.call ∙ p.frames.call ∙ is) (reported_stands sizes e2 e3 W t.frames t.input (c.in_ok-report.ensures.sized yes sizes) st2) c.go_on_behind_brace.ensures (c.in_ok-report.ensures.on yes sizes f W (Feeds Told ∷ []))
+    (ap call_in (t.frames.call ∙ q.frames.call ∙ p.frames.call) ∙ c.requires.call) (reported_stands sizes e2 e3 W t.frames t.input (c.in_ok-report.ensures.sized yes sizes) st2) c.go_on_behind_brace.ensures (c.in_ok-report.ensures.on yes sizes f W (Feeds Told ∷ []))
 
 -- WHAT BECOMES LIGHTER, WHETHER THERE IS A STEP, AND WHAT STAYS
 
@@ -141,8 +144,8 @@ pub returns-clause-step : goal.returns-clause-step
 returns-clause-step g c stepped = absurd stepped
 
 pub returns-clause-light : goal.returns-clause-light
-returns-clause-light g c free is =
-    brace_lighter c.args.engine.now c.report.new.self c.go_on_behind_brace.new.engine _ c.args.name (frames_join c.args.engine.now c.put_one.new.self c.report.new.self c.put_one.ensures.frames (frames_join c.put_one.new.self c.put_one-2.new.self c.report.new.self c.put_one-2.ensures.frames c.report.ensures.frames)) (ap (λ (x : Stored). pending_weight x.pending) c.report.ensures.input ∙ (c.put_one-2.ensures.light ∙ c.put_one.ensures.light)) refl c.go_on_behind_brace.ensures is
+returns-clause-light g c free =
+    brace_lighter c.args.engine.now c.report.new.self c.go_on_behind_brace.new.engine c.args.name (frames_join c.args.engine.now c.put_one.new.self c.report.new.self c.put_one.ensures.frames (frames_join c.put_one.new.self c.put_one-2.new.self c.report.new.self c.put_one-2.ensures.frames c.report.ensures.frames)) (ap (λ (x : Stored). pending_weight x.pending) c.report.ensures.input ∙ (c.put_one-2.ensures.light ∙ c.put_one.ensures.light)) c.go_on_behind_brace.ensures c.requires.call
 
 pub returns-clause-err : goal.returns-clause-err
 returns-clause-err g c = tt
@@ -156,3 +159,7 @@ returns-clause-halts g c halted = absurd halted
 pub returns-clause-idle : goal.returns-clause-idle
 returns-clause-idle g c =
     ap (λ (y : Engine). y.input.making) c.go_on_behind_brace.ensures ∙ (ap (λ (x : Stored). x.making) c.report.ensures.input ∙ c.in_ok-put_one-2.ensures.idle)
+
+pub go_on_behind_brace-requires : goal.go_on_behind_brace-requires
+go_on_behind_brace-requires g c = let p = c.put_one.ensures in let q = c.put_one-2.ensures in let t = c.report.ensures in
+    subst IsTaking (sym (t.frames.call ∙ q.frames.call ∙ p.frames.call)) (braced_at c.args.engine.now.input.call c.args.name c.requires.call)

@@ -32,7 +32,7 @@ returns-clause-rule g c = let e = c.args.engine.now in let e1 = c.close_reading.
     λ sizes f book r rs st.
     rules_by sizes _ e2 _ _ _ _ c.free.result (ap (λ (x : Step). Closed ∷ reached (page_of e book) c.args.call x) (stepped e e1 c.args.aim c.args.ender c.above_sought-above.result c.feed.result l.same.others.conditionals c.above_sought-above.ensures c.feed.ensures.step))
     (obeyed_rule sizes e e1 book r rs f s (l.state sizes book r rs st) l.same.others.in_line e2 (g.S.Sink.told c.follow.new.out) (λ page. reached page c.args.call c.feed.result) n.ruled c.free.result c.free.ensures
-    (l.same.others.call ∙ c.requires.uncalled) n.ensures.halts (l.stands sizes book r rs st) (n.ensures.rule sizes f (with_work rs book) (l.stands sizes book r rs st)))
+    (l.same.call ∙ c.requires.uncalled) n.ensures.halts (l.stands sizes book r rs st) (n.ensures.rule sizes f (with_work rs book) (l.stands sizes book r rs st)))
 
 pub returns-clause-light : goal.returns-clause-light
 returns-clause-light g c = let e = c.args.engine.now in let e1 = c.close_reading.new.self in let l = c.close_reading.ensures in

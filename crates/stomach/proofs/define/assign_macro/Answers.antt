@@ -1,4 +1,4 @@
-use Rattle.std.proofs.Common.{[], ap}
+use Rattle.std.proofs.Common.{[], ap, ◌∙◌}
 use Rattle.rows.specs.Readings.{Defines}
 use Rattle.input_state.specs.Stored.{Stored}
 use Rattle.engine_state.proofs.Joining.{same_err}
@@ -14,7 +14,7 @@ use Rattle.stomach.proofs.define.assign_macro.Goals.{then-is_calling-via-then-is
 pub returns-then-is_calling-clause-rule : goal.returns-then-is_calling-clause-rule
 returns-then-is_calling-clause-rule c = let e = c.args.engine.now in let e1 = c.close_reading.new.self in let l = c.close_reading.ensures in
     λ sizes w book r rs st own. elim c.then-is_calling.branch [
-      | then-is_calling-via-then-is_calling b ↦ absurd (b.if-is_calling.ensures st.uncalled.input)
+      | then-is_calling-via-then-is_calling b ↦ absurd (b.if-is_calling.ensures st.uncalled)
       | then-is_calling-via-else-is_calling+then-not-is_placed b ↦ lost_went sizes e e1 book w r rs c.args.call c.args.name (l.stands sizes book r rs st) (l.state sizes book r rs st) (top_list e.input.builds) c.requires.token b.if-not-is_placed.ensures l.same.store.groups
     ]
 
@@ -37,4 +37,4 @@ returns-clause-rule c = let i = c.in_ok-define.ensures in let n = c.end.ensures 
 pub returns-clause-light : goal.returns-clause-light
 returns-clause-light c = let e = c.args.engine.now in let n = c.end.ensures in
     λ none asks.
-    acted_lighter e (record e { input = c.define.new.self; readings = c.end.new.self }) none none (ap (λ (x : Stored). x.pending) c.in_ok-define.ensures.ok) (Defines c.args.call c.args.name []) asks tt n.frames n.weight
+    acted_lighter e (record e { input = c.define.new.self; readings = c.end.new.self }) none (ap (λ (x : Stored). x.call) c.in_ok-define.ensures.ok ∙ none) (ap (λ (x : Stored). x.pending) c.in_ok-define.ensures.ok) (Defines c.args.call c.args.name []) asks tt n.frames n.weight

@@ -27,14 +27,14 @@ pub returns-in-Expanded-clause-rule : goal.returns-in-Expanded-clause-rule
 returns-in-Expanded-clause-rule g c = let e = c.args.engine.now in let e1 = c.close_reading.new.self in let e2 = c.begin.new.self in let l = c.close_reading.ensures in let b = c.in_ok-begin.ensures in let n = c.in_ok-expand_once in
     λ sizes f book r rs st. let left = l.stands sizes book r rs st in
     expanded_rule sizes e e1 book r rs f (g.S.Sink.told c.args.out.now) (l.state sizes book r rs st) l.same.others.in_line e2 c.args.call c.args.x c.args.y (b.state sizes _ left) (b.fits sizes _ (counts_of sizes e1 _ left)) b.same.others.in_line
-    c.expand_once.new.engine (g.S.Sink.told c.expand_once.new.out) Step (b.same.others.call ∙ (l.same.others.call ∙ c.requires.uncalled)) (λ halted. absurd halted) (b.stands sizes _ left)
+    c.expand_once.new.engine (g.S.Sink.told c.expand_once.new.out) Step (b.same.call ∙ (l.same.call ∙ c.requires.uncalled)) (λ halted. absurd halted) (b.stands sizes _ left)
     (once_went sizes _ c.expand_once.new.engine _ _ _ _ (put_one c.args.y.token) n.field-0 (n.ensures.rule sizes f _ (put_one c.args.y.token) (b.stands sizes _ left)) c.in-Expanded.is)
 
 pub returns-in-Over-clause-rule : goal.returns-in-Over-clause-rule
 returns-in-Over-clause-rule g c = let e = c.args.engine.now in let e1 = c.close_reading.new.self in let e2 = c.begin.new.self in let l = c.close_reading.ensures in let b = c.in_ok-begin.ensures in let n = c.in_ok-expand_once in
     λ sizes f book r rs st. let left = l.stands sizes book r rs st in
     expanded_rule sizes e e1 book r rs f (g.S.Sink.told c.args.out.now) (l.state sizes book r rs st) l.same.others.in_line e2 c.args.call c.args.x c.args.y (b.state sizes _ left) (b.fits sizes _ (counts_of sizes e1 _ left)) b.same.others.in_line
-    c.expand_once.new.engine (g.S.Sink.told c.expand_once.new.out) (Halted c.in-Over.outcome) (b.same.others.call ∙ (l.same.others.call ∙ c.requires.uncalled)) (λ halted. n.ensures.halts (once_over n.field-0 c.in-Over.outcome c.in-Over.is)) (b.stands sizes _ left)
+    c.expand_once.new.engine (g.S.Sink.told c.expand_once.new.out) (Halted c.in-Over.outcome) (b.same.call ∙ (l.same.call ∙ c.requires.uncalled)) (λ halted. n.ensures.halts (once_over n.field-0 c.in-Over.outcome c.in-Over.is)) (b.stands sizes _ left)
     (once_halts sizes _ c.expand_once.new.engine _ _ _ _ (put_one c.args.y.token) n.field-0 (n.ensures.rule sizes f _ (put_one c.args.y.token) (b.stands sizes _ left)) c.in-Over.outcome c.in-Over.is)
 
 pub returns-in_err-put_one-in-Stays-clause-err : goal.returns-in_err-put_one-in-Stays-clause-err

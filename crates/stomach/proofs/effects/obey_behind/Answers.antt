@@ -17,7 +17,7 @@ pub returns-clause-rule : goal.returns-clause-rule
 returns-clause-rule g c = let e = c.args.engine.now in let e1 = c.close_reading.new.self in let e2 = c.obey.new.engine in let l = c.close_reading.ensures in let n = c.in_ok-ruled in
     λ sizes f book r rs st.
     obeyed_rule sizes e e1 book r rs f (g.S.Sink.told c.args.out.now) (l.state sizes book r rs st) l.same.others.in_line e2 (g.S.Sink.told c.obey.new.out) (λ page. command page c.args.x.token c.args.x.meaning) n.ruled c.free.result c.free.ensures
-    (l.same.others.call ∙ c.requires.uncalled) n.ensures.halts (l.stands sizes book r rs st) (n.ensures.rule sizes f _ (l.stands sizes book r rs st))
+    (l.same.call ∙ c.requires.uncalled) n.ensures.halts (l.stands sizes book r rs st) (n.ensures.rule sizes f _ (l.stands sizes book r rs st))
 
 pub returns-clause-light : goal.returns-clause-light
 returns-clause-light g c = let e = c.args.engine.now in let e1 = c.close_reading.new.self in let e2 = c.obey.new.engine in let l = c.close_reading.ensures in let n = c.in_ok-ruled.ensures in

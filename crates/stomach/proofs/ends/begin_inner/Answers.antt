@@ -15,7 +15,7 @@ returns-in-Command-clause-rule c =
 
 pub returns-in-Command-clause-light : goal.returns-in-Command-clause-light
 returns-in-Command-clause-light c = let l = c.close_reading.ensures in
-    λ asks. refused_light c.args.engine.now c.close_reading.new.self c.requires.uncalled (l.same.others.call ∙ c.requires.uncalled) l.same.pending c.args.kind c.args.begins asks c.in-Command.field-0 c.in-Command.is l.frames l.weight
+    λ asks. refused_light c.args.engine.now c.close_reading.new.self c.requires.uncalled (l.same.call ∙ c.requires.uncalled) l.same.pending c.args.kind c.args.begins asks c.in-Command.field-0 c.in-Command.is l.frames l.weight
 
 -- with the last token
 
@@ -32,7 +32,7 @@ returns-then-begins-clause-rule c = let e = c.args.engine.now in let b = c.in_ok
 
 pub returns-then-begins-clause-light : goal.returns-then-begins-clause-light
 returns-then-begins-clause-light c = let b = c.in_ok-begin_with.ensures in let s = c.begin_with.ensures.same in
-    λ asks. begun_with_light c.args.engine.now c.begin_with.new.self c.requires.uncalled (s.others.call ∙ c.requires.uncalled) s.pending c.args.kind c.args.begins asks c.in_default.not-Command c.if-begins.true b.frames b.weight
+    λ asks. begun_with_light c.args.engine.now c.begin_with.new.self c.requires.uncalled (s.call ∙ c.requires.uncalled) s.pending c.args.kind c.args.begins asks c.in_default.not-Command c.if-begins.true b.frames b.weight
 
 -- without one
 
@@ -49,4 +49,4 @@ returns-clause-rule c = let e = c.args.engine.now in let b = c.in_ok-begin.ensur
 
 pub returns-clause-light : goal.returns-clause-light
 returns-clause-light c = let b = c.in_ok-begin.ensures in let s = c.begin.ensures.same in
-    λ asks. begun_light c.args.engine.now c.begin.new.self c.requires.uncalled (s.others.call ∙ c.requires.uncalled) s.pending c.args.kind c.args.begins asks c.in_default.not-Command c.if-begins.false b.frames b.weight
+    λ asks. begun_light c.args.engine.now c.begin.new.self c.requires.uncalled (s.call ∙ c.requires.uncalled) s.pending c.args.kind c.args.begins asks c.in_default.not-Command c.if-begins.false b.frames b.weight

@@ -26,4 +26,4 @@ returns-clause-rule c = let e = c.args.engine.now in let e1 = c.put_back.new.sel
 
 pub returns-clause-light : goal.returns-clause-light
 returns-clause-light c = let p = c.put_back.ensures in let n = c.end.ensures in
-    λ asks. done_light c.args.engine.now c.put_back.new.self c.end.new.self c.args.value c.args.back c.requires.uncalled p.frames p.light n.same.others.call n.same.pending asks n.frames n.weight
+    λ asks. done_light c.args.engine.now c.put_back.new.self c.end.new.self c.args.value c.args.back c.requires.uncalled p.frames p.light n.same.call n.same.pending asks n.frames n.weight

@@ -29,7 +29,7 @@ use Rattle.stomach.specs.declared.early.Early.TheVariants as early
 use Rattle.stomach.specs.Ran.{Came, CameOn, CutBy, Stops, UnreadBy, RuledTo, step_count, whole_state}
 use Rattle.stomach.specs.Ahead.{needs_step}
 use Rattle.stomach.proofs.OneRule.{reads_same}
-use Rattle.stomach.proofs.Opening.{by_name, found, frames_by, frames_near, levels_cut, match_false, match_true, missing_cut, missing_halts, next_stands, next_tied, no_call, no_room, open_unread, sought_count, sought_cut}
+use Rattle.stomach.proofs.Opening.{by_name, found, frames_by, frames_near, levels_cut, match_false, match_true, missing_cut, missing_halts, next_stands, next_tied, starts_uncalled, no_room, open_unread, sought_count, sought_cut}
 use Rattle.stomach.proofs.FilesFound.{reads_found, reads_missing}
 use Rattle.stomach.proofs.Reading.{reads_left}
 use Rattle.stomach.proofs.Rounds.{of_err}
@@ -53,7 +53,7 @@ returns-in_err-count-clause-rule g c =
     (λ sizes f book stands tied. by_name sizes e a asks (λ (bk : Book). CutBy sizes (whole_state left e bk) (step_count (needs_step e)) e' left (world f s e.in_line) (world f s e'.in_line) b)
     (λ bk r rest asked st. subst (λ (x : Bool). CutBy sizes (whole_state left e (with_work (r ∷ rest) bk)) (step_count (needs_step e)) e' left (world f s e.in_line) (world f s x) b) column
     (sought_cut sizes e n.field-0-0 n.back (kept_list_of n.listed e.input.builds) c.requires.none_opened bk r rest asked left e' left (world f s e.in_line) (world f s e.in_line) (step_count (needs_step e)) b refl (i.ensures.err sizes (world f s e.in_line) bk r rest [] st)))
-    book (no_call e.call (asked e) c.requires.starts) stands))
+    book (starts_uncalled e.input.call (asked e) c.requires.starts) stands))
 
 pub returns-in-Some-clause-rule : goal.returns-in-Some-clause-rule
 returns-in-Some-clause-rule g c =
@@ -71,7 +71,7 @@ returns-in-Some-clause-rule g c =
     (λ left may sizes f book stands tied. by_name sizes e a asks (λ (bk : Book). CutBy sizes (whole_state left e bk) (step_count (needs_step e)) e' left (world f s e.in_line) (world f s e'.in_line) (broken.Full c.in-Some.full))
     (λ bk r rest asked st. subst (λ (x : Bool). CutBy sizes (whole_state left e (with_work (r ∷ rest) bk)) (step_count (needs_step e)) e' left (world f s e.in_line) (world f s x) (broken.Full c.in-Some.full)) column
     (levels_cut sizes e n.field-0-0 n.back (kept_list_of n.listed e.input.builds) c.requires.none_opened bk r rest asked left e' (world f s e.in_line) i.count (i.ensures.rule sizes (world f s e.in_line) bk r rest st) left c.in-Some.full (step_count (needs_step e)) refl (sym c.file_room.ensures ∙ c.in-Some.is)))
-    book (no_call e.call (asked e) c.requires.starts) stands)
+    book (starts_uncalled e.input.call (asked e) c.requires.starts) stands)
 
 pub spelt-requires : goal.spelt-requires
 spelt-requires g c = c.in_ok-count.ensures.room
@@ -92,7 +92,7 @@ returns-then-not-has_room-clause-rule g c =
     let asks = subst (λ (o : Option Ask). (held : Lists) (work : List Reading) → frames.FramesStand e.readings.frames held work → asked_of held o ≡ asked_in work) is c.ask.ensures.stands in
     let column : e.in_line ≡ e'.in_line = sym c.seek.ensures.column in
     let ts = kept_list_of n.listed e.input.builds in
-    let none = no_call e.call (asked e) c.requires.starts in
+    let none = starts_uncalled e.input.call (asked e) c.requires.starts in
     let unopened = c.requires.none_opened in
     let room = sym c.file_room.ensures ∙ none_of c.file_room.result c.in_default-file_room.not-Some in
     reads_same (λ (all left : Rests). RuledTo rs e s rs e' s all left (Err (early.Broken (broken.Full c.levels_full.result)))) rs.readers _
@@ -113,7 +113,7 @@ returns-in_err-open-clause-rule g c =
     let asks = subst (λ (o : Option Ask). (held : Lists) (work : List Reading) → frames.FramesStand e.readings.frames held work → asked_of held o ≡ asked_in work) is c.ask.ensures.stands in
     let column : e.in_line ≡ e'.in_line = sym c.seek.ensures.column in
     let ts = kept_list_of n.listed e.input.builds in
-    let none = no_call e.call (asked e) c.requires.starts in
+    let none = starts_uncalled e.input.call (asked e) c.requires.starts in
     let unopened = c.requires.none_opened in
     let room = sym c.file_room.ensures ∙ none_of c.file_room.result c.in_default-file_room.not-Some in
     let k = c.in_err-open in
@@ -142,7 +142,7 @@ returns-then-branch-clause-rule g c =
     let asks = subst (λ (o : Option Ask). (held : Lists) (work : List Reading) → frames.FramesStand e.readings.frames held work → asked_of held o ≡ asked_in work) is c.ask.ensures.stands in
     let column : e.in_line ≡ e'.in_line = sym c.seek.ensures.column in
     let ts = kept_list_of n.listed e.input.builds in
-    let none = no_call e.call (asked e) c.requires.starts in
+    let none = starts_uncalled e.input.call (asked e) c.requires.starts in
     let unopened = c.requires.none_opened in
     let room = sym c.file_room.ensures ∙ none_of c.file_room.result c.in_default-file_room.not-Some in
     let rs' = c.open.new.self in
@@ -177,7 +177,7 @@ returns-in_err-refuse_spelt-clause-rule g c =
     let asks = subst (λ (o : Option Ask). (held : Lists) (work : List Reading) → frames.FramesStand e.readings.frames held work → asked_of held o ≡ asked_in work) is c.ask.ensures.stands in
     let column : e.in_line ≡ e'.in_line = sym c.seek.ensures.column in
     let ts = kept_list_of n.listed e.input.builds in
-    let none = no_call e.call (asked e) c.requires.starts in
+    let none = starts_uncalled e.input.call (asked e) c.requires.starts in
     let unopened = c.requires.none_opened in
     let room = sym c.file_room.ensures ∙ none_of c.file_room.result c.in_default-file_room.not-Some in
     let k = c.in_err-refuse_spelt in
@@ -219,7 +219,7 @@ returns-clause-rule g c =
     let asks = subst (λ (o : Option Ask). (held : Lists) (work : List Reading) → frames.FramesStand e.readings.frames held work → asked_of held o ≡ asked_in work) is c.ask.ensures.stands in
     let column : e.in_line ≡ e'.in_line = sym c.seek.ensures.column in
     let ts = kept_list_of n.listed e.input.builds in
-    let none = no_call e.call (asked e) c.requires.starts in
+    let none = starts_uncalled e.input.call (asked e) c.requires.starts in
     let unopened = c.requires.none_opened in
     let room = sym c.file_room.ensures ∙ none_of c.file_room.result c.in_default-file_room.not-Some in
     let k = c.in_ok-refuse_spelt in

@@ -1,4 +1,4 @@
-use Rattle.std.proofs.Common.{ap, None}
+use Rattle.std.proofs.Common.{ap, ◌∙◌, None}
 use Rattle.equivalents.specs.declared.values.Val.TheVariants as val
 use Rattle.input_state.specs.Stored.{Stored}
 use Rattle.engine_state.proofs.Joining.{same_err}
@@ -36,4 +36,4 @@ returns-clause-rule c = let i = c.in_ok-set_list.ensures in let n = c.end.ensure
 
 pub returns-clause-light : goal.returns-clause-light
 returns-clause-light c = let e = c.args.engine.now in let n = c.end.ensures in
-    λ none a asks end. acted_lighter e (record e { input = c.set_list.new.self; readings = c.end.new.self }) none none (ap (λ (x : Stored). x.pending) c.in_ok-set_list.ensures.ok) a asks end n.frames n.weight
+    λ none a asks end. acted_lighter e (record e { input = c.set_list.new.self; readings = c.end.new.self }) none (ap (λ (x : Stored). x.call) c.in_ok-set_list.ensures.ok ∙ none) (ap (λ (x : Stored). x.pending) c.in_ok-set_list.ensures.ok) a asks end n.frames n.weight

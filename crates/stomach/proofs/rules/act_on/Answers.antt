@@ -107,5 +107,5 @@ returns-clause-light g c = let e = c.args.engine.now in let e1 = c.match-effect.
           closed_lighter_as e e1 e2 w.put_changed.new.self (ActsOn c.args.call c.args.effect []) w.engine-is c.requires.uncalled asks tt w.put_changed.ensures.front.frames
           w.put_changed.ensures.front.light k.same k.frames k.weight
       | in_default w ↦
-          closed_lighter_as e e1 e2 e (ActsOn c.args.call c.args.effect []) w.engine-is c.requires.uncalled asks tt (record { readings = refl; lists = refl; call = refl; calling = refl }) refl k.same k.frames k.weight
+          closed_lighter_as e e1 e2 e (ActsOn c.args.call c.args.effect []) w.engine-is c.requires.uncalled asks tt (record { readings = refl; lists = refl; call = refl }) refl k.same k.frames k.weight
     ]

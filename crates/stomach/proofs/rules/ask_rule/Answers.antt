@@ -147,7 +147,7 @@ returns-in-Fetches-clause-rule g c = let e = c.args.engine.now in let e' = c.fet
 
 pub returns-in-Fetches-clause-light : goal.returns-in-Fetches-clause-light
 returns-in-Fetches-clause-light g c free = let e = c.args.engine.now in let i = c.in-Fetches in let n = c.fetch.ensures in
-    noted_lighter e c.fetch.new.self c.requires.uncalled (n.same.others.call ∙ c.requires.uncalled) n.same.pending (n.weight (asked_bare e c.args.ask (Fetches i.loc) i.is c.requires.asks)) n.frames
+    noted_lighter e c.fetch.new.self c.requires.uncalled (n.same.call ∙ c.requires.uncalled) n.same.pending (n.weight (asked_bare e c.args.ask (Fetches i.loc) i.is c.requires.asks)) n.frames
 
 pub returns-in-Fetches-clause-step : goal.returns-in-Fetches-clause-step
 returns-in-Fetches-clause-step g c = let e = c.args.engine.now in let i = c.in-Fetches in asked_steps e _ c.requires.uncalled (asked_here e c.args.ask (Fetches i.loc) i.is c.requires.asks)

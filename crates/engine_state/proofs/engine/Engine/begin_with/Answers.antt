@@ -22,14 +22,14 @@ returns-clause-fits c = λ sizes book counts. let e = c.args.self.now in let o =
 
 pub returns-clause-stands : goal.returns-clause-stands
 returns-clause-stands c = λ sizes book st. let e = c.args.self.now in let o = c.args.opening in let g = c.in-Ok.grown in let b = c.in-Ok.ensures in let l = c.begin_grown.ensures in
-    let grows : c.begin_grown.new.self.input.builds ≡ on_top g (opened_lists o e.input.builds) = l.grows sizes book (by_stack sizes e book c.begin_with.new.self b.size st.sound) st.uncalled.input b.listed (sym c.list_refusal.ensures ∙ none_of c.list_refusal.result c.in_default-list_refusal.not-Some) in
+    let grows : c.begin_grown.new.self.input.builds ≡ on_top g (opened_lists o e.input.builds) = l.grows sizes book (by_stack sizes e book c.begin_with.new.self b.size st.sound) st.uncalled b.listed (sym c.list_refusal.ensures ∙ none_of c.list_refusal.result c.in_default-list_refusal.not-Some) in
     opens sizes e c.begin_grown.new.self book (opened_with (kind_of o) (Tok e.last) book.work) c.begin_with.new.self c.begin_grown.new.self.input.builds l.only b.size l.keeps
     (frames_over c.begin_with.new.self.frames (on_top g (opened_lists o e.input.builds)) c.begin_grown.new.self.input.builds (opened_with (kind_of o) (Tok e.last) book.work) grows (b.begins e.input.builds book.work st.readings.frames))
     (shallow_over c.begin_with.new.self.frames (on_top g (opened_lists o e.input.builds)) c.begin_grown.new.self.input.builds grows (b.shallow e.input.builds st.readings.shallow)) st
 
 pub returns-clause-state : goal.returns-clause-state
 returns-clause-state c = λ sizes book st. let e = c.args.self.now in let o = c.args.opening in let g = c.in-Ok.grown in let b = c.in-Ok.ensures in let l = c.begin_grown.ensures in
-    let grows : c.begin_grown.new.self.input.builds ≡ on_top g (opened_lists o e.input.builds) = l.grows sizes book (by_stack sizes e book c.begin_with.new.self b.size st.sound) st.uncalled.input b.listed (sym c.list_refusal.ensures ∙ none_of c.list_refusal.result c.in_default-list_refusal.not-Some) in
+    let grows : c.begin_grown.new.self.input.builds ≡ on_top g (opened_lists o e.input.builds) = l.grows sizes book (by_stack sizes e book c.begin_with.new.self b.size st.sound) st.uncalled b.listed (sym c.list_refusal.ensures ∙ none_of c.list_refusal.result c.in_default-list_refusal.not-Some) in
     opens_state sizes e c.begin_grown.new.self book (opened_with (kind_of o) (Tok e.last) book.work) c.begin_with.new.self (lists (kind_of o) (Tok e.last ∷ [])) c.begin_grown.new.self.input.builds l.only b.size l.keeps
     (frames_over c.begin_with.new.self.frames (on_top g (opened_lists o e.input.builds)) c.begin_grown.new.self.input.builds (opened_with (kind_of o) (Tok e.last) book.work) grows (b.begins e.input.builds book.work st.readings.frames))
     (shallow_over c.begin_with.new.self.frames (on_top g (opened_lists o e.input.builds)) c.begin_grown.new.self.input.builds grows (b.shallow e.input.builds st.readings.shallow)) st (b.lists e.input.builds ∙ sym grows)

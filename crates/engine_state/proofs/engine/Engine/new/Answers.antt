@@ -70,7 +70,7 @@ returns c = let i = c.in_ok-input.ensures in let n = c.in-Ok.ensures in let o = 
           frames = subst (λ (x : Stack). frames.FramesStand x.frames c.in_ok-input.input.builds []) (sym o) (ap (λ (x : Stored). x.builds) i);
           shallow = subst (λ (x : Stack). AreShallow x.frames c.in_ok-input.input.builds) (sym o) tt;
         };
-        uncalled = record { none = refl; input = ap (λ (x : Stored). x.call) i };
+        uncalled = ap (λ (x : Stored). x.call) i;
       };
       state = λ file. first_at _ _ _ _ _ _ _ _ c.args.quiet file None here numbered names others (ap gathered i) making (ap (λ (x : Conditions). x.items) k) style;
       column = refl;

@@ -1,0 +1,56 @@
+-- How a call stands, by what it asks for.
+use Rattle.std.proofs.Common.{◌≡◌, refl, ap, List, Bool, true, false}
+use Rattle.std.specs.Prelude.{Some}
+use Rattle.std.proofs.lemmas.Option.{same_Some}
+use Rattle.tex_defs.specs.declared.Name.{Name}
+use Rattle.tex_defs.specs.declared.Token.{Token}
+use Rattle.plain_tokens.specs.Arguments.{ParMode, begins_with_place}
+use Rattle.macro_call.specs.declared.ask.CallAsk.TheVariants as ask
+use Rattle.input_state.specs.declared.answer.Call.{Call}
+use Rattle.input_state.specs.declared.answer.CallEnd.{CallEnd}
+use Rattle.input_state.specs.declared.answer.CallEnd.TheVariants as end
+use Rattle.input_state.specs.CallFeeds.{IsTaking, with_scan}
+use Rattle.input_state.specs.Callings.{Calling, NotCalling, Gathering, Stopped, Gathered, IsComplete, asks_where, asks_as, scan_asks, ended_asks, call_in}
+use Rattle.macro_call.specs.PlainScans.{first_by, first_scan, settled_scan}
+use Rattle.engine_state.specs.Calls.{brace_call, open_call}
+
+-- one that begins asks for a token
+first_settled : (b : Bool) (mode : ParMode) → (first_by b mode).braced ≡ false
+first_settled true mode = refl
+first_settled false mode = refl
+
+pub first_asks : (name : Name) (text : List Token) (mode : ParMode) → call_in (Gathering name (first_scan text mode)) ≡ Some (open_call name)
+first_asks name text mode = ap (λ (b : Bool). asks_as name (asks_where b)) (first_settled (begins_with_place text) mode)
+
+not_gathered : (b : Bool) → asks_where b ≡ ask.Gathered → ⊥
+not_gathered true is = cc
+not_gathered false is = cc
+
+-- it has its arguments
+pub complete_at : (k : Calling) (name : Name) → call_in k ≡ Some (record { name = name; ask = ask.Gathered }) → IsComplete k
+complete_at NotCalling name is = absurd cc
+complete_at (Gathering n scan) name is = not_gathered scan.braced (ap (λ (c : Call). c.ask) (same_Some (record { name = n; ask = scan_asks scan }) (record { name = name; ask = ask.Gathered }) is))
+complete_at (Stopped n why scan) name is = ended_so why (ap (λ (c : Call). c.ask) (same_Some (record { name = n; ask = ended_asks why }) (record { name = name; ask = ask.Gathered }) is)) where
+  ended_so : (why : CallEnd) → ended_asks why ≡ ask.Gathered → ⊥
+  ended_so end.Mismatch is = cc
+  ended_so (end.ParEnded silent) is = cc
+  ended_so end.Full is = cc
+complete_at (Gathered n args) name is = tt
+
+-- it takes tokens
+pub braced_at : (k : Calling) (name : Name) → call_in k ≡ Some (brace_call name) → IsTaking k
+braced_at NotCalling name is = absurd cc
+braced_at (Gathering n scan) name is = tt
+braced_at (Stopped n why scan) name is = ended_so why (ap (λ (c : Call). c.ask) (same_Some (record { name = n; ask = ended_asks why }) (brace_call name) is)) where
+  ended_so : (why : CallEnd) → ended_asks why ≡ ask.ExtraBrace → ⊥
+  ended_so end.Mismatch is = cc
+  ended_so (end.ParEnded silent) is = cc
+  ended_so end.Full is = cc
+braced_at (Gathered n args) name is = let no : ask.Gathered ≡ ask.ExtraBrace = ap (λ (c : Call). c.ask) (same_Some (record { name = n; ask = ask.Gathered }) (brace_call name) is) in cc
+
+-- and asks for one once the brace is settled
+pub settled_asks : (name : Name) (k : Calling) → call_in k ≡ Some (brace_call name) → call_in (with_scan settled_scan k) ≡ Some (open_call name)
+settled_asks name NotCalling is = absurd cc
+settled_asks name (Gathering n scan) is = ap (λ (c : Call). Some (open_call c.name)) (same_Some (record { name = n; ask = scan_asks scan }) (brace_call name) is)
+settled_asks name (Stopped n why scan) is = absurd (braced_at (Stopped n why scan) name is)
+settled_asks name (Gathered n args) is = absurd (let no : ask.Gathered ≡ ask.ExtraBrace = ap (λ (c : Call). c.ask) (same_Some (record { name = n; ask = ask.Gathered }) (brace_call name) is) in cc)
