@@ -31,7 +31,12 @@ impl Innermost {
     {
         match engine.input.call() {
             Some(call) => *self = Innermost::Call(call),
-            None => *self = Innermost::Frame(engine.readings.ask()),
+            // Each case by itself: the frequent ones are a few bytes, and the answer isn't copied whole.
+            None => match engine.readings.ask() {
+                None => *self = Innermost::Frame(None),
+                Some(Ask::More(want)) => *self = Innermost::Frame(Some(Ask::More(want))),
+                ask => *self = Innermost::Frame(ask),
+            },
         }
     }
 
