@@ -1,5 +1,5 @@
 // The files, read on where the next rule needs their bytes.
-ghost use Rattle.std.specs.Prelude.{◌≡◌, ◌<◌, true, List, IfErr, OnErr, OnOk, IsTrue, MatchBool};
+ghost use Rattle.std.specs.Prelude.{◌≡◌, ◌<◌, true, List, IfErr, OnErr, OnOk, IsTrue, MatchBool, ◌&&◌, not, is_some};
 ghost use Rattle.tex_defs.specs.Places.{Rose};
 ghost use Rattle.world_io.specs.declared.traits.Fault.TheVariants.{Failed, NoMemory};
 ghost use Rattle.line_reader.specs.Readers.{OpenReader, AreOpen, ids};
@@ -7,6 +7,7 @@ ghost use Rattle.engine_state.specs.Steps.{all_want, asked};
 ghost use Rattle.stomach.specs.Read.{ReadsTo, AreTied};
 ghost use Rattle.stomach.specs.Ahead.{IsGiven, Knows, Needs, needs_step, read_weight};
 ghost use Rattle.input_state.specs.Callings.{call_in};
+ghost use Rattle.input_state.specs.HeldLists.{has_item};
 
 use engine_state::Engine;
 use line_reader::Readers;
@@ -19,6 +20,7 @@ const WINDOW: usize = 256;
 #[inline(always)]
 pub fn has_token(engine: &Engine, wants: bool) -> bool
     requires { wants ≡ all_want (call_in engine.now.input.call) (asked engine.now) }
+    ensures is { result ≡ (has_item engine.now.input.pending.puts && not (is_some engine.now.input.pending.next) && wants) }
     ensures knows { IsTrue result → (rs : List OpenReader) → Knows engine.now rs }
     ensures step { IsTrue result → needs_step engine.now ≡ true }
 {
