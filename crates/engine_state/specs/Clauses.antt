@@ -1,5 +1,5 @@
 -- What contracts say of an engine and what has become of it, over any sizes, any world, and whatever it stands for.
-use Rattle.std.specs.Prelude.{◌≡◌, ◌≤◌, List, ◌∷◌, ◌++◌, Option, None, IsSome}
+use Rattle.std.specs.Prelude.{◌≡◌, ◌≤◌, Bool, List, ◌∷◌, ◌++◌, Option, Some, None, IsSome}
 use Rattle.tex_syntax.specs.declared.words.Want.{Want}
 use Rattle.tex_syntax.specs.declared.words.Outcome.{Outcome}
 use Rattle.tex_syntax.specs.declared.words.Outcome.TheVariants.{AtFatal}
@@ -7,7 +7,12 @@ use Rattle.tex_defs.specs.Places.{World}
 use Rattle.tex_defs.specs.declared.Fatal.TheVariants.{HundredErrors}
 use Rattle.tex_defs.specs.declared.Full.{Full}
 use Rattle.tex_defs.specs.declared.Sizes.{Sizes}
-use Rattle.plain_readings.specs.Readings.{Reading}
+use Rattle.plain_tokens.specs.Lex.{Lexeme}
+use Rattle.line_lexer.specs.declared.Lexed.{Lexed}
+use Rattle.input_state.specs.Reads.{IsLexeme}
+use Rattle.rows.specs.Readings.{Fed, Done}
+use Rattle.rows.specs.declared.words.Value.{Value}
+use Rattle.plain_readings.specs.Readings.{Reading, fed_with}
 use Rattle.plain_machine.specs.States.{State, Move, made}
 use Rattle.plain_machine.specs.Demands.{refusal}
 use Rattle.plain_machine.specs.Plan.{Page, reports_room}
@@ -19,9 +24,10 @@ use Rattle.engine_state.specs.declared.outcome.Ruled.{Ruled}
 use Rattle.engine_state.specs.Book.{Book, with_work}
 use Rattle.engine_state.specs.CutReadings.{CutsIn}
 use Rattle.engine_state.specs.Calls.{AllStand}
-use Rattle.engine_state.specs.Rules.{world_of, scanning_of, space_moves, Behind, Cuts, DoesOnward, Finds, Halts, Takes, Went}
+use Rattle.engine_state.specs.Rules.{world_of, enters_of, name_moves, onward_of, scanning_of, space_moves, Behind, Cuts, DoesOnward, Finds, Halts, Takes, Went}
+use Rattle.engine_state.specs.Steps.{asked}
 use Rattle.reading_frames.specs.declared.ask.Found.{Found}
-use Rattle.engine_state.specs.Stands.{Counts, IsSound, Stands, page_of, state_of}
+use Rattle.engine_state.specs.Stands.{Counts, IsSized, IsSound, Stands, page_of, state_of}
 
 -- The lists that locations and what is in front share are those of the book.
 abbrev pub HoldsLists : Sizes → Engine → Book → Type 0
@@ -30,6 +36,10 @@ HoldsLists sizes e book = IsSound sizes e book.number book.all_lists
 -- What held of the engine and a book, as that it stands for the book, still holds.
 abbrev pub Still : (Sizes → Engine → Book → Type 0) → (e e' : Engine) → Type 0
 Still Holds e e' = (sizes : Sizes) (book : Book) → Holds sizes e book → Holds sizes e' book
+
+-- By whatever sizes the engine was sized, it still is.
+abbrev pub StaysSized : (e e' : Engine) → Type 0
+StaysSized e e' = (sizes : Sizes) → IsSized sizes e → IsSized sizes e'
 
 -- THE SAME READINGS
 
@@ -42,6 +52,15 @@ MakesMoves Holds e e' moves = (sizes : Sizes) (w : World) (book : Book) → Hold
 abbrev pub CutsMoves : (Sizes → Engine → Book → Type 0) → (e e' : Engine) → (Page → List Move) → Broken → Type 0
 CutsMoves Holds e e' moves b = (sizes : Sizes) (w : World) (book : Book) (more : List Move) → Holds sizes e book →
     Cuts sizes (state_of e book) e' book w w (moves (page_of e book) ++ more) b
+
+-- Where this holds, the machine makes these moves, with nothing written, and the engine stands for what comes of them, with this book in its place.
+abbrev pub MakesMovesTo : (Sizes → Engine → Book → Type 0) → (e e' : Engine) → (Book → Book) → (Book → List Move) → Type 0
+MakesMovesTo Holds e e' to moves = (sizes : Sizes) (w : World) (book : Book) → Holds sizes e book →
+    Did sizes (state_of e book) (state_of e' (to book)) w w (moves book)
+
+-- Whatever the engine stands for, the machine makes these moves, with nothing written, and the engine stands for what comes of them.
+abbrev pub MakesAlways : (e e' : Engine) → List Move → Type 0
+MakesAlways e e' moves = (sizes : Sizes) (w : World) (book : Book) → Did sizes (state_of e book) (state_of e' book) w w moves
 
 -- Where no list is being made, the machine puts something in front by these moves, with nothing written, and the engine stands for what comes of them.
 abbrev pub PutsInFront : (e e' : Engine) → (Page → List Move) → Type 0
@@ -95,6 +114,11 @@ abbrev pub CutsAtReading : (e e' : Engine) → (Page → Reading → List Move) 
 CutsAtReading e e' moves b = (sizes : Sizes) (w : World) (book : Book) (r : Reading) (rs : List Reading) → Stands sizes e (with_work (r ∷ rs) book) →
     CutsIn sizes (state_of e (with_work (r ∷ rs) book)) e' w w (moves (page_of e book) r) b
 
+-- The innermost reading r is fed with this by these moves, with nothing written, and the engine stands for what comes of them.
+abbrev pub FeedsReading : (e e' : Engine) → Fed → (Reading → List Move) → Type 0
+FeedsReading e e' x moves = (sizes : Sizes) (w : World) (book : Book) (r : Reading) (rs : List Reading) → Stands sizes e (with_work (r ∷ rs) book) →
+    Did sizes (state_of e (with_work (r ∷ rs) book)) (state_of e' (with_work (fed_with x (r ∷ rs)) book)) w w (moves r)
+
 -- The machine makes these moves, without a step and with this written, and the rule ends so.
 abbrev pub GoesOnward : (e e' : Engine) → (before after : SinkTold) → (Page → List Move) → Ruled → Type 0
 GoesOnward e e' before after moves ruled = (sizes : Sizes) (f : FilesTold) (book : Book) → Stands sizes e book →
@@ -116,6 +140,12 @@ abbrev pub DoesWhere : {A : Type 0} → (Holds : Sizes → Engine → Book → T
     (e e' : Engine) → (before after : SinkTold) → (Book → List Move) → A → Type 0
 DoesWhere Holds Does e e' before after moves a = (sizes : Sizes) (f : FilesTold) (book : Book) → Holds sizes e book →
     Does sizes (state_of e book) e' book (world_of f before e) (world_of f after e') (moves book) a
+
+-- Where this holds, what is done by these moves, with nothing written, is as said.
+abbrev pub DoesSilently : {A : Type 0} → (Holds : Sizes → Engine → Book → Type 0) → (Does : Sizes → State → Engine → Book → World → World → List Move → A → Type 0) →
+    (e e' : Engine) → (Book → List Move) → A → Type 0
+DoesSilently Holds Does e e' moves a = (sizes : Sizes) (w : World) (book : Book) → Holds sizes e book →
+    Does sizes (state_of e book) e' book w w (moves book) a
 
 -- They are cut off.
 abbrev pub CutsWhere : (Holds : Sizes → Engine → Book → Type 0) → (e e' : Engine) → (before after : SinkTold) → (Book → List Move) → Broken → Type 0
@@ -161,6 +191,22 @@ ReportsSo Rep e e' before after = (sizes : Sizes) (f : FilesTold) (book : Book) 
 abbrev pub WhereSound : Engine → (Book → Type 0) → Type 0
 WhereSound e Says = (sizes : Sizes) (book : Book) → IsSound sizes e book.number book.all_lists → Says book
 
+-- A TOKEN THAT IS MET
+
+-- Where a token is wanted, for any x as this says, what is done by these moves, with this written, is as said.
+abbrev pub DoesWanted : {A : Type 0} → {X : Type 0} → (want : X → Option Want) → (Does : Sizes → Option Want → State → Engine → Book → World → World → List Move → A → Type 0) →
+    (e e' : Engine) → (before after : SinkTold) → (X → Book → List Move) → A → Type 0
+DoesWanted want Does e e' before after moves a = (sizes : Sizes) (f : FilesTold) (book : Book) (x : _) → Takes sizes (want x) e book →
+    Does sizes (want x) (state_of e book) e' book (world_of f before e) (world_of f after e') (moves x book) a
+
+-- For whatever wants a token and enters names so, what is done with the character or the name that a line gave, with this written, is as said.
+abbrev pub DoesLexeme : {A : Type 0} → (enters : Bool) → Lexed → (Does : Sizes → Option Want → State → Engine → Book → World → World → List Move → A → Type 0) →
+    (e e' : Engine) → (before after : SinkTold) → A → Type 0
+DoesLexeme enters lexed Does e e' before after a = (sizes : Sizes) (f : FilesTold) (book : Book) (want : Option Want) (x : Lexeme) →
+    enters ≡ enters_of want → IsLexeme e.input.buffer lexed x → Takes sizes want e book →
+    Does sizes want (state_of e book) e' book (world_of f before e) (world_of f after e')
+    (name_moves (page_of e book) (scanning_of e book.work) (enters_of want) (onward_of (page_of e book) want book.work) x) a
+
 -- CHECKS
 
 -- This is scanned where a token is wanted, by a reading.
@@ -189,13 +235,22 @@ CutsReading e e' before after moves b = (sizes : Sizes) (f : FilesTold) (book : 
 -- THE STACK
 
 -- The engine stands for what becomes of the open readings.
-abbrev pub StandsFor : (e e' : Engine) → (List Reading → List Reading) → Type 0
-StandsFor e e' work = (sizes : Sizes) (book : Book) → Stands sizes e book → Stands sizes e' (with_work (work book.work) book)
+abbrev pub StandsFor : (e e' : Engine) → (Page → List Reading → List Reading) → Type 0
+StandsFor e e' work = (sizes : Sizes) (book : Book) → Stands sizes e book → Stands sizes e' (with_work (work (page_of e book) book.work) book)
 
 -- It is what this move makes of them.
 abbrev pub IsMadeBy : (e e' : Engine) → (Page → Move) → (Page → List Reading → List Reading) → Type 0
 IsMadeBy e e' m work = (sizes : Sizes) (book : Book) → Stands sizes e book →
     made (m (page_of e book)) (state_of e book) ≡ state_of e' (with_work (work (page_of e book) book.work) book)
+
+-- This is so wherever the engine stands for a reading r that is open above rs.
+abbrev pub WhereOpen : Engine → (Sizes → Book → Reading → List Reading → Type 0) → Type 0
+WhereOpen e Says = (sizes : Sizes) (book : Book) (r : Reading) (rs : List Reading) → Stands sizes e (with_work (r ∷ rs) book) → Says sizes book r rs
+
+-- This is so where, besides, r is to end with this value.
+abbrev pub WhereDone : Engine → Value → (Sizes → Book → Reading → List Reading → Type 0) → Type 0
+WhereDone e value Says = (sizes : Sizes) (book : Book) (r : Reading) (rs : List Reading) (back : Bool) → Stands sizes e (with_work (r ∷ rs) book) →
+    asked e ≡ Some (Done value back) → Says sizes book r rs
 
 -- Why there is no room for this move, or that there is.
 abbrev pub RefusedAs : Engine → Move → Option Full → Type 0

@@ -2,19 +2,15 @@
 // *The TeXbook*, chapter 20; *TeX: The Program*, part 24 (`check_outer_validity`).
 ghost use Rattle.std.specs.Prelude.{◌≡◌, ◌+◌, [], ◌∷◌, ◌++◌, IfOk, IfErr, IfSome, OnOk, OnErr, MatchBool, Option, Some, None, true, false};
 ghost use Rattle.tex_syntax.specs.declared.words.Outcome.TheVariants.{AtFatal};
-ghost use Rattle.tex_syntax.specs.declared.words.Want.{Want};
 ghost use Rattle.tex_syntax.specs.declared.words.Scanned.TheVariants as scanned;
 ghost use Rattle.tex_defs.specs.Places.{Transcript};
-ghost use Rattle.tex_defs.specs.declared.Sizes.{Sizes};
 ghost use Rattle.plain_machine.specs.States.{Written};
 ghost use Rattle.plain_machine.specs.Plan.{put_one, reported, checked, check_noted, incomplete, inserted_at};
-ghost use Rattle.world_io.specs.Contents.{FilesTold};
-ghost use Rattle.engine_state.specs.Book.{Book};
 ghost use Rattle.engine_state.specs.CutReadings.{CutsIn};
 ghost use Rattle.engine_state.specs.Begins.{away_moves, check_report};
-ghost use Rattle.engine_state.specs.Clauses.{WritesOut, CutsWriting, EndsAtHundredth, CutsReport, CutsReading, CutsWhere, DoesWhere, EndsReading, GoesBehind, ScansNothing, ScansThis};
-ghost use Rattle.engine_state.specs.Stands.{SameFrames, SameReadings, OnlyColumn, state_of, page_of};
-ghost use Rattle.engine_state.specs.Rules.{world_of, onward_of, token_moves, space_moves, scanning_of, Takes, DoesOnward, away_text, check_moves, IsScanned, IsFound, IsListed, Wants, Meets};
+ghost use Rattle.engine_state.specs.Clauses.{WritesOut, CutsWriting, EndsAtHundredth, CutsReport, CutsReading, CutsWhere, DoesWanted, DoesWhere, EndsReading, GoesBehind, ScansNothing, ScansThis};
+ghost use Rattle.engine_state.specs.Stands.{SameFrames, SameReadings, OnlyColumn, page_of};
+ghost use Rattle.engine_state.specs.Rules.{onward_of, token_moves, space_moves, scanning_of, DoesOnward, away_text, check_moves, IsScanned, IsFound, IsListed, Wants, Meets};
 ghost use Rattle.engine_state.specs.declared.check.Check.TheVariants.{Forbidden};
 ghost use Rattle.engine_state.specs.Steps.{IsFree, IsHalted, weight};
 ghost use Rattle.input_state.specs.CallFeeds.{with_scan};
@@ -28,7 +24,7 @@ use crate::outcome::Ruled;
 use input_state::Call;
 use macro_call::CallAsk;
 use reading_frames::Found;
-use tex_defs::{Fatal, Frozen, Name, Seen, Sizes, Token};
+use tex_defs::{Fatal, Frozen, Name, Seen, Token};
 use tex_syntax::{Outcome, Report, Scanned};
 use world_io::Sink;
 
@@ -226,8 +222,7 @@ impl Engine {
     ) -> Result<Option<Seen>, Broken>
         requires idle { self.old.input.making ≡ None }
         requires asked { IsFound found self.old }
-        ensures rule { IfOk result (λ met. (sizes : Sizes) (f : FilesTold) (book : Book) (want : Want) → Takes sizes (Some want) self.old book →
-            Meets sizes (Some want) (state_of self.old book) self.new book (world_of f (S.told out.old) self.old) (world_of f (S.told out.new) self.new) (put_one token ++ check_moves self.old (page_of self.old book) Forbidden found (space_moves (page_of self.old book) (Some want) book.work)) met) }
+        ensures rule { IfOk result (DoesWanted Some Meets self.old self.new (S.told out.old) (S.told out.new) (λ want book. put_one token ++ check_moves self.old (page_of self.old book) Forbidden found (space_moves (page_of self.old book) (Some want) book.work))) }
         ensures err { IfErr result (CutsReading self.old self.new (S.told out.old) (S.told out.new) (λ p rest. put_one token ++ check_moves self.old p Forbidden found rest)) }
         ensures halts { IfOk result (λ met. met ≡ None → SameFrames self.old self.new) }
         ensures readings { SameReadings self.old self.new }
@@ -249,10 +244,8 @@ impl Engine {
         token: Token,
     ) -> Result<Option<Seen>, Broken>
         requires idle { self.old.input.making ≡ None }
-        ensures rule { IfOk result (λ met. (sizes : Sizes) (f : FilesTold) (book : Book) (want : Option Want) → Takes sizes want self.old book →
-            Meets sizes want (state_of self.old book) self.new book (world_of f (S.told out.old) self.old) (world_of f (S.told out.new) self.new) (token_moves (page_of self.old book) (scanning_of self.old book.work) (onward_of (page_of self.old book) want book.work) token) met) }
-        ensures err { IfErr result (λ b. (sizes : Sizes) (f : FilesTold) (book : Book) (want : Option Want) → Takes sizes want self.old book →
-            CutsIn sizes (state_of self.old book) self.new (world_of f (S.told out.old) self.old) (world_of f (S.told out.new) self.new) (token_moves (page_of self.old book) (scanning_of self.old book.work) (onward_of (page_of self.old book) want book.work) token) b) }
+        ensures rule { IfOk result (DoesWanted (λ want. want) Meets self.old self.new (S.told out.old) (S.told out.new) (λ want book. token_moves (page_of self.old book) (scanning_of self.old book.work) (onward_of (page_of self.old book) want book.work) token)) }
+        ensures err { IfErr result (DoesWanted (λ want. want) (λ sizes _ s e _. CutsIn sizes s e) self.old self.new (S.told out.old) (S.told out.new) (λ want book. token_moves (page_of self.old book) (scanning_of self.old book.work) (onward_of (page_of self.old book) want book.work) token)) }
         ensures halts { IfOk result (λ met. met ≡ None → SameFrames self.old self.new) }
         ensures readings { SameReadings self.old self.new }
         ensures idle { OnOk result (self.new.input.making ≡ None) }

@@ -1,23 +1,19 @@
 // The open conditionals.
 ghost use Rattle.std.specs.Prelude.{◌≡◌, [], ◌∷◌, IfErr, OnOk};
-ghost use Rattle.tex_defs.specs.Places.{World};
-ghost use Rattle.tex_defs.specs.declared.Sizes.{Sizes};
 ghost use Rattle.conditionals.specs.Open.{above_sought, limit_of};
 ghost use Rattle.conditionals.specs.Same as same;
 ghost use Rattle.plain_tokens.specs.Arguments.{are_same};
 ghost use Rattle.plain_machine.specs.States.{ConditionOpened, LimitSet, ConditionClosed};
 ghost use Rattle.plain_machine.specs.Plan.{conditionals_left, tokens_meant};
-ghost use Rattle.plain_machine.specs.Does.{Did};
-ghost use Rattle.engine_state.specs.Book.{Book};
-ghost use Rattle.engine_state.specs.Clauses.{Still, MakesMoves, CutsMoves, WritesOut, CutsWriting, WhereSound};
-ghost use Rattle.engine_state.specs.Stands.{Stands, IsSized, OnlyColumn, SameFrames, state_of, page_of, own_style};
+ghost use Rattle.engine_state.specs.Clauses.{Still, MakesAlways, MakesMoves, CutsMoves, WritesOut, CutsWriting, WhereSound};
+ghost use Rattle.engine_state.specs.Stands.{Stands, IsSized, OnlyColumn, SameFrames, page_of, own_style};
 ghost use Rattle.engine_state.specs.declared.broken.Broken.TheVariants as broken;
 
 use crate::broken::Broken;
 use crate::engine::Engine;
 use crate::views::view_of;
 use conditionals::{Aim, Conditional, Limit, same_meaning};
-use tex_defs::{Full, Seen, Sizes};
+use tex_defs::{Full, Seen};
 use transcript::write_end_in_conditional;
 use world_io::Sink;
 
@@ -40,7 +36,7 @@ impl Engine {
 
     /// The innermost conditional whose test is under way goes on with this limit. *TeX: The Program*, part 28 (`change_if_limit`).
     pub fn set_limit(&mut self, limit: Limit)
-        ensures did { (sizes : Sizes) (w : World) (book : Book) → Did sizes (state_of self.old book) (state_of self.new book) w w (LimitSet limit ∷ []) }
+        ensures did { MakesAlways self.old self.new (LimitSet limit ∷ []) }
         ensures stands { Still Stands self.old self.new }
         ensures frames { SameFrames self.old self.new }
         ensures only { self.new ≡ record self.old { conditionals = self.new.conditionals } }
@@ -50,7 +46,7 @@ impl Engine {
 
     /// The innermost conditional closes, if one is open. *TeX: The Program*, part 28 ("Pop the condition stack").
     pub fn close_conditional(&mut self)
-        ensures did { (sizes : Sizes) (w : World) (book : Book) → Did sizes (state_of self.old book) (state_of self.new book) w w (ConditionClosed ∷ []) }
+        ensures did { MakesAlways self.old self.new (ConditionClosed ∷ []) }
         ensures stands { Still Stands self.old self.new }
         ensures frames { SameFrames self.old self.new }
         ensures only { self.new ≡ record self.old { conditionals = self.new.conditionals } }

@@ -1,9 +1,7 @@
 // Files that are begun, that are to end, and that aren't held. *TeX: The Program*, parts 23 and 29.
 ghost use Rattle.std.specs.Prelude.{◌≡◌, ◌≤◌, ◌+◌, [], ◌∷◌, List, IfOk, IfErr, IsSome, OnOk, Some, None, true};
 ghost use Rattle.tex_syntax.specs.declared.words.Outcome.TheVariants.{AtFatal};
-ghost use Rattle.tex_defs.specs.Places.{World};
 ghost use Rattle.tex_defs.specs.declared.Fatal.{Fatal};
-ghost use Rattle.tex_defs.specs.declared.Sizes.{Sizes};
 ghost use Rattle.plain_tokens.specs.Pending.{end_token_lists, with_begun, with_end, ending};
 ghost use Rattle.plain_tokens.specs.Tables.{open_lines};
 ghost use Rattle.input_state.specs.Stored.{spelt};
@@ -11,17 +9,15 @@ ghost use Rattle.equivalents.specs.Parameters.{end_of_line};
 ghost use Rattle.plain_machine.specs.States.{FileEnds};
 ghost use Rattle.plain_machine.specs.Plan.{ruled, unless_found};
 ghost use Rattle.engine_state.specs.Begins.{no_file_end};
-ghost use Rattle.plain_machine.specs.Does.{Did};
-ghost use Rattle.engine_state.specs.Book.{Book};
 ghost use Rattle.engine_state.specs.Calls.{AllStand};
-ghost use Rattle.engine_state.specs.Clauses.{Still, CutsWithRoom, EndsRun};
-ghost use Rattle.engine_state.specs.Stands.{IsSound, SameFrames, state_of};
+ghost use Rattle.engine_state.specs.Clauses.{Still, HoldsLists, MakesAlways, MakesMovesTo, DoesSilently, CutsWithRoom, EndsRun};
+ghost use Rattle.engine_state.specs.Stands.{SameFrames, state_of};
 ghost use Rattle.engine_state.specs.Rules.{counted, Cuts};
 
 use crate::broken::Broken;
 use crate::engine::Engine;
 use crate::views::view_of;
-use tex_defs::{Fatal, Sizes};
+use tex_defs::Fatal;
 use tex_syntax::Outcome;
 use transcript::{no_file_lines, write_missing_file};
 use world_io::Sink;
@@ -33,8 +29,8 @@ impl Engine {
     /// The line has no room in the buffer, or else the file's level none on the input stack; nothing has changed but that the finished lists in front have gone.
     pub fn begin_file(&mut self) -> Result<(), Broken>
         requires opened { IsSome self.old.input.pending.next }
-        ensures did { OnOk result ((sizes : Sizes) (w : World) (book : Book) → IsSound sizes self.old book.number book.all_lists → Did sizes (state_of self.old book) (state_of self.new book) w w (ruled (state_of self.old book) self.old.input.pending.next)) }
-        ensures err { IfErr result (λ b. (sizes : Sizes) (w : World) (book : Book) → IsSound sizes self.old book.number book.all_lists → Cuts sizes (state_of self.old book) self.new book w w (ruled (state_of self.old book) self.old.input.pending.next) b) }
+        ensures did { OnOk result (MakesMovesTo HoldsLists self.old self.new (λ book. book) (λ book. ruled (state_of self.old book) self.old.input.pending.next)) }
+        ensures err { IfErr result (DoesSilently HoldsLists Cuts self.old self.new (λ book. ruled (state_of self.old book) self.old.input.pending.next)) }
         ensures stands { Still AllStand self.old self.new }
         ensures pending { OnOk result (self.new.input.pending ≡ with_end (end_of_line self.old.input.groups.now) (with_begun (end_token_lists self.old.input.pending))) }
         ensures frames { SameFrames self.old self.new }
@@ -47,7 +43,7 @@ impl Engine {
 
     /// The innermost file is to end behind its present line. *The TeXbook*, chapter 20 (`\\endinput`).
     pub fn end_input(&mut self)
-        ensures did { (sizes : Sizes) (w : World) (book : Book) → Did sizes (state_of self.old book) (state_of self.new book) w w (FileEnds ∷ []) }
+        ensures did { MakesAlways self.old self.new (FileEnds ∷ []) }
         ensures stands { Still AllStand self.old self.new }
         ensures only { self.new ≡ record self.old { input = record self.old.input { pending = ending self.old.input.pending } } }
     {

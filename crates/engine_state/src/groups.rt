@@ -1,21 +1,17 @@
 // Groups opened and closed, and the tokens that come behind them and behind assignments.
 ghost use Rattle.std.specs.Prelude.{◌≡◌, [], ◌∷◌, IfErr, OnOk, Some, None};
-ghost use Rattle.tex_defs.specs.Places.{World};
-ghost use Rattle.tex_defs.specs.declared.Sizes.{Sizes};
 ghost use Rattle.equivalents.specs.Groups.{kind_of};
 ghost use Rattle.plain_machine.specs.States.{GroupOpened, KeptForAssignment};
 ghost use Rattle.plain_machine.specs.Plan.{put_each, group_ended, kept_for_group, behind_assignment};
-ghost use Rattle.plain_machine.specs.Does.{Did};
-ghost use Rattle.engine_state.specs.Book.{Book};
-ghost use Rattle.engine_state.specs.Clauses.{Still, HoldsLists, MakesMoves, CutsMoves};
-ghost use Rattle.engine_state.specs.Stands.{Stands, Counts, IsSound, SameStore, SameOthers, SameFrames, state_of, page_of};
+ghost use Rattle.engine_state.specs.Clauses.{Still, HoldsLists, MakesAlways, MakesMoves, CutsMoves, DoesSilently};
+ghost use Rattle.engine_state.specs.Stands.{Stands, Counts, SameStore, SameOthers, SameFrames, page_of};
 ghost use Rattle.engine_state.specs.Rules.{Cuts};
 ghost use Rattle.engine_state.specs.Steps.{pending_weight};
 
 use crate::broken::Broken;
 use crate::engine::Engine;
 use save_stack::GroupKind;
-use tex_defs::{Sizes, Token};
+use tex_defs::Token;
 
 impl Engine {
     /// Opens a group. *The TeXbook*, chapter 24; *TeX: The Program*, part 19 (`new_save_level`).
@@ -24,7 +20,7 @@ impl Engine {
     /// The save stack is full, or else as many groups are open as may be; nothing has changed.
     pub fn open_group(&mut self, kind: GroupKind) -> Result<(), Broken>
         ensures did { OnOk result (MakesMoves HoldsLists self.old self.new (λ _. GroupOpened kind ∷ [])) }
-        ensures err { IfErr result (λ b. (sizes : Sizes) (w : World) (book : Book) → IsSound sizes self.old book.number book.all_lists → Cuts sizes (state_of self.old book) self.new book w w (GroupOpened kind ∷ []) b) }
+        ensures err { IfErr result (DoesSilently HoldsLists Cuts self.old self.new (λ _. GroupOpened kind ∷ [])) }
         ensures stands { OnOk result (Still Stands self.old self.new) }
         ensures frames { SameFrames self.old self.new }
         ensures only { self.new ≡ record self.old { input = record self.old.input { groups = self.new.input.groups } } }
@@ -56,7 +52,7 @@ impl Engine {
         requires idle { self.old.input.making ≡ None }
         requires closing { self.old.input.ending ≡ None → ⊥ }
         ensures did { OnOk result (MakesMoves Counts self.old self.new (λ _. put_each self.old.input.closing)) }
-        ensures err { IfErr result (λ b. (sizes : Sizes) (w : World) (book : Book) → Counts sizes self.old book → Cuts sizes (state_of self.old book) self.new book w w (put_each self.old.input.closing) b) }
+        ensures err { IfErr result (DoesSilently Counts Cuts self.old self.new (λ _. put_each self.old.input.closing)) }
         ensures frames { SameFrames self.old self.new }
         ensures others { SameOthers self.old self.new }
         ensures sound { Still HoldsLists self.old self.new }
@@ -78,7 +74,7 @@ impl Engine {
         requires idle { self.old.input.making ≡ None }
         requires open { kind_of self.old.input.groups ≡ None → ⊥ }
         ensures did { OnOk result (MakesMoves Stands self.old self.new group_ended) }
-        ensures err { IfErr result (λ b. (sizes : Sizes) (w : World) (book : Book) → Stands sizes self.old book → Cuts sizes (state_of self.old book) self.new book w w (group_ended (page_of self.old book)) b) }
+        ensures err { IfErr result (DoesSilently Stands Cuts self.old self.new (λ book. group_ended (page_of self.old book))) }
         ensures stands { OnOk result (Still Stands self.old self.new) }
         ensures frames { SameFrames self.old self.new }
         ensures others { SameOthers self.old self.new }
@@ -96,7 +92,7 @@ impl Engine {
     /// Keeps the token that comes behind the next assignment. *The TeXbook*, chapter 24 (`\afterassignment`); *TeX: The Program*, part 49
     /// (`after_token`).
     pub fn keep_after(&mut self, token: Token)
-        ensures did { (sizes : Sizes) (w : World) (book : Book) → Did sizes (state_of self.old book) (state_of self.new book) w w (KeptForAssignment (Some token) ∷ []) }
+        ensures did { MakesAlways self.old self.new (KeptForAssignment (Some token) ∷ []) }
         ensures after { self.new ≡ record self.old { after = Some token } }
     {
         self.after = Some(token);

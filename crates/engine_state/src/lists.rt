@@ -1,23 +1,20 @@
 // The lists of locations, put in front or copied.
 ghost use Rattle.std.specs.Prelude.{◌≡◌, ◌∷◌, IfErr, OnOk, true, false};
-ghost use Rattle.tex_defs.specs.Places.{World};
-ghost use Rattle.tex_defs.specs.declared.Sizes.{Sizes};
 ghost use Rattle.equivalents.specs.Groups.{IsLocation};
 ghost use Rattle.plain_readings.specs.Readings.{Reading};
 ghost use Rattle.input_state.specs.Stored.{KeepsShared};
 ghost use Rattle.plain_machine.specs.Plan.{list_given, list_number};
-ghost use Rattle.plain_machine.specs.Does.{Did};
 ghost use Rattle.engine_state.specs.Book.{Book, with_work};
-ghost use Rattle.engine_state.specs.Clauses.{Still, HoldsLists, MakesMoves, CutsMoves, CutsFree};
-ghost use Rattle.engine_state.specs.Lists.{Copies, with_list};
-ghost use Rattle.engine_state.specs.Stands.{Stands, SameFrames, state_of, page_of};
+ghost use Rattle.engine_state.specs.Clauses.{Still, HoldsLists, MakesMoves, MakesMovesTo, CutsMoves, CutsFree, StandsFor};
+ghost use Rattle.engine_state.specs.Lists.{Copies, fed_list, location_list, with_list};
+ghost use Rattle.engine_state.specs.Stands.{Stands, SameFrames, page_of};
 ghost use Rattle.engine_state.specs.Steps.{pending_weight};
 ghost use Rattle.engine_state.specs.declared.broken.Broken.TheVariants as broken;
 
 use crate::broken::Broken;
 use crate::engine::Engine;
 use equivalents::Loc;
-use tex_defs::{Full, Sizes};
+use tex_defs::Full;
 
 impl Engine {
     /// Puts the list that stands at a location in front, once the finished lists in front have gone: it is shared, not copied. Where none
@@ -47,8 +44,8 @@ impl Engine {
     /// The main memory is full before one of them: those in front of it are there.
     pub fn copy_list(&mut self, loc: Loc) -> Result<(), Full>
         requires there { IsLocation self.old.input.groups loc }
-        ensures stands { OnOk result (Copies self.old → (sizes : Sizes) (book : Book) → Stands sizes self.old book → Stands sizes self.new (with_list self.old loc book)) }
-        ensures did { OnOk result (Copies self.old → (sizes : Sizes) (w : World) (book : Book) → Stands sizes self.old book → Did sizes (state_of self.old book) (state_of self.new (with_list self.old loc book)) w w (list_given (page_of self.old book) true (list_number (page_of self.old book) loc))) }
+        ensures stands { OnOk result (Copies self.old → StandsFor self.old self.new (λ _. fed_list (location_list self.old loc))) }
+        ensures did { OnOk result (Copies self.old → MakesMovesTo Stands self.old self.new (with_list self.old loc) (λ book. list_given (page_of self.old book) true (list_number (page_of self.old book) loc))) }
         ensures refused { IfErr result (λ full. Copies self.old → CutsFree self.old self.new (λ page. list_given page true (list_number page loc)) (broken.Full full)) }
         ensures only { self.new ≡ record self.old { input = record self.old.input { builds = self.new.input.builds; lists = self.new.input.lists } } }
         ensures keeps { KeepsShared self.old.input self.new.input }

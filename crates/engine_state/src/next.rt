@@ -1,17 +1,15 @@
 // The next token.
 ghost use Rattle.std.specs.Prelude.{◌≡◌, ◌<◌, IfOk, IfErr, OnOk, OnErr, MatchResult, Option, None, false, true};
-ghost use Rattle.tex_syntax.specs.declared.words.Want.{Want};
 ghost use Rattle.tex_defs.specs.declared.Sizes.{Sizes};
 ghost use Rattle.plain_tokens.specs.Pending.{pulled};
 ghost use Rattle.plain_tokens.specs.Lex.{Lexeme};
-ghost use Rattle.world_io.specs.Contents.{FilesTold};
 ghost use Rattle.input_state.specs.Reads.{gives_step, IsLexeme};
 ghost use Rattle.plain_tokens.specs.Lookup.{token_of, new_name};
-ghost use Rattle.engine_state.specs.Book.{Book};
+ghost use Rattle.engine_state.specs.Clauses.{DoesLexeme};
 ghost use Rattle.engine_state.specs.CutReadings.{CutsIn};
 ghost use Rattle.engine_state.specs.Entering.{with_names, EntryFits, EntryRefused};
-ghost use Rattle.engine_state.specs.Stands.{IsSized, SameFrames, SameReadings, state_of, page_of};
-ghost use Rattle.engine_state.specs.Rules.{world_of, onward_of, enters_of, name_moves, scanning_of, Takes, Meets};
+ghost use Rattle.engine_state.specs.Stands.{IsSized, SameFrames, SameReadings};
+ghost use Rattle.engine_state.specs.Rules.{Meets};
 ghost use Rattle.engine_state.specs.OneRule.{ReadsNext, CutsNext};
 ghost use Rattle.engine_state.specs.Steps.{weight, IsSkipped, IsOver, NextStepsIf, ends_run, next_met, next_free};
 
@@ -53,10 +51,8 @@ impl Engine {
         lexed: Lexed,
     ) -> Result<Option<Seen>, Broken>
         requires idle { self.old.input.making ≡ None }
-        ensures rule { IfOk result (λ met. (sizes : Sizes) (f : FilesTold) (book : Book) (want : Option Want) (x : Lexeme) → enters ≡ enters_of want → IsLexeme self.old.input.buffer lexed x → Takes sizes want self.old book →
-            Meets sizes want (state_of self.old book) self.new book (world_of f (S.told out.old) self.old) (world_of f (S.told out.new) self.new) (name_moves (page_of self.old book) (scanning_of self.old book.work) (enters_of want) (onward_of (page_of self.old book) want book.work) x) met) }
-        ensures err { IfErr result (λ b. (sizes : Sizes) (f : FilesTold) (book : Book) (want : Option Want) (x : Lexeme) → enters ≡ enters_of want → IsLexeme self.old.input.buffer lexed x → Takes sizes want self.old book →
-            CutsIn sizes (state_of self.old book) self.new (world_of f (S.told out.old) self.old) (world_of f (S.told out.new) self.new) (name_moves (page_of self.old book) (scanning_of self.old book.work) (enters_of want) (onward_of (page_of self.old book) want book.work) x) b) }
+        ensures rule { IfOk result (DoesLexeme enters lexed Meets self.old self.new (S.told out.old) (S.told out.new)) }
+        ensures err { IfErr result (DoesLexeme enters lexed (λ sizes _ s e _. CutsIn sizes s e) self.old self.new (S.told out.old) (S.told out.new)) }
         ensures halts { IfOk result (λ met. met ≡ None → SameFrames self.old self.new) }
         ensures readings { SameReadings self.old self.new }
         ensures idle { OnOk result (self.new.input.making ≡ None) }

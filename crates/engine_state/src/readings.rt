@@ -1,12 +1,10 @@
 // The open readings: frames, and the lists that they hold.
 ghost use Rattle.std.specs.Prelude.{◌≡◌, ◌<◌, ◌≤◌, ◌+◌, ◌-◌, ◌^◌, List, [], ◌∷◌, length, drop, IfErr, OnOk, OnErr, Some, None, IsSome, MatchBool};
-ghost use Rattle.tex_defs.specs.Places.{World};
-ghost use Rattle.tex_defs.specs.declared.Sizes.{Sizes};
 ghost use Rattle.equivalents.specs.Groups.{IsLocation};
 ghost use Rattle.equivalents.specs.Locations.{value_seen};
 ghost use Rattle.equivalents.specs.Tables.{get};
-ghost use Rattle.rows.specs.Readings.{Tok, Told, Fetched, Val, Done, Fetches};
-ghost use Rattle.plain_readings.specs.Readings.{Reading, fed_with, opened, opened_with, lists};
+ghost use Rattle.rows.specs.Readings.{Tok, Told, Fetched, Val, Fetches};
+ghost use Rattle.plain_readings.specs.Readings.{fed_with, opened, opened_with, lists};
 ghost use Rattle.plain_readings.specs.Weights.{value_frame, act_frame, value_weight, act_weight};
 ghost use Rattle.plain_tokens.specs.Tables.{memory, refused};
 ghost use Rattle.reading_frames.specs.Views.{kind_of, has_no_token, on_top};
@@ -18,13 +16,11 @@ ghost use Rattle.reading_frames.specs.Weights.{frames_weight, opening_frame, inn
 ghost use Rattle.reading_frames.specs.Stack.{asks_in, innermost_groups};
 ghost use Rattle.plain_machine.specs.States.{Begun, BegunWith, Closed, Ended, Feeds, made};
 ghost use Rattle.plain_machine.specs.Plan.{noting, value_tokens, feeding};
-ghost use Rattle.plain_machine.specs.Does.{Did};
-ghost use Rattle.engine_state.specs.Book.{Book, with_work};
-ghost use Rattle.engine_state.specs.Clauses.{CutsAtReading, IsMadeBy, RefusedAs, StandsFor};
+ghost use Rattle.engine_state.specs.Book.{with_work};
+ghost use Rattle.engine_state.specs.Clauses.{CutsAtReading, FeedsReading, IsMadeBy, RefusedAs, StandsFor, WhereDone, WhereOpen, WhereSound};
 ghost use Rattle.engine_state.specs.CutReadings.{with_token};
 ghost use Rattle.engine_state.specs.Feeding.{HasTop, IsKept, TokensFit, TokensCut, with_tokens};
-ghost use Rattle.engine_state.specs.Stands.{Stands, IsSound, SameBut, state_of, page_of, depth, depth_full};
-ghost use Rattle.engine_state.specs.Rules.{feeds_of};
+ghost use Rattle.engine_state.specs.Stands.{Stands, SameBut, state_of, depth, depth_full};
 ghost use Rattle.engine_state.specs.Steps.{asked};
 ghost use Rattle.engine_state.specs.declared.broken.Broken.TheVariants as broken;
 
@@ -32,7 +28,7 @@ use crate::engine::Engine;
 use equivalents::Loc;
 use reading_frames::{Frame, Grown, Opening};
 use rows::{Kind, Value};
-use tex_defs::{Full, Seen, Sizes, Table, Token};
+use tex_defs::{Full, Seen, Table, Token};
 
 /// The words of the list that a reading has from the beginning, if it has one.
 fn list_need(opening: Opening) -> u32
@@ -85,7 +81,7 @@ impl Engine {
     /// # Errors
     /// There is no room for one more reading, or for its list; nothing has changed.
     pub fn begin(&mut self, opening: Opening) -> Result<(), Full>
-        ensures stands { OnOk result (StandsFor self.old self.new (opened (kind_of opening))) }
+        ensures stands { OnOk result (StandsFor self.old self.new (λ _. opened (kind_of opening))) }
         ensures state { OnOk result (IsMadeBy self.old self.new (λ _. Begun (kind_of opening)) (λ _ work. opened (kind_of opening) work)) }
         ensures fits { OnOk result (RefusedAs self.old (Begun (kind_of opening)) None) }
         ensures refused { IfErr result (λ full. RefusedAs self.old (Begun (kind_of opening)) (Some full)) }
@@ -114,7 +110,7 @@ impl Engine {
     /// # Errors
     /// There is no room for one more reading, or for its list; nothing has changed.
     pub fn begin_with(&mut self, opening: Opening) -> Result<(), Full>
-        ensures stands { OnOk result (StandsFor self.old self.new (opened_with (kind_of opening) (Tok self.old.last))) }
+        ensures stands { OnOk result (StandsFor self.old self.new (λ _. opened_with (kind_of opening) (Tok self.old.last))) }
         ensures state { OnOk result (IsMadeBy self.old self.new (λ _. BegunWith (kind_of opening)) (λ _ work. opened_with (kind_of opening) (Tok self.old.last) work)) }
         ensures fits { OnOk result (RefusedAs self.old (BegunWith (kind_of opening)) None) }
         ensures refused { IfErr result (λ full. RefusedAs self.old (BegunWith (kind_of opening)) (Some full)) }
@@ -146,8 +142,8 @@ impl Engine {
     /// The main memory is full before a token that goes into its list; one in front of it may be there, and the frame stands as before.
     #[inline(always)]
     pub fn feed(&mut self, x: Seen) -> Result<(), Full>
-        ensures stands { OnOk result (StandsFor self.old self.new (fed_with (Tok x))) }
-        ensures did { OnOk result ((sizes : Sizes) (w : World) (book : Book) (r : Reading) (rs : List Reading) → Stands sizes self.old (with_work (r ∷ rs) book) → Did sizes (state_of self.old (with_work (r ∷ rs) book)) (state_of self.new (with_work (fed_with (Tok x) (r ∷ rs)) book)) w w (feeds_of (r ∷ rs) x)) }
+        ensures stands { OnOk result (StandsFor self.old self.new (λ _. fed_with (Tok x))) }
+        ensures did { OnOk result (FeedsReading self.old self.new (Tok x) (λ r. feeding r x)) }
         ensures refused { IfErr result (λ full. CutsAtReading self.old self.new (λ _ r. feeding r x) (broken.Full full)) }
         ensures column { self.new.in_line ≡ self.old.in_line }
         ensures idle { self.new.input.making ≡ self.old.input.making }
@@ -178,8 +174,8 @@ impl Engine {
     #[inline(never)]
     fn feed_at_risk(&mut self, x: Seen) -> Result<(), Full>
         requires { innermost_groups self.old.readings.frames + 1 < 2 ^ 64 }
-        ensures stands { OnOk result (StandsFor self.old self.new (fed_with (Tok x))) }
-        ensures did { OnOk result ((sizes : Sizes) (w : World) (book : Book) (r : Reading) (rs : List Reading) → Stands sizes self.old (with_work (r ∷ rs) book) → Did sizes (state_of self.old (with_work (r ∷ rs) book)) (state_of self.new (with_work (fed_with (Tok x) (r ∷ rs)) book)) w w (feeds_of (r ∷ rs) x)) }
+        ensures stands { OnOk result (StandsFor self.old self.new (λ _. fed_with (Tok x))) }
+        ensures did { OnOk result (FeedsReading self.old self.new (Tok x) (λ r. feeding r x)) }
         ensures refused { IfErr result (λ full. CutsAtReading self.old self.new (λ _ r. feeding r x) (broken.Full full)) }
         ensures column { self.new.in_line ≡ self.old.in_line }
         ensures idle { self.new.input.making ≡ self.old.input.making }
@@ -200,8 +196,8 @@ impl Engine {
     /// # Errors
     /// The main memory is full; as [`Engine::feed`].
     pub fn note(&mut self) -> Result<(), Full>
-        ensures stands { OnOk result (StandsFor self.old self.new (fed_with Told)) }
-        ensures did { OnOk result ((sizes : Sizes) (w : World) (book : Book) (r : Reading) (rs : List Reading) → Stands sizes self.old (with_work (r ∷ rs) book) → Did sizes (state_of self.old (with_work (r ∷ rs) book)) (state_of self.new (with_work (fed_with Told (r ∷ rs)) book)) w w (noting r)) }
+        ensures stands { OnOk result (StandsFor self.old self.new (λ _. fed_with Told)) }
+        ensures did { OnOk result (FeedsReading self.old self.new Told noting) }
         ensures refused { IfErr result (λ full. CutsAtReading self.old self.new (λ _ r. noting r) (broken.Full full)) }
         ensures weight { OnOk result (IsReported (asks_in self.old.readings.frames []) → innermost_weight self.new.readings.frames < innermost_weight self.old.readings.frames) }
         ensures count { OnOk result (length self.new.readings.frames ≡ length self.old.readings.frames) }
@@ -223,7 +219,7 @@ impl Engine {
     /// The innermost frame takes what stands at the location for which it asked. *TeX: The Program*, part 26 (`scan_something_internal`).
     pub fn fetch(&mut self, loc: Loc)
         requires within { IsLocation self.old.input.groups loc }
-        ensures stands { (sizes : Sizes) (book : Book) → Stands sizes self.old book → Stands sizes self.new (with_work (fed_with (Fetched (value_seen (get (page_of self.old book).now loc))) book.work) book) }
+        ensures stands { StandsFor self.old self.new (λ page. fed_with (Fetched (value_seen (get page.now loc)))) }
         ensures state { IsMadeBy self.old self.new (λ page. Feeds (Fetched (value_seen (get page.now loc)))) (λ page work. fed_with (Fetched (value_seen (get page.now loc))) work) }
         ensures same { SameBut self.old self.new }
         ensures weight { asks_in self.old.readings.frames [] ≡ Some (Fetches loc) → innermost_weight self.new.readings.frames < innermost_weight self.old.readings.frames }
@@ -236,8 +232,8 @@ impl Engine {
 
     /// Ends the innermost reading with this value, with which the one beneath is fed; its list, where it has one with a token, goes there too.
     pub fn end(&mut self, value: Value)
-        ensures stands { (sizes : Sizes) (book : Book) (r : Reading) (rs : List Reading) (back : _) → Stands sizes self.old (with_work (r ∷ rs) book) → asked self.old ≡ Some (Done value back) → Stands sizes self.new (with_work (fed_with (Val value (value_tokens value (lists r.kind r.fed))) rs) book) }
-        ensures state { (sizes : Sizes) (book : Book) (r : Reading) (rs : List Reading) (back : _) → Stands sizes self.old (with_work (r ∷ rs) book) → asked self.old ≡ Some (Done value back) → made (Ended value (value_tokens value (lists r.kind r.fed))) (state_of self.old (with_work (r ∷ rs) book)) ≡ state_of self.new (with_work (fed_with (Val value (value_tokens value (lists r.kind r.fed))) rs) book) }
+        ensures stands { WhereDone self.old value (λ sizes book r rs. Stands sizes self.new (with_work (fed_with (Val value (value_tokens value (lists r.kind r.fed))) rs) book)) }
+        ensures state { WhereDone self.old value (λ _ book r rs. made (Ended value (value_tokens value (lists r.kind r.fed))) (state_of self.old (with_work (r ∷ rs) book)) ≡ state_of self.new (with_work (fed_with (Val value (value_tokens value (lists r.kind r.fed))) rs) book)) }
         ensures same { SameBut self.old self.new }
         ensures weight { innermost_weight self.new.readings.frames < value_frame + value_weight }
         ensures count { self.new.readings.frames ≡ [] → innermost_weight self.new.readings.frames ≡ 0 }
@@ -254,8 +250,8 @@ impl Engine {
 
     /// Ends the innermost reading without a value; its lists go.
     pub fn close_reading(&mut self)
-        ensures stands { (sizes : Sizes) (book : Book) (r : Reading) (rs : List Reading) → Stands sizes self.old (with_work (r ∷ rs) book) → Stands sizes self.new (with_work rs book) }
-        ensures state { (sizes : Sizes) (book : Book) (r : Reading) (rs : List Reading) → Stands sizes self.old (with_work (r ∷ rs) book) → made Closed (state_of self.old (with_work (r ∷ rs) book)) ≡ state_of self.new (with_work rs book) }
+        ensures stands { WhereOpen self.old (λ sizes book _ rs. Stands sizes self.new (with_work rs book)) }
+        ensures state { WhereOpen self.old (λ _ book r rs. made Closed (state_of self.old (with_work (r ∷ rs) book)) ≡ state_of self.new (with_work rs book)) }
         ensures same { SameBut self.old self.new }
         ensures weight { innermost_weight self.new.readings.frames < act_frame + act_weight }
         ensures fewer { length self.new.readings.frames ≡ length self.old.readings.frames - 1 }
@@ -310,7 +306,7 @@ impl Engine {
     fn begin_grown(&mut self, opening: Opening, grown: Grown)
         ensures only { self.new ≡ record self.old { input = record self.old.input { builds = self.new.input.builds; lists = self.new.input.lists } } }
         ensures keeps { KeepsShared self.old.input self.new.input }
-        ensures grows { (sizes : Sizes) (book : Book) → IsSound sizes self.old book.number book.all_lists → self.old.input.call ≡ NotCalling → HasTop opening grown → refused self.old.sizes (memory (length (opened_lists opening []) + token_count grown) (stored_words self.old.input) ∷ []) ≡ None → self.new.input.builds ≡ on_top grown (opened_lists opening self.old.input.builds) }
+        ensures grows { WhereSound self.old (λ _. self.old.input.call ≡ NotCalling → HasTop opening grown → refused self.old.sizes (memory (length (opened_lists opening []) + token_count grown) (stored_words self.old.input) ∷ []) ≡ None → self.new.input.builds ≡ on_top grown (opened_lists opening self.old.input.builds)) }
     {
         let _begun = self.begin_list(opening);
         let _grown = self.take(grown);

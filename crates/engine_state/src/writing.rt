@@ -2,7 +2,6 @@
 ghost use Rattle.std.specs.Prelude.{◌≡◌, ◌<◌, length, [], ◌∷◌, IfOk, IfErr, OnOk, None, true, false};
 ghost use Rattle.tex_syntax.specs.declared.words.Scanned.TheVariants as scanned;
 ghost use Rattle.tex_defs.specs.Places.{Transcript};
-ghost use Rattle.tex_defs.specs.declared.Sizes.{Sizes};
 ghost use Rattle.equivalents.specs.Groups.{IsLocation};
 ghost use Rattle.equivalents.specs.Locations.{value_seen};
 ghost use Rattle.equivalents.specs.Tables.{get};
@@ -18,8 +17,8 @@ ghost use Rattle.engine_state.specs.Book.{Book};
 ghost use Rattle.engine_state.specs.Calls.{AllStand, argument_bytes};
 ghost use Rattle.engine_state.specs.Lists.{location_list};
 ghost use Rattle.engine_state.specs.Begins.{outcome_of_last, last_moves, last_bytes, last_written};
-ghost use Rattle.engine_state.specs.Clauses.{WritesOut, CutsWriting, EndsAtHundredth, CutsReport, CutsWithRoom, CutsWritingWhere, DoesWhere, HoldsLists, WritesWhere, DoesAlways, ReportsSo};
-ghost use Rattle.engine_state.specs.Stands.{IsSized, SameFrames, OnlyColumn, page_of, own_style};
+ghost use Rattle.engine_state.specs.Clauses.{WritesOut, CutsWriting, EndsAtHundredth, CutsReport, CutsWithRoom, CutsWritingWhere, DoesWhere, HoldsLists, WritesWhere, DoesAlways, ReportsSo, StaysSized};
+ghost use Rattle.engine_state.specs.Stands.{SameFrames, OnlyColumn, page_of, own_style};
 ghost use Rattle.engine_state.specs.Rules.{nth_list, counted, CountsOn, Cuts, Reports, ReportsAs, DoesOnward};
 ghost use Rattle.engine_state.specs.Steps.{IsFree};
 ghost use Rattle.engine_state.specs.declared.outcome.Ruled.TheVariants.{Halted};
@@ -32,7 +31,7 @@ use crate::values::{number_text, value_text};
 use crate::views::view_of;
 use char_text::Text;
 use equivalents::Loc;
-use tex_defs::{Fatal, Meaning, Seen, Sizes};
+use tex_defs::{Fatal, Meaning, Seen};
 use tex_syntax::{Outcome, Report, Scanned};
 use transcript::{
     empty_runaway, end_lines, hundred_line, no_end_lines, put, write_error_message, write_message,
@@ -167,7 +166,7 @@ impl Engine {
         ensures err { IfErr result (λ b. CutsReport self.old self.new (S.told out.old) (S.told out.new) (λ page rest. reported page report rest) b) }
         ensures frames { SameFrames self.old self.new }
         ensures input { self.new.input ≡ self.old.input }
-        ensures sized { IfOk result (λ on. on ≡ true → (sizes : Sizes) → IsSized sizes self.old → IsSized sizes self.new) }
+        ensures sized { IfOk result (λ on. on ≡ true → StaysSized self.old self.new) }
     {
         self.write_report(out, report)?;
         self.count_report(out)
@@ -184,7 +183,7 @@ impl Engine {
         ensures err { IfErr result (λ b. CutsReport self.old self.new (S.told out.old) (S.told out.new) (λ page rest. reported_as page (kept_list_of listed self.old.input.builds) rest) b) }
         ensures frames { SameFrames self.old self.new }
         ensures input { self.new.input ≡ self.old.input }
-        ensures sized { IfOk result (λ on. on ≡ true → (sizes : Sizes) → IsSized sizes self.old → IsSized sizes self.new) }
+        ensures sized { IfOk result (λ on. on ≡ true → StaysSized self.old self.new) }
     {
         self.write_error_message(out, listed)?;
         self.count_report(out)
@@ -197,7 +196,7 @@ impl Engine {
         ensures err { IfErr result (λ b. CutsReport self.old self.new (S.told out.old) (S.told out.new) counted b) }
         ensures frames { SameFrames self.old self.new }
         ensures input { self.new.input ≡ self.old.input }
-        ensures sized { IfOk result (λ on. on ≡ true → (sizes : Sizes) → IsSized sizes self.old → IsSized sizes self.new) }
+        ensures sized { IfOk result (λ on. on ≡ true → StaysSized self.old self.new) }
         ensures stopped { self.new.stopped ≡ self.old.stopped }
     {
         if self.reports < REPORTS_ROOM {
