@@ -1,14 +1,11 @@
 // The name of a macro is expanded.
-ghost use Rattle.std.specs.Prelude.{◌≡◌, ◌≤◌, ◌+◌, ℕ, Bool, Some, None, IfErr, OnOk, OnErr};
-ghost use Rattle.tex_defs.specs.declared.Sizes.{Sizes};
+ghost use Rattle.std.specs.Prelude.{◌≡◌, ◌≤◌, ◌+◌, Bool, Some, None, IfErr, OnOk, OnErr};
 ghost use Rattle.tex_defs.specs.declared.Meaning.TheVariants.{Macro};
-ghost use Rattle.tex_defs.specs.Places.{World};
 ghost use Rattle.plain_tokens.specs.Meanings.{name_meaning};
 ghost use Rattle.plain_readings.specs.Readings.{Arguments};
 ghost use Rattle.plain_readings.specs.Weights.{act_weight};
 ghost use Rattle.reading_frames.specs.Weights.{frames_weight, innermost_weight};
 ghost use Rattle.plain_machine.specs.States.{Begun};
-ghost use Rattle.plain_machine.specs.Demands.{refusal};
 ghost use Rattle.plain_machine.specs.Plan.{called};
 ghost use Rattle.macro_call.specs.Modes.{mode_of};
 ghost use Rattle.macro_call.specs.PlainScans.{first_scan};
@@ -17,12 +14,12 @@ ghost use Rattle.input_state.specs.Callings.{NotCalling};
 ghost use Rattle.input_state.specs.Callings as calls;
 ghost use Rattle.input_state.specs.Calls.{call_kind, text_of};
 ghost use Rattle.input_state.specs.Stored.{KeepsShared};
-ghost use Rattle.engine_state.specs.Book.{Book};
-ghost use Rattle.engine_state.specs.Clauses.{GoesFree};
-ghost use Rattle.engine_state.specs.Stands.{Stands, Counts, SameFrames, state_of, page_of};
+ghost use Rattle.engine_state.specs.Clauses.{GoesFree, DoesSilently};
+ghost use Rattle.engine_state.specs.Stands.{Stands, SameFrames, page_of};
 ghost use Rattle.engine_state.specs.Rules.{Cuts};
 ghost use Rattle.engine_state.specs.Steps.{weight, pending_weight};
 ghost use Rattle.engine_state.specs.declared.broken.Broken.TheVariants as broken;
+ghost use Rattle.gullet.specs.Clauses.{RefusedAsAny};
 
 use engine_state::{Engine, name_of};
 use input_state::CallKind;
@@ -36,8 +33,7 @@ use tex_defs::{Full, Meaning, Name, Seen, Token};
 /// have gone where a level was asked for.
 pub(crate) fn call_name(engine: &mut Engine, token: Token) -> Result<(), Full>
     ensures ok { OnOk result (GoesFree engine.old engine.new (λ page. called page token)) }
-    ensures err { IfErr result (λ full. (sizes : Sizes) (w : World) (book : Book) → Stands sizes engine.old book →
-        Cuts sizes (state_of engine.old book) engine.new book w w (called (page_of engine.old book) token) (broken.Full full)) }
+    ensures err { IfErr result (λ full. DoesSilently Stands Cuts engine.old engine.new (λ book. called (page_of engine.old book) token) (broken.Full full)) }
     ensures frames { OnErr result (SameFrames engine.old engine.new) }
     ensures column { engine.new.in_line ≡ engine.old.in_line }
     ensures idle { engine.new.input.making ≡ engine.old.input.making }
@@ -65,8 +61,8 @@ fn begin_call(engine: &mut Engine, name: Name, long: bool) -> Result<(), Full>
     requires none { engine.old.input.call ≡ NotCalling }
     requires gathers { call_kind engine.old.input.lists (name_meaning engine.old.input.groups.now.meanings name) ≡ Gathers }
     ensures ok { OnOk result (engine.new ≡ record engine.old { input = record engine.old.input { call = calls.Gathering name (first_scan (text_of engine.old.input.lists engine.old.input.groups.now.meanings name) (mode_of long)); lists = engine.new.input.lists } }) }
-    ensures fits { OnOk result ((sizes : Sizes) (book : Book) (number : ℕ) → Counts sizes engine.old book → refusal sizes (Begun (Arguments name long number (text_of engine.old.input.lists engine.old.input.groups.now.meanings name))) (state_of engine.old book) ≡ None) }
-    ensures refused { IfErr result (λ full. (sizes : Sizes) (book : Book) (number : ℕ) → Counts sizes engine.old book → refusal sizes (Begun (Arguments name long number (text_of engine.old.input.lists engine.old.input.groups.now.meanings name))) (state_of engine.old book) ≡ Some full) }
+    ensures fits { OnOk result (RefusedAsAny engine.old (λ number. Begun (Arguments name long number (text_of engine.old.input.lists engine.old.input.groups.now.meanings name))) None) }
+    ensures refused { IfErr result (λ full. RefusedAsAny engine.old (λ number. Begun (Arguments name long number (text_of engine.old.input.lists engine.old.input.groups.now.meanings name))) (Some full)) }
     ensures err { OnErr result (engine.new ≡ engine.old) }
     ensures column { engine.new.in_line ≡ engine.old.in_line }
     ensures idle { engine.new.input.making ≡ engine.old.input.making }

@@ -1,22 +1,20 @@
 // A token is expanded where it can be.
 // *The TeXbook*, chapter 20; *TeX: The Program*, part 25 (`get_x_token`, `expand`).
 ghost use Rattle.std.specs.Prelude.{◌≡◌, ◌<◌, ◌≤◌, ◌+◌, IfOk, IfErr, OnOk, MatchResult, List, None, false, true};
-ghost use Rattle.tex_defs.specs.declared.Sizes.{Sizes};
 ghost use Rattle.plain_tokens.specs.Pending.{pulled};
 ghost use Rattle.plain_readings.specs.Weights.{act_weight};
 ghost use Rattle.reading_frames.specs.Views.{kind_of};
 ghost use Rattle.reading_frames.specs.Weights.{frames_weight, innermost_weight};
 ghost use Rattle.plain_machine.specs.States.{Move};
 ghost use Rattle.plain_machine.specs.Plan.{Page, call_of as plain_call, expanded, expansion as plain_expansion, input_met, is_expandable_primitive};
-ghost use Rattle.world_io.specs.Contents.{FilesTold};
 ghost use Rattle.input_state.specs.Reads.{gives_step};
 ghost use Rattle.input_state.specs.Callings.{NotCalling};
-ghost use Rattle.engine_state.specs.Book.{Book};
 ghost use Rattle.engine_state.specs.Clauses.{GoesFree, CutsFree, CutsWhere, DoesWhere, Taking};
 ghost use Rattle.engine_state.specs.CutReadings.{CutsIn};
-ghost use Rattle.engine_state.specs.Stands.{Stands, SameFrames, SameReadings, state_of, page_of};
-ghost use Rattle.engine_state.specs.Rules.{world_of, onward_of, enters_of, next_moves};
+ghost use Rattle.engine_state.specs.Stands.{SameFrames, SameReadings, page_of};
+ghost use Rattle.engine_state.specs.Rules.{onward_of, enters_of, next_moves};
 ghost use Rattle.engine_state.specs.Steps.{weight, pending_weight};
+ghost use Rattle.gullet.specs.Clauses.{ExpandsSo};
 ghost use Rattle.gullet.specs.Stepping.{IsLight, ExpandsTo, is_expansion, expands, job_moves, row_moves, wants_raw, ExpandsOnce, IsExpanded, IsStayed, EndsRun, changes, once_by, Expands, Steps, StepStepsIf, IsSkipped, IsKept, IsOver, ends_run};
 
 use crate::call_name::call_name;
@@ -226,10 +224,8 @@ fn begin_input(engine: &mut Engine, token: Token, call: Call) -> Result<(), Brok
 pub fn expand_once<S: Sink>(engine: &mut Engine, out: &mut S, seen: Seen) -> Result<Once, Broken>
     requires idle { engine.old.input.making ≡ None }
     requires uncalled { engine.old.input.call ≡ NotCalling }
-    ensures rule { IfOk result (λ once. (sizes : Sizes) (f : FilesTold) (book : Book) (moves : List Move) → Stands sizes engine.old book →
-        ExpandsOnce sizes (state_of engine.old book) engine.new book (world_of f (S.told out.old) engine.old) (world_of f (S.told out.new) engine.new) (expanded (page_of engine.old book) seen moves) moves once) }
-    ensures err { IfErr result (λ b. (sizes : Sizes) (f : FilesTold) (book : Book) (moves : List Move) → Stands sizes engine.old book →
-        CutsIn sizes (state_of engine.old book) engine.new (world_of f (S.told out.old) engine.old) (world_of f (S.told out.new) engine.new) (expanded (page_of engine.old book) seen moves) b) }
+    ensures rule { IfOk result (ExpandsSo ExpandsOnce engine.old engine.new (S.told out.old) (S.told out.new) seen) }
+    ensures err { IfErr result (ExpandsSo (λ sizes s e _ w v moves _. CutsIn sizes s e w v moves) engine.old engine.new (S.told out.old) (S.told out.new) seen) }
     ensures which { MatchResult result (λ once. changes once ≡ expands seen.meaning) (λ _. expands seen.meaning ≡ true) }
     ensures halts { IfOk result (λ once. EndsRun once → SameFrames engine.old engine.new) }
     ensures stays { IfOk result (λ once. IsStayed once → engine.new ≡ engine.old) }

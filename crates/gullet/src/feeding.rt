@@ -1,21 +1,14 @@
 // A call of a macro is fed with a token.
 ghost use Rattle.std.specs.Prelude.{◌≡◌, ◌+◌, ◌≤◌, List, [], ◌∷◌, Some, None, IfErr, OnOk, OnErr, length};
-ghost use Rattle.tex_defs.specs.Places.{World};
-ghost use Rattle.tex_defs.specs.declared.Name.{Name};
-ghost use Rattle.tex_defs.specs.declared.Sizes.{Sizes};
-ghost use Rattle.plain_readings.specs.Readings.{Reading};
 ghost use Rattle.plain_tokens.specs.Tables.{memory, refused};
 ghost use Rattle.plain_machine.specs.Plan.{feeding};
 ghost use Rattle.input_state.specs.Calls.{text_of};
 ghost use Rattle.input_state.specs.CallFeeds.{IsTaking, Feeds, CutShort, call_work, growth};
 ghost use Rattle.input_state.specs.Stored.{KeepsShared, words};
-ghost use Rattle.input_state.specs.Callings.{call_in};
-ghost use Rattle.engine_state.specs.Book.{Book, with_work};
-ghost use Rattle.engine_state.specs.Calls.{AllStand, open_call};
 ghost use Rattle.engine_state.specs.CutReadings.{CutsIn};
-ghost use Rattle.engine_state.specs.Stands.{state_of};
 ghost use Rattle.engine_state.specs.Rules.{Went};
 ghost use Rattle.engine_state.specs.declared.broken.Broken.TheVariants as broken;
+ghost use Rattle.gullet.specs.Clauses.{FeedsCall};
 
 use engine_state::Engine;
 use tex_defs::{Full, Seen, Token};
@@ -25,10 +18,8 @@ use tex_defs::{Full, Seen, Token};
 /// # Errors
 /// The main memory is full: the engine stands for the moment before the token or the list that has no room.
 pub(crate) fn feed_call(engine: &mut Engine, seen: Seen) -> Result<(), Full>
-    ensures ok { OnOk result ((sizes : Sizes) (w : World) (book : Book) (r : Reading) (rs : List Reading) (name : Name) → call_in engine.old.input.call ≡ Some (open_call name) → AllStand sizes engine.old (with_work (r ∷ rs) book) →
-        Went sizes (state_of engine.old (with_work (r ∷ rs) book)) engine.new w w (feeding r seen) 0) }
-    ensures err { IfErr result (λ full. (sizes : Sizes) (w : World) (book : Book) (r : Reading) (rs : List Reading) (name : Name) → call_in engine.old.input.call ≡ Some (open_call name) → AllStand sizes engine.old (with_work (r ∷ rs) book) →
-        CutsIn sizes (state_of engine.old (with_work (r ∷ rs) book)) engine.new w w (feeding r seen) (broken.Full full)) }
+    ensures ok { OnOk result (FeedsCall Went engine.old engine.new (λ r. feeding r seen) 0) }
+    ensures err { IfErr result (λ full. FeedsCall CutsIn engine.old engine.new (λ r. feeding r seen) (broken.Full full)) }
     ensures column { engine.new.in_line ≡ engine.old.in_line }
     ensures idle { engine.new.input.making ≡ engine.old.input.making }
 {

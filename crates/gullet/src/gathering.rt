@@ -1,29 +1,26 @@
 // A call that gathers its arguments.
-ghost use Rattle.std.specs.Prelude.{◌≡◌, ◌++◌, ◌∷◌, ◌<◌, [], List, None, Some, IsSome, IfOk, IfErr, OnOk, OnErr, MatchResult, false, true};
+ghost use Rattle.std.specs.Prelude.{◌≡◌, ◌++◌, ◌∷◌, ◌<◌, [], None, Some, IsSome, IfOk, IfErr, OnOk, OnErr, MatchResult, false, true};
 ghost use Rattle.tex_syntax.specs.declared.words.Report.TheVariants.{ParagraphEnded, ExtraBrace};
 ghost use Rattle.tex_syntax.specs.declared.words.Want.TheVariants.{Raw};
-ghost use Rattle.tex_defs.specs.declared.Sizes.{Sizes};
 ghost use Rattle.plain_readings.specs.Calls.{par_token};
 ghost use Rattle.rows.specs.Readings.{Told};
-ghost use Rattle.plain_readings.specs.Readings.{Reading};
 ghost use Rattle.plain_machine.specs.States.{Feeds};
 ghost use Rattle.plain_machine.specs.Plan.{failed, put_one, reported};
-ghost use Rattle.world_io.specs.Contents.{FilesTold};
 ghost use Rattle.macro_call.specs.PlainScans.{settled_scan};
 ghost use Rattle.input_state.specs.CallFeeds.{IsTaking, with_scan};
 ghost use Rattle.plain_tokens.specs.Pending.{end_token_lists};
 ghost use Rattle.input_state.specs.Callings.{NotCalling, IsComplete, call_in};
 ghost use Rattle.input_state.specs.Calls.{after_call, put_of};
 ghost use Rattle.input_state.specs.Stored.{KeepsShared, put_refusal};
-ghost use Rattle.engine_state.specs.Book.{Book, with_work};
 ghost use Rattle.engine_state.specs.Clauses.{CutsWhere, DoesWhere, Taking, DoesAtReading};
 ghost use Rattle.engine_state.specs.Calls.{AllStand, argument_bytes, brace_call, call_away_moves};
-ghost use Rattle.engine_state.specs.Stands.{SameFrames, state_of, page_of};
-ghost use Rattle.engine_state.specs.Rules.{world_of, next_moves, Cuts, DoesRule};
+ghost use Rattle.engine_state.specs.Stands.{SameFrames, page_of};
+ghost use Rattle.engine_state.specs.Rules.{next_moves, Cuts, DoesRule};
 ghost use Rattle.input_state.specs.Reads.{gives_step};
 ghost use Rattle.plain_tokens.specs.Pending.{pulled};
 ghost use Rattle.engine_state.specs.Steps.{stepping, call_asks_more, stops_run, IsStep, IsFree, IsHalted, StepsIf, weight};
 ghost use Rattle.engine_state.specs.OneRule.{DoesPlan, CutsPlan};
+ghost use Rattle.gullet.specs.Clauses.{DoesRuleAtCall};
 ghost use Rattle.input_state.specs.declared.answer.Call.{Call};
 
 use crate::feeding::feed_call;
@@ -125,8 +122,7 @@ fn put_call(engine: &mut Engine) -> Result<(), Full>
 /// The call reports, and ends without its arguments.
 fn fail_call<S: Sink>(engine: &mut Engine, out: &mut S, report: Report) -> Result<Ruled, Broken>
     requires idle { engine.old.input.making ≡ None }
-    ensures rule { IfOk result (λ ruled. (sizes : Sizes) (f : FilesTold) (book : Book) (r : Reading) (rs : List Reading) (call : Call) → call_in engine.old.input.call ≡ Some call → AllStand sizes engine.old (with_work (r ∷ rs) book) →
-        DoesRule sizes (state_of engine.old (with_work (r ∷ rs) book)) engine.new (with_work (r ∷ rs) book) (world_of f (S.told out.old) engine.old) (world_of f (S.told out.new) engine.new) (failed (page_of engine.old book) report) ruled) }
+    ensures rule { IfOk result (DoesRuleAtCall engine.old engine.new (S.told out.old) (S.told out.new) (λ page. failed page report)) }
     ensures err { IfErr result (DoesAtReading AllStand Cuts engine.old engine.new (S.told out.old) (S.told out.new) (λ book. failed (page_of engine.old book) report)) }
     ensures step { IfOk result (λ ruled. IsStep ruled → ⊥) }
     ensures light { IfOk result (λ ruled. IsFree ruled → (call : Call) → call_in engine.old.input.call ≡ Some call → call_asks_more call.ask ≡ false → weight engine.new < weight engine.old) }
@@ -144,8 +140,7 @@ fn fail_call<S: Sink>(engine: &mut Engine, out: &mut S, report: Report) -> Resul
 /// A paragraph ended the call: the argument runs away, the token is put back, and the call reports and ends.
 fn run_away_call<S: Sink>(engine: &mut Engine, out: &mut S, name: Name) -> Result<Ruled, Broken>
     requires idle { engine.old.input.making ≡ None }
-    ensures rule { IfOk result (λ ruled. (sizes : Sizes) (f : FilesTold) (book : Book) (r : Reading) (rs : List Reading) (call : Call) → call_in engine.old.input.call ≡ Some call → AllStand sizes engine.old (with_work (r ∷ rs) book) →
-        DoesRule sizes (state_of engine.old (with_work (r ∷ rs) book)) engine.new (with_work (r ∷ rs) book) (world_of f (S.told out.old) engine.old) (world_of f (S.told out.new) engine.new) (call_away_moves (page_of engine.old book) (argument_bytes engine.old) engine.old.last.token (ParagraphEnded name)) ruled) }
+    ensures rule { IfOk result (DoesRuleAtCall engine.old engine.new (S.told out.old) (S.told out.new) (λ page. call_away_moves page (argument_bytes engine.old) engine.old.last.token (ParagraphEnded name))) }
     ensures err { IfErr result (DoesAtReading AllStand Cuts engine.old engine.new (S.told out.old) (S.told out.new) (λ book. call_away_moves (page_of engine.old book) (argument_bytes engine.old) engine.old.last.token (ParagraphEnded name))) }
     ensures step { IfOk result (λ ruled. IsStep ruled → ⊥) }
     ensures light { IfOk result (λ ruled. IsFree ruled → (call : Call) → call_in engine.old.input.call ≡ Some call → call_asks_more call.ask ≡ false → weight engine.new < weight engine.old) }
