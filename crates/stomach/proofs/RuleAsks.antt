@@ -12,7 +12,6 @@ use Rattle.tex_defs.specs.declared.Token.{Token}
 use Rattle.plain_readings.specs.Readings.{Reading, ask}
 use Rattle.reading_frames.specs.Views.{Lists, ask_of, kept_list_of}
 use Rattle.reading_frames.specs.Stack.{asked_in, asked_of, asks_in}
-use Rattle.reading_frames.specs.Stands as frames
 use Rattle.reading_frames.specs.declared.ask.Ask.{Ask}
 use Rattle.reading_frames.specs.declared.ask.Ask.TheVariants as asks
 use Rattle.plain_machine.specs.States.{Move, Files}

@@ -1,18 +1,14 @@
 // Conditionals go on: by the values of their tests, and behind the text that was skipped.
 // *The TeXbook*, chapter 20; *TeX: The Program*, part 28 (`conditional`).
 ghost use Rattle.std.specs.Prelude.{◌≡◌, ◌<◌, ◌≤◌, ◌+◌, ℕ, [], IfOk, IfErr, OnOk, None, true, false};
-ghost use Rattle.tex_defs.specs.Places.{World};
-ghost use Rattle.tex_defs.specs.declared.Sizes.{Sizes};
 ghost use Rattle.plain_readings.specs.Weights.{act_frame};
 ghost use Rattle.rows.specs.Readings.{Ask};
 ghost use Rattle.rows.specs.declared.command.Effect.TheVariants as effects;
 ghost use Rattle.reading_frames.specs.Stack.{asks_in};
 ghost use Rattle.reading_frames.specs.Weights.{frames_weight, innermost_weight, IsEnd};
 ghost use Rattle.plain_machine.specs.Plan.{acts, ended_by, passed, reached};
-ghost use Rattle.plain_machine.specs.Does.{Did};
-ghost use Rattle.engine_state.specs.Book.{Book};
-ghost use Rattle.engine_state.specs.Clauses.{Still, EndsAtHundredth, CutsReport, GoesAtReading, CutsAtReading, GoesOnward, CutsOnward, ReportsSo};
-ghost use Rattle.engine_state.specs.Stands.{Stands, SameFrames, state_of};
+ghost use Rattle.engine_state.specs.Clauses.{Still, MakesAlways, EndsAtHundredth, CutsReport, GoesAtReading, CutsAtReading, GoesOnward, CutsOnward, ReportsSo};
+ghost use Rattle.engine_state.specs.Stands.{Stands, SameFrames};
 ghost use Rattle.engine_state.specs.Steps.{pending_weight, weight, IsFree, IsHalted, IsStep};
 ghost use Rattle.stomach.specs.Halting.{DoesRuleAtReading, CutsRuleAtReading};
 ghost use Rattle.stomach.specs.Skipping.{Passes};
@@ -90,7 +86,7 @@ fn pass<S: Sink>(engine: &mut Engine, out: &mut S, passing: Passing) -> Result<b
 
 /// No more text is skipped.
 fn end_skipping(engine: &mut Engine, end: End)
-    ensures did { (sizes : Sizes) (w : World) (book : Book) → Did sizes (state_of engine.old book) (state_of engine.new book) w w (ended_by end) }
+    ensures did { MakesAlways engine.old engine.new (ended_by end) }
     ensures stands { Still Stands engine.old engine.new }
     ensures only { engine.new ≡ record engine.old { conditionals = engine.new.conditionals } }
 {

@@ -1,8 +1,5 @@
 // A macro is defined.
-ghost use Rattle.std.specs.Prelude.{◌≡◌, ◌≢◌, ◌<◌, List, [], ◌∷◌, MatchBool, IfErr, OnOk, Some, None};
-ghost use Rattle.tex_defs.specs.Places.{World};
-ghost use Rattle.tex_defs.specs.declared.Sizes.{Sizes};
-ghost use Rattle.plain_readings.specs.Readings.{Reading};
+ghost use Rattle.std.specs.Prelude.{◌≡◌, ◌≢◌, ◌<◌, [], ◌∷◌, MatchBool, IfErr, OnOk, Some, None};
 ghost use Rattle.rows.specs.Readings.{Defines};
 ghost use Rattle.reading_frames.specs.Views.{top_list, kept_list_of};
 ghost use Rattle.reading_frames.specs.Stack.{asks_in, innermost_count};
@@ -10,12 +7,11 @@ ghost use Rattle.plain_machine.specs.States.{Defined};
 ghost use Rattle.plain_machine.specs.Plan.{is_global as plain_global, macro_defined};
 ghost use Rattle.input_state.specs.Callings.{NotCalling};
 ghost use Rattle.engine_state.specs.declared.broken.Broken.TheVariants as broken;
-ghost use Rattle.engine_state.specs.Book.{Book, with_work};
 ghost use Rattle.engine_state.specs.Clauses.{CutsAtReading};
 ghost use Rattle.engine_state.specs.CutReadings.{CutsIn};
-ghost use Rattle.engine_state.specs.Stands.{Stands, state_of, page_of};
 ghost use Rattle.engine_state.specs.Rules.{Went};
 ghost use Rattle.engine_state.specs.Steps.{asked, weight};
+ghost use Rattle.stomach.specs.Clauses.{GoesIf};
 
 use crate::effects::is_global;
 use engine_state::{Broken, Engine};
@@ -36,8 +32,7 @@ pub(crate) fn has_token(engine: &Engine, listed: bool) -> bool
 fn assign_macro(engine: &mut Engine, call: Call, name: Name) -> Result<(), Full>
     requires some { engine.old.input.builds ≢ [] }
     requires token { top_list engine.old.input.builds ≢ [] }
-    ensures rule { OnOk result ((sizes : Sizes) (w : World) (book : Book) (r : Reading) (rs : List Reading) → Stands sizes engine.old (with_work (r ∷ rs) book) → innermost_count engine.old.readings.frames ≡ 1 →
-        Went sizes (state_of engine.old (with_work (r ∷ rs) book)) engine.new w w (Defined (plain_global (page_of engine.old book) call) name call.long call.outer (top_list engine.old.input.builds) ∷ []) 0) }
+    ensures rule { OnOk result (GoesIf (innermost_count engine.old.readings.frames ≡ 1) Went engine.old engine.new (λ page _. Defined (plain_global page call) name call.long call.outer (top_list engine.old.input.builds) ∷ []) 0) }
     ensures err { IfErr result (λ full. CutsAtReading engine.old engine.new (λ page _. Defined (plain_global page call) name call.long call.outer (top_list engine.old.input.builds) ∷ []) (broken.Full full)) }
     ensures light { OnOk result (engine.old.input.call ≡ NotCalling → asks_in engine.old.readings.frames [] ≡ Some (Defines call name []) → weight engine.new < weight engine.old) }
     ensures call { engine.new.input.call ≡ engine.old.input.call }
@@ -67,10 +62,8 @@ pub(crate) fn define(
     listed: bool,
 ) -> Result<(), Broken>
     requires idle { engine.old.input.making ≡ None }
-    ensures rule { OnOk result ((sizes : Sizes) (w : World) (book : Book) (r : Reading) (rs : List Reading) → Stands sizes engine.old (with_work (r ∷ rs) book) → asked engine.old ≡ Some (Defines call name (kept_list_of listed engine.old.input.builds)) →
-        Went sizes (state_of engine.old (with_work (r ∷ rs) book)) engine.new w w (macro_defined (page_of engine.old book) call name (kept_list_of listed engine.old.input.builds)) 0) }
-    ensures err { IfErr result (λ b. (sizes : Sizes) (w : World) (book : Book) (r : Reading) (rs : List Reading) → Stands sizes engine.old (with_work (r ∷ rs) book) → asked engine.old ≡ Some (Defines call name (kept_list_of listed engine.old.input.builds)) →
-        CutsIn sizes (state_of engine.old (with_work (r ∷ rs) book)) engine.new w w (macro_defined (page_of engine.old book) call name (kept_list_of listed engine.old.input.builds)) b) }
+    ensures rule { OnOk result (GoesIf (asked engine.old ≡ Some (Defines call name (kept_list_of listed engine.old.input.builds))) Went engine.old engine.new (λ page _. macro_defined page call name (kept_list_of listed engine.old.input.builds)) 0) }
+    ensures err { IfErr result (GoesIf (asked engine.old ≡ Some (Defines call name (kept_list_of listed engine.old.input.builds))) CutsIn engine.old engine.new (λ page _. macro_defined page call name (kept_list_of listed engine.old.input.builds))) }
     ensures light { OnOk result (engine.old.input.call ≡ NotCalling → asks_in engine.old.readings.frames [] ≡ Some (Defines call name []) → weight engine.new < weight engine.old) }
     ensures column { engine.new.in_line ≡ engine.old.in_line }
     ensures idle { OnOk result (engine.new.input.making ≡ None) }

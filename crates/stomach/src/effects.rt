@@ -1,6 +1,5 @@
 // What a command does, and its reading ends.
-ghost use Rattle.std.specs.Prelude.{◌≡◌, ◌<◌, List, [], ◌∷◌, ◌++◌, IfOk, IfErr, OnOk, MatchBool, Some, None};
-ghost use Rattle.tex_defs.specs.declared.Sizes.{Sizes};
+ghost use Rattle.std.specs.Prelude.{◌≡◌, ◌<◌, [], ◌∷◌, ◌++◌, IfOk, IfErr, OnOk, MatchBool, Some, None};
 ghost use Rattle.plain_tokens.specs.Meanings.{meaning_to_let};
 ghost use Rattle.equivalents.specs.declared.values.Loc.TheVariants as loc;
 ghost use Rattle.equivalents.specs.declared.values.Val.TheVariants as val;
@@ -8,22 +7,21 @@ ghost use Rattle.equivalents.specs.declared.values.Glue.{Glue as PlainGlue};
 ghost use Rattle.equivalents.specs.Locations.{IsInRow, Suits, value_seen};
 ghost use Rattle.equivalents.specs.Tables.{get};
 ghost use Rattle.meanings.specs.Kept.{without_list};
-ghost use Rattle.plain_readings.specs.Readings.{Reading};
 ghost use Rattle.rows.specs.Readings.{Ask, Acts};
 ghost use Rattle.rows.specs.declared.command.Effect.TheVariants as effects;
 ghost use Rattle.reading_frames.specs.Stack.{asks_in};
 ghost use Rattle.reading_frames.specs.Weights.{IsEnd};
 ghost use Rattle.plain_machine.specs.States.{Set, Assigned};
-ghost use Rattle.plain_machine.specs.Plan.{acts, acts_above, computed_to, is_global as plain_global, marked as plain_marked, put_one, short_meaning as plain_short, standing_shown};
-ghost use Rattle.world_io.specs.Contents.{FilesTold};
-ghost use Rattle.engine_state.specs.Book.{Book, with_work};
-ghost use Rattle.engine_state.specs.Clauses.{Still, MakesMoves, CutsMoves, CutsWritingWhere, HoldsLists, WritesWhere};
+ghost use Rattle.plain_machine.specs.Plan.{acts, acts_above, is_global as plain_global, marked as plain_marked, put_one, short_meaning as plain_short, standing_shown};
+ghost use Rattle.engine_state.specs.Book.{Book};
+ghost use Rattle.engine_state.specs.Clauses.{Still, MakesMoves, CutsMoves, CutsWritingWhere, DoesAtReading, HoldsLists, WritesWhere};
 ghost use Rattle.engine_state.specs.Making.{IsInFront};
 ghost use Rattle.engine_state.specs.CutReadings.{CutsIn};
-ghost use Rattle.engine_state.specs.Stands.{Stands, Counts, SameFrames, state_of, page_of};
-ghost use Rattle.engine_state.specs.Rules.{world_of, Went};
+ghost use Rattle.engine_state.specs.Stands.{Stands, Counts, SameFrames, page_of};
+ghost use Rattle.engine_state.specs.Rules.{Went};
 ghost use Rattle.engine_state.specs.Steps.{asked, pending_weight, freed, weight, IsFree, IsStep};
 ghost use Rattle.rows.specs.Suiting.{IsVariable, IsSuited, IsThere};
+ghost use Rattle.stomach.specs.Clauses.{DoesIf, Overflows};
 ghost use Rattle.stomach.specs.Effects.{put_by, done_alone, assignment_of, IsAlone};
 ghost use Rattle.stomach.specs.Halting.{DoesRuleIn, DoesRuleAtReading, CutsRuleAtReading};
 ghost use Rattle.input_state.specs.Callings.{NotCalling};
@@ -427,8 +425,7 @@ fn end_alone<S: Sink>(
 ) -> Result<(), Broken>
     requires idle { engine.old.input.making ≡ None }
     requires uncalled { engine.old.input.call ≡ NotCalling }
-    ensures rule { OnOk result (IsAlone effect → IsSuited effect → (sizes : Sizes) (f : FilesTold) (book : Book) (r : Reading) (rs : List Reading) → Stands sizes engine.old (with_work (r ∷ rs) book) →
-        Went sizes (state_of engine.old (with_work (r ∷ rs) book)) engine.new (world_of f (S.told out.old) engine.old) (world_of f (S.told out.new) engine.new) (acts (page_of engine.old book) call effect) 0) }
+    ensures rule { OnOk result (IsAlone effect → IsSuited effect → DoesAtReading Stands (λ sizes s e _. Went sizes s e) engine.old engine.new (S.told out.old) (S.told out.new) (λ book. acts (page_of engine.old book) call effect) 0) }
     ensures err { IfErr result (λ b. IsAlone effect → IsSuited effect → CutsRuleAtReading engine.old engine.new (S.told out.old) (S.told out.new) (λ page _. acts page call effect) b) }
     ensures light { OnOk result ((a : Ask) → asks_in engine.old.readings.frames [] ≡ Some a → IsEnd a → weight engine.new < weight engine.old) }
     ensures idle { OnOk result (engine.new.input.making ≡ None) }
@@ -445,10 +442,8 @@ fn end_alone<S: Sink>(
 fn report_overflow<S: Sink>(engine: &mut Engine, out: &mut S, call: Call) -> Result<Ruled, Broken>
     requires idle { engine.old.input.making ≡ None }
     requires uncalled { engine.old.input.call ≡ NotCalling }
-    ensures rule { IfOk result (λ ruled. (sizes : Sizes) (f : FilesTold) (book : Book) (r : Reading) (rs : List Reading) (l : Loc) → Stands sizes engine.old (with_work (r ∷ rs) book) →
-        DoesRuleIn sizes (state_of engine.old (with_work (r ∷ rs) book)) engine.new (world_of f (S.told out.old) engine.old) (world_of f (S.told out.new) engine.new) (computed_to (page_of engine.old book) call l None) ruled) }
-    ensures err { IfErr result (λ b. (sizes : Sizes) (f : FilesTold) (book : Book) (r : Reading) (rs : List Reading) (l : Loc) → Stands sizes engine.old (with_work (r ∷ rs) book) →
-        CutsIn sizes (state_of engine.old (with_work (r ∷ rs) book)) engine.new (world_of f (S.told out.old) engine.old) (world_of f (S.told out.new) engine.new) (computed_to (page_of engine.old book) call l None) b) }
+    ensures rule { IfOk result (Overflows DoesRuleIn engine.old engine.new (S.told out.old) (S.told out.new) call) }
+    ensures err { IfErr result (Overflows CutsIn engine.old engine.new (S.told out.old) (S.told out.new) call) }
     ensures step { IfOk result (λ ruled. IsStep ruled → ⊥) }
     ensures light { IfOk result (λ ruled. IsFree ruled → (a : Ask) → asks_in engine.old.readings.frames [] ≡ Some a → IsEnd a → weight engine.new < weight engine.old) }
     ensures idle { OnOk result (engine.new.input.making ≡ None) }
@@ -501,10 +496,8 @@ pub(crate) fn act<S: Sink>(
 ) -> Result<Ruled, Broken>
     requires idle { engine.old.input.making ≡ None }
     requires uncalled { engine.old.input.call ≡ NotCalling }
-    ensures rule { IfOk result (λ ruled. (sizes : Sizes) (f : FilesTold) (book : Book) (r : Reading) (rs : List Reading) → Stands sizes engine.old (with_work (r ∷ rs) book) → asked engine.old ≡ Some (Acts call effect) →
-        DoesRuleIn sizes (state_of engine.old (with_work (r ∷ rs) book)) engine.new (world_of f (S.told out.old) engine.old) (world_of f (S.told out.new) engine.new) (acts_above rs (page_of engine.old book) call effect) ruled) }
-    ensures err { IfErr result (λ b. (sizes : Sizes) (f : FilesTold) (book : Book) (r : Reading) (rs : List Reading) → Stands sizes engine.old (with_work (r ∷ rs) book) → asked engine.old ≡ Some (Acts call effect) →
-        CutsIn sizes (state_of engine.old (with_work (r ∷ rs) book)) engine.new (world_of f (S.told out.old) engine.old) (world_of f (S.told out.new) engine.new) (acts_above rs (page_of engine.old book) call effect) b) }
+    ensures rule { IfOk result (DoesIf (asked engine.old ≡ Some (Acts call effect)) DoesRuleIn engine.old engine.new (S.told out.old) (S.told out.new) (λ page rs. acts_above rs page call effect)) }
+    ensures err { IfErr result (DoesIf (asked engine.old ≡ Some (Acts call effect)) CutsIn engine.old engine.new (S.told out.old) (S.told out.new) (λ page rs. acts_above rs page call effect)) }
     ensures step { IfOk result (λ ruled. IsStep ruled → ⊥) }
     ensures light { IfOk result (λ ruled. IsFree ruled → asks_in engine.old.readings.frames [] ≡ Some (Acts call effect) → weight engine.new < weight engine.old) }
     ensures idle { OnOk result (engine.new.input.making ≡ None) }

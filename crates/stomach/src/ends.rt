@@ -1,21 +1,18 @@
 // Readings that begin within another, end with a value, or report; those that put a token in front, make a name `\relax`, or have the
 // magnification checked.
-ghost use Rattle.std.specs.Prelude.{◌≡◌, ◌<◌, List, [], ◌∷◌, ◌++◌, IfOk, IfErr, OnOk, Some, None};
-ghost use Rattle.tex_defs.specs.Places.{World};
+ghost use Rattle.std.specs.Prelude.{◌≡◌, ◌<◌, [], ◌∷◌, ◌++◌, IfOk, IfErr, OnOk, Some, None};
 ghost use Rattle.tex_defs.specs.declared.Meaning.TheVariants as means;
 ghost use Rattle.plain_tokens.specs.Names.{relax_primitive};
-ghost use Rattle.tex_defs.specs.declared.Sizes.{Sizes};
-ghost use Rattle.plain_readings.specs.Readings.{Reading, Reads};
+ghost use Rattle.plain_readings.specs.Readings.{Reads};
 ghost use Rattle.rows.specs.Readings.{Inner, Done};
 ghost use Rattle.reading_frames.specs.Stack.{asks_in};
 ghost use Rattle.reading_frames.specs.Weights.{IsReported};
 ghost use Rattle.plain_machine.specs.States.{Assigned, MagnificationSet};
 ghost use Rattle.plain_machine.specs.Plan.{inner_begun, done as plan_done, is_global as plain_global, is_magnification as plain_magnification, magnification_checked, magnification_set, noting, put_one, reported, told};
-ghost use Rattle.engine_state.specs.Book.{Book, with_work};
 ghost use Rattle.engine_state.specs.Clauses.{GoesAtReading, CutsAtReading};
-ghost use Rattle.engine_state.specs.Stands.{Stands, state_of, page_of};
 ghost use Rattle.engine_state.specs.Rules.{Went};
 ghost use Rattle.engine_state.specs.Steps.{asked, weight, IsFree, IsStep};
+ghost use Rattle.stomach.specs.Clauses.{GoesIf};
 ghost use Rattle.stomach.specs.Halting.{DoesRuleAtReading, CutsRuleAtReading};
 ghost use Rattle.input_state.specs.Callings.{NotCalling};
 
@@ -43,8 +40,7 @@ const TRUE_SIZE: u16 = 1000;
 /// There is no room for one more reading, or for its list: nothing has changed.
 pub(crate) fn begin_inner(engine: &mut Engine, kind: Kind, begins: bool) -> Result<(), Broken>
     requires uncalled { engine.old.input.call ≡ NotCalling }
-    ensures rule { OnOk result ((sizes : Sizes) (w : World) (book : Book) (r : Reading) (rs : List Reading) → Stands sizes engine.old (with_work (r ∷ rs) book) → asked engine.old ≡ Some (Inner kind begins) →
-        Went sizes (state_of engine.old (with_work (r ∷ rs) book)) engine.new w w (inner_begun (Reads kind) begins) 0) }
+    ensures rule { OnOk result (GoesIf (asked engine.old ≡ Some (Inner kind begins)) Went engine.old engine.new (λ _ _. inner_begun (Reads kind) begins) 0) }
     ensures err { IfErr result (λ b. CutsAtReading engine.old engine.new (λ _ _. inner_begun (Reads kind) begins) b) }
     ensures light { OnOk result (asks_in engine.old.readings.frames [] ≡ Some (Inner kind begins) → weight engine.new < weight engine.old) }
     ensures column { engine.new.in_line ≡ engine.old.in_line }
@@ -71,8 +67,7 @@ pub(crate) fn begin_inner(engine: &mut Engine, kind: Kind, begins: bool) -> Resu
 pub(crate) fn done(engine: &mut Engine, value: Value, back: bool) -> Result<(), Broken>
     requires idle { engine.old.input.making ≡ None }
     requires uncalled { engine.old.input.call ≡ NotCalling }
-    ensures rule { OnOk result ((sizes : Sizes) (w : World) (book : Book) (r : Reading) (rs : List Reading) → Stands sizes engine.old (with_work (r ∷ rs) book) → asked engine.old ≡ Some (Done value back) →
-        Went sizes (state_of engine.old (with_work (r ∷ rs) book)) engine.new w w (plan_done (page_of engine.old book) r value back) 0) }
+    ensures rule { OnOk result (GoesIf (asked engine.old ≡ Some (Done value back)) Went engine.old engine.new (λ page r. plan_done page r value back) 0) }
     ensures err { IfErr result (λ b. CutsAtReading engine.old engine.new (λ page r. plan_done page r value back) b) }
     ensures light { OnOk result (asks_in engine.old.readings.frames [] ≡ Some (Done value back) → weight engine.new < weight engine.old) }
     ensures column { engine.new.in_line ≡ engine.old.in_line }

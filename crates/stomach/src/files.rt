@@ -1,29 +1,24 @@
 // Files that are opened and begun, and files that end. *The TeXbook*, chapter 20 (`\input`); *TeX: The Program*, parts 23 and 29 (`start_input`).
-ghost use Rattle.std.specs.Prelude.{◌≡◌, ◌≤◌, ◌<◌, ◌+◌, ◌-◌, List, [], ◌∷◌, ◌++◌, length, IfOk, IfErr, OnOk, Some, None, true, false};
+ghost use Rattle.std.specs.Prelude.{◌≡◌, ◌≤◌, ◌<◌, ◌+◌, ◌-◌, [], ◌∷◌, length, IfOk, IfErr, OnOk, Some, None, true, false};
 ghost use Rattle.rows.specs.declared.command.Call.{Call};
 ghost use Rattle.rows.specs.declared.command.Effect.{Effect};
 ghost use Rattle.rows.specs.Readings.{ActsOn};
 ghost use Rattle.reading_frames.specs.Stack.{asks_in};
-ghost use Rattle.tex_defs.specs.Places.{World, Rose};
-ghost use Rattle.tex_defs.specs.declared.Sizes.{Sizes};
+ghost use Rattle.tex_defs.specs.Places.{Rose};
 ghost use Rattle.plain_tokens.specs.Tables.{open_lines, open_files};
 ghost use Rattle.plain_tokens.specs.Tokens.{character_codes};
 ghost use Rattle.command_words.specs.Words.{file_name};
-ghost use Rattle.plain_readings.specs.Readings.{Reading};
 ghost use Rattle.reading_frames.specs.Views.{kept_list_of};
-ghost use Rattle.plain_machine.specs.States.{Move, Spelt};
+ghost use Rattle.plain_machine.specs.States.{Spelt};
 ghost use Rattle.world_io.specs.Contents.{FilesTold};
 ghost use Rattle.world_io.specs.declared.traits.Fault.TheVariants.{Failed, NoMemory};
 ghost use Rattle.input_state.specs.Stored.{spelt as spelt_in};
 ghost use Rattle.input_state.specs.Callings.{NotCalling, call_in};
-ghost use Rattle.engine_state.specs.Book.{Book, with_work};
 ghost use Rattle.engine_state.specs.Clauses.{HoldsLists, MakesMoves, CutsMoves};
-ghost use Rattle.engine_state.specs.CutReadings.{CutsIn};
-ghost use Rattle.engine_state.specs.Stands.{Stands, state_of, page_of};
 ghost use Rattle.engine_state.specs.Steps.{all_start, asked, weight, IsStep, IsFree};
 ghost use Rattle.line_reader.specs.Readers.{AreOpen};
 ghost use Rattle.stomach.specs.declared.early.Early.TheVariants as early;
-ghost use Rattle.stomach.specs.Files.{input_front, Sought, AreGone};
+ghost use Rattle.stomach.specs.Files.{SeeksFile, CutsSeeking, AreGone};
 ghost use Rattle.stomach.specs.Naming.{OnlySpelt};
 ghost use Rattle.stomach.specs.Ran.{RuledTo};
 ghost use Rattle.stomach.specs.Read.{ReadsTo};
@@ -64,10 +59,8 @@ fn spell_file(engine: &mut Engine, listed: bool) -> Result<usize, Broken>
 fn seek(engine: &mut Engine, back: bool, listed: bool) -> Result<usize, Broken>
     requires idle { engine.old.input.making ≡ None }
     requires uncalled { engine.old.input.call ≡ NotCalling }
-    ensures rule { IfOk result (λ n. (sizes : Sizes) (w : World) (book : Book) (r : Reading) (rs : List Reading) → Stands sizes engine.old (with_work (r ∷ rs) book) →
-        Sought sizes (state_of engine.old (with_work (r ∷ rs) book)) engine.new (with_work rs book) w (input_front (page_of engine.old book) back (file_name (character_codes (kept_list_of listed engine.old.input.builds)))) (file_name (character_codes (kept_list_of listed engine.old.input.builds))) n) }
-    ensures err { IfErr result (λ b. (sizes : Sizes) (w : World) (book : Book) (r : Reading) (rs : List Reading) (more : List Move) → Stands sizes engine.old (with_work (r ∷ rs) book) →
-        CutsIn sizes (state_of engine.old (with_work (r ∷ rs) book)) engine.new w w (input_front (page_of engine.old book) back (file_name (character_codes (kept_list_of listed engine.old.input.builds))) ++ more) b) }
+    ensures rule { IfOk result (SeeksFile engine.old engine.new back (file_name (character_codes (kept_list_of listed engine.old.input.builds)))) }
+    ensures err { IfErr result (CutsSeeking engine.old engine.new back (file_name (character_codes (kept_list_of listed engine.old.input.builds)))) }
     ensures light { OnOk result ((call : Call) (effect : Effect) → asks_in engine.old.readings.frames [] ≡ Some (ActsOn call effect []) → weight engine.new < weight engine.old) }
     ensures files { engine.new.input.pending.next ≡ engine.old.input.pending.next }
     ensures room { IfOk result (λ n. open_lines engine.new.input.pending + n ≤ engine.new.input.sizes.buffer_size) }

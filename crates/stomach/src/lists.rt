@@ -1,10 +1,7 @@
 // Lists of tokens are set at locations, shared, and given.
-ghost use Rattle.std.specs.Prelude.{◌≡◌, ◌≢◌, ◌<◌, true, List, [], ◌∷◌, ◌++◌, IfErr, OnOk, MatchBool, Some, None};
-ghost use Rattle.tex_defs.specs.Places.{World};
-ghost use Rattle.tex_defs.specs.declared.Sizes.{Sizes};
+ghost use Rattle.std.specs.Prelude.{◌≡◌, ◌≢◌, ◌<◌, true, [], ◌∷◌, ◌++◌, IfErr, OnOk, MatchBool, Some, None};
 ghost use Rattle.equivalents.specs.declared.values.Val.TheVariants as val;
 ghost use Rattle.equivalents.specs.Tables.{get};
-ghost use Rattle.plain_readings.specs.Readings.{Reading};
 ghost use Rattle.rows.specs.Internal.{IsFetchable, is_list};
 ghost use Rattle.rows.specs.Readings.{Ask, ActsOn};
 ghost use Rattle.rows.specs.declared.command.Effect.TheVariants as effects;
@@ -12,15 +9,15 @@ ghost use Rattle.reading_frames.specs.Views.{top_list, kept_list_of};
 ghost use Rattle.reading_frames.specs.Stack.{asks_in, innermost_count};
 ghost use Rattle.reading_frames.specs.Weights.{IsEnd};
 ghost use Rattle.plain_machine.specs.States.{Closed, ListSet, Set};
-ghost use Rattle.plain_machine.specs.Plan.{acts_above, is_global as plain_global, list_set};
+ghost use Rattle.plain_machine.specs.Plan.{is_global as plain_global, list_set};
 ghost use Rattle.engine_state.specs.declared.broken.Broken.TheVariants as broken;
-ghost use Rattle.engine_state.specs.Book.{Book, with_work};
 ghost use Rattle.engine_state.specs.Clauses.{Still, MakesMoves, CutsMoves, GoesAtReading, CutsAtReading};
 ghost use Rattle.engine_state.specs.CutReadings.{CutsIn};
-ghost use Rattle.engine_state.specs.Stands.{Stands, SameFrames, state_of, page_of};
+ghost use Rattle.engine_state.specs.Stands.{Stands, SameFrames};
 ghost use Rattle.engine_state.specs.Rules.{Went};
 ghost use Rattle.engine_state.specs.Steps.{asked, weight};
 ghost use Rattle.rows.specs.Suiting.{IsThere, TakesList};
+ghost use Rattle.stomach.specs.Clauses.{GivesList, GoesIf};
 ghost use Rattle.input_state.specs.Callings.{NotCalling};
 
 use crate::define::has_token;
@@ -71,10 +68,8 @@ pub(crate) fn share_list(
 pub(crate) fn give_list(engine: &mut Engine, loc: Loc) -> Result<(), Broken>
     requires idle { engine.old.input.making ≡ None }
     requires uncalled { engine.old.input.call ≡ NotCalling }
-    ensures rule { OnOk result (IsThere loc → (sizes : Sizes) (w : World) (book : Book) (call : Call) (r : Reading) (rs : List Reading) → Stands sizes engine.old (with_work (r ∷ rs) book) →
-        Went sizes (state_of engine.old (with_work (r ∷ rs) book)) engine.new w w (acts_above rs (page_of engine.old book) call (effects.PutList loc)) 0) }
-    ensures err { IfErr result (λ b. (sizes : Sizes) (w : World) (book : Book) (call : Call) (r : Reading) (rs : List Reading) → Stands sizes engine.old (with_work (r ∷ rs) book) →
-        CutsIn sizes (state_of engine.old (with_work (r ∷ rs) book)) engine.new w w (acts_above rs (page_of engine.old book) call (effects.PutList loc)) b) }
+    ensures rule { OnOk result (IsThere loc → GivesList Went engine.old engine.new loc 0) }
+    ensures err { IfErr result (GivesList CutsIn engine.old engine.new loc) }
     ensures light { OnOk result ((a : Ask) → asks_in engine.old.readings.frames [] ≡ Some a → IsEnd a → weight engine.new < weight engine.old) }
     ensures column { engine.new.in_line ≡ engine.old.in_line }
     ensures idle { OnOk result (engine.new.input.making ≡ None) }
@@ -97,8 +92,7 @@ pub(crate) fn give_list(engine: &mut Engine, loc: Loc) -> Result<(), Broken>
 fn assign_list(engine: &mut Engine, call: Call, loc: Loc) -> Result<(), Full>
     requires some { engine.old.input.builds ≢ [] }
     requires token { top_list engine.old.input.builds ≢ [] }
-    ensures rule { OnOk result (TakesList loc → (sizes : Sizes) (w : World) (book : Book) (r : Reading) (rs : List Reading) → Stands sizes engine.old (with_work (r ∷ rs) book) → innermost_count engine.old.readings.frames ≡ 1 →
-        Went sizes (state_of engine.old (with_work (r ∷ rs) book)) engine.new w w (ListSet (plain_global (page_of engine.old book) call) loc (top_list engine.old.input.builds) ∷ []) 0) }
+    ensures rule { OnOk result (TakesList loc → GoesIf (innermost_count engine.old.readings.frames ≡ 1) Went engine.old engine.new (λ page _. ListSet (plain_global page call) loc (top_list engine.old.input.builds) ∷ []) 0) }
     ensures err { IfErr result (λ full. CutsAtReading engine.old engine.new (λ page _. ListSet (plain_global page call) loc (top_list engine.old.input.builds) ∷ []) (broken.Full full)) }
     ensures light { OnOk result (engine.old.input.call ≡ NotCalling → (a : Ask) → asks_in engine.old.readings.frames [] ≡ Some a → IsEnd a → weight engine.new < weight engine.old) }
     ensures call { engine.new.input.call ≡ engine.old.input.call }
@@ -149,10 +143,8 @@ pub(crate) fn set_list(
     listed: bool,
 ) -> Result<(), Broken>
     requires idle { engine.old.input.making ≡ None }
-    ensures rule { OnOk result (TakesList loc → (sizes : Sizes) (w : World) (book : Book) (r : Reading) (rs : List Reading) → Stands sizes engine.old (with_work (r ∷ rs) book) → asked engine.old ≡ Some (ActsOn call (effects.SetList loc) (kept_list_of listed engine.old.input.builds)) →
-        Went sizes (state_of engine.old (with_work (r ∷ rs) book)) engine.new w w (list_set (page_of engine.old book) call loc (kept_list_of listed engine.old.input.builds)) 0) }
-    ensures err { IfErr result (λ b. TakesList loc → (sizes : Sizes) (w : World) (book : Book) (r : Reading) (rs : List Reading) → Stands sizes engine.old (with_work (r ∷ rs) book) → asked engine.old ≡ Some (ActsOn call (effects.SetList loc) (kept_list_of listed engine.old.input.builds)) →
-        CutsIn sizes (state_of engine.old (with_work (r ∷ rs) book)) engine.new w w (list_set (page_of engine.old book) call loc (kept_list_of listed engine.old.input.builds)) b) }
+    ensures rule { OnOk result (TakesList loc → GoesIf (asked engine.old ≡ Some (ActsOn call (effects.SetList loc) (kept_list_of listed engine.old.input.builds))) Went engine.old engine.new (λ page _. list_set page call loc (kept_list_of listed engine.old.input.builds)) 0) }
+    ensures err { IfErr result (λ b. TakesList loc → GoesIf (asked engine.old ≡ Some (ActsOn call (effects.SetList loc) (kept_list_of listed engine.old.input.builds))) CutsIn engine.old engine.new (λ page _. list_set page call loc (kept_list_of listed engine.old.input.builds)) b) }
     ensures light { OnOk result (engine.old.input.call ≡ NotCalling → (a : Ask) → asks_in engine.old.readings.frames [] ≡ Some a → IsEnd a → weight engine.new < weight engine.old) }
     ensures column { engine.new.in_line ≡ engine.old.in_line }
     ensures idle { OnOk result (engine.new.input.making ≡ None) }

@@ -1,18 +1,14 @@
 // What the stomach and the readings make of a token that isn't expanded.
 ghost use Rattle.std.specs.Prelude.{◌≡◌, IfOk, IfErr, OnOk, None, [], ◌∷◌};
-ghost use Rattle.tex_defs.specs.declared.Sizes.{Sizes};
-ghost use Rattle.tex_defs.specs.Places.{World};
 ghost use Rattle.plain_machine.specs.States.{GroupOpened};
 ghost use Rattle.plain_machine.specs.Plan.{begun, brace_met, endgroup_met, character, command, primitive, register};
-ghost use Rattle.world_io.specs.Contents.{FilesTold};
-ghost use Rattle.engine_state.specs.Book.{Book};
-ghost use Rattle.engine_state.specs.Clauses.{CutsFree, GoesOnward, CutsOnward};
+ghost use Rattle.engine_state.specs.Clauses.{CutsFree, DoesSilently, GoesOnward, CutsOnward};
 ghost use Rattle.engine_state.specs.CutReadings.{CutsIn};
-ghost use Rattle.engine_state.specs.Stands.{Stands, SameFrames, state_of, page_of};
-ghost use Rattle.engine_state.specs.Rules.{world_of, onward_of, Takes, DoesOnward};
+ghost use Rattle.engine_state.specs.Stands.{Stands, SameFrames};
+ghost use Rattle.engine_state.specs.Rules.{DoesOnward};
 ghost use Rattle.engine_state.specs.Steps.{pending_weight, IsFree, IsHalted};
 ghost use Rattle.engine_state.specs.declared.outcome.Ruled.TheVariants.{Step};
-ghost use Rattle.gullet.specs.Stepping.{Stays};
+ghost use Rattle.stomach.specs.Clauses.{HandsToken};
 ghost use Rattle.stomach.specs.Obeying.{Obeys, is_dropped as plain_dropped};
 ghost use Rattle.input_state.specs.Callings.{NotCalling};
 
@@ -55,8 +51,7 @@ const RIGHT_BRACE: Token = Token::Char {
 fn open_group(engine: &mut Engine, kind: GroupKind) -> Result<Ruled, Broken>
     requires idle { engine.old.input.making ≡ None }
     requires uncalled { engine.old.input.call ≡ NotCalling }
-    ensures rule { IfOk result (λ ruled. (sizes : Sizes) (w : World) (book : Book) → Stands sizes engine.old book →
-        DoesOnward sizes (state_of engine.old book) engine.new book w w (GroupOpened kind ∷ []) ruled) }
+    ensures rule { IfOk result (DoesSilently Stands DoesOnward engine.old engine.new (λ _. GroupOpened kind ∷ [])) }
     ensures err { IfErr result (λ b. CutsFree engine.old engine.new (λ _. GroupOpened kind ∷ []) b) }
     ensures step { IfOk result (λ ruled. ruled ≡ Step) }
     ensures column { engine.new.in_line ≡ engine.old.in_line }
@@ -119,8 +114,7 @@ fn meet_endgroup<S: Sink>(engine: &mut Engine, out: &mut S, token: Token) -> Res
 fn begin_row(engine: &mut Engine, token: Token, head: Head) -> Result<Ruled, Broken>
     requires idle { engine.old.input.making ≡ None }
     requires uncalled { engine.old.input.call ≡ NotCalling }
-    ensures rule { IfOk result (λ ruled. (sizes : Sizes) (w : World) (book : Book) → Stands sizes engine.old book →
-        DoesOnward sizes (state_of engine.old book) engine.new book w w (begun token head) ruled) }
+    ensures rule { IfOk result (DoesSilently Stands DoesOnward engine.old engine.new (λ _. begun token head)) }
     ensures err { IfErr result (λ b. CutsFree engine.old engine.new (λ _. begun token head) b) }
     ensures step { IfOk result (λ ruled. ruled ≡ Step) }
     ensures column { engine.new.in_line ≡ engine.old.in_line }
@@ -273,10 +267,8 @@ pub(crate) fn hand_on<S: Sink>(
 ) -> Result<Ruled, Broken>
     requires idle { engine.old.input.making ≡ None }
     requires uncalled { engine.old.input.call ≡ NotCalling }
-    ensures rule { IfOk result (λ ruled. (sizes : Sizes) (f : FilesTold) (book : Book) → Stays want x → Takes sizes want engine.old book →
-        DoesOnward sizes (state_of engine.old book) engine.new book (world_of f (S.told out.old) engine.old) (world_of f (S.told out.new) engine.new) (onward_of (page_of engine.old book) want book.work x) ruled) }
-    ensures err { IfErr result (λ b. (sizes : Sizes) (f : FilesTold) (book : Book) → Stays want x → Takes sizes want engine.old book →
-        CutsIn sizes (state_of engine.old book) engine.new (world_of f (S.told out.old) engine.old) (world_of f (S.told out.new) engine.new) (onward_of (page_of engine.old book) want book.work x) b) }
+    ensures rule { IfOk result (HandsToken DoesOnward engine.old engine.new (S.told out.old) (S.told out.new) want x) }
+    ensures err { IfErr result (HandsToken (λ sizes s e _. CutsIn sizes s e) engine.old engine.new (S.told out.old) (S.told out.new) want x) }
     ensures halts { IfOk result (λ ruled. IsHalted ruled → SameFrames engine.old engine.new) }
     ensures on { IfOk result (λ ruled. IsFree ruled → ⊥) }
     ensures idle { OnOk result (engine.new.input.making ≡ None) }

@@ -1,6 +1,5 @@
 // The rules: what becomes of tokens, and of what the readings ask for.
 ghost use Rattle.std.specs.Prelude.{◌≡◌, ◌<◌, List, [], ◌∷◌, IfOk, IfErr, OnOk, MatchResult, Some, None, true, false};
-ghost use Rattle.tex_defs.specs.declared.Sizes.{Sizes};
 ghost use Rattle.plain_tokens.specs.Pending.{pulled};
 ghost use Rattle.plain_readings.specs.Readings.{Reading};
 ghost use Rattle.rows.specs.Readings.{ActsOn};
@@ -9,15 +8,14 @@ ghost use Rattle.reading_frames.specs.Stack.{asked_in, asked_of, asks_in};
 ghost use Rattle.reading_frames.specs.Stands as frames;
 ghost use Rattle.plain_machine.specs.Plan.{acts_on, reported_as};
 ghost use Rattle.plain_machine.specs.States.{Closed};
-ghost use Rattle.world_io.specs.Contents.{FilesTold};
 ghost use Rattle.input_state.specs.Reads.{gives_step};
 ghost use Rattle.input_state.specs.Callings.{NotCalling, call_in};
-ghost use Rattle.engine_state.specs.Book.{Book, with_work};
 ghost use Rattle.engine_state.specs.Clauses.{CutsWhere, DoesWhere, Taking};
 ghost use Rattle.engine_state.specs.CutReadings.{CutsIn};
-ghost use Rattle.engine_state.specs.Stands.{Stands, SameReadings, state_of, page_of};
-ghost use Rattle.engine_state.specs.Rules.{world_of, plan_of, next_moves, DoesRule};
+ghost use Rattle.engine_state.specs.Stands.{Stands, SameReadings};
+ghost use Rattle.engine_state.specs.Rules.{plan_of, next_moves, DoesRule};
 ghost use Rattle.engine_state.specs.Steps.{all_start, asked, stepping, stops_run, IsStep, IsFree, IsHalted, StepsIf, weight};
+ghost use Rattle.stomach.specs.Clauses.{DoesIf};
 ghost use Rattle.stomach.specs.Innermost.{IsAsked, IsInnermost};
 ghost use Rattle.stomach.specs.Halting.{DoesRuleIn, DoesPlanIn, CutsPlanIn, DoesRuleAtReading, CutsRuleAtReading};
 
@@ -93,10 +91,8 @@ fn act_on<S: Sink>(
 ) -> Result<Ruled, Broken>
     requires idle { engine.old.input.making ≡ None }
     requires uncalled { engine.old.input.call ≡ NotCalling }
-    ensures rule { IfOk result (λ ruled. (sizes : Sizes) (f : FilesTold) (book : Book) (r : Reading) (rs : List Reading) → Stands sizes engine.old (with_work (r ∷ rs) book) → asked engine.old ≡ Some (ActsOn call effect (kept_list_of listed engine.old.input.builds)) →
-        DoesRuleIn sizes (state_of engine.old (with_work (r ∷ rs) book)) engine.new (world_of f (S.told out.old) engine.old) (world_of f (S.told out.new) engine.new) (acts_on (page_of engine.old book) call effect (kept_list_of listed engine.old.input.builds)) ruled) }
-    ensures err { IfErr result (λ b. (sizes : Sizes) (f : FilesTold) (book : Book) (r : Reading) (rs : List Reading) → Stands sizes engine.old (with_work (r ∷ rs) book) → asked engine.old ≡ Some (ActsOn call effect (kept_list_of listed engine.old.input.builds)) →
-        CutsIn sizes (state_of engine.old (with_work (r ∷ rs) book)) engine.new (world_of f (S.told out.old) engine.old) (world_of f (S.told out.new) engine.new) (acts_on (page_of engine.old book) call effect (kept_list_of listed engine.old.input.builds)) b) }
+    ensures rule { IfOk result (DoesIf (asked engine.old ≡ Some (ActsOn call effect (kept_list_of listed engine.old.input.builds))) DoesRuleIn engine.old engine.new (S.told out.old) (S.told out.new) (λ page _. acts_on page call effect (kept_list_of listed engine.old.input.builds))) }
+    ensures err { IfErr result (DoesIf (asked engine.old ≡ Some (ActsOn call effect (kept_list_of listed engine.old.input.builds))) CutsIn engine.old engine.new (S.told out.old) (S.told out.new) (λ page _. acts_on page call effect (kept_list_of listed engine.old.input.builds))) }
     ensures step { IfOk result (λ ruled. IsStep ruled → ⊥) }
     ensures light { IfOk result (λ ruled. IsFree ruled → asks_in engine.old.readings.frames [] ≡ Some (ActsOn call effect []) → weight engine.new < weight engine.old) }
     ensures idle { OnOk result (engine.new.input.making ≡ None) }
