@@ -1,5 +1,7 @@
 -- The stack with its innermost frame first.
-use Rattle.std.proofs.Common.{◌≡◌, ◌∙◌, List, [], ◌∷◌, ◌++◌, Option, Some, reverse, length, refl, sym, ap}
+use Rattle.std.proofs.Common.{◌≡◌, ◌∙◌, List, [], ◌∷◌, ◌++◌, Option, Some, None, reverse, length, refl, sym, ap}
+use Rattle.std.specs.Prelude.{IfSome}
+use Rattle.tex_syntax.specs.declared.words.Want.{Want}
 use Rattle.std.proofs.lemmas.List.{append-nil, length-reverse, reverse-append}
 use Rattle.plain_readings.specs.Readings.{Reading, ask}
 use Rattle.reading_frames.specs.Views.{Lists, ask_of}
@@ -7,6 +9,7 @@ use Rattle.reading_frames.specs.Resumes.{resume}
 use Rattle.reading_frames.specs.Stands.{FramesStand}
 use Rattle.reading_frames.specs.Stack.{frames_of, asks_in, asked_in}
 use Rattle.reading_frames.specs.declared.ask.Ask.{Ask}
+use Rattle.reading_frames.specs.declared.ask.Ask.TheVariants as asks
 use Rattle.reading_frames.specs.declared.text.BuildScan.{BuildScan}
 use Rattle.reading_frames.specs.declared.frame.Frame.{Frame}
 use Rattle.reading_frames.specs.declared.frame.Frame.TheVariants.{Build}
@@ -29,3 +32,9 @@ pub build_stands : (fs beneath : List Frame) (f : Frame) (scan : BuildScan) (a :
     (held : Lists) (work : List Reading) → FramesStand fs held work → Some (ask_of held a) ≡ asked_in work
 build_stands fs beneath f scan a is at asks held work st =
     ap Some (asks held) ∙ (sym (ap (λ (x : List Frame). asks_in x held) (is ∙ ap (λ (x : Frame). x ∷ beneath) at)) ∙ asks_stand fs held work st)
+
+-- so it is with what a body wants
+pub body_stands : (fs beneath : List Frame) (f : Frame) (scan : BuildScan) (o : Option Want) → fs ≡ f ∷ beneath → f ≡ Build scan → IfSome o (λ want. (held : Lists) → ask_of held (asks.More want) ≡ resume (Build scan) held []) →
+    IfSome o (λ want. (held : Lists) (work : List Reading) → FramesStand fs held work → Some (ask_of held (asks.More want)) ≡ asked_in work)
+body_stands fs beneath f scan None is at h = tt
+body_stands fs beneath f scan (Some want) is at h = build_stands fs beneath f scan (asks.More want) is at h

@@ -4,9 +4,12 @@ use Rattle.tex_defs.specs.declared.Token.{Token}
 use Rattle.tex_syntax.specs.declared.words.Scanned.{Scanned}
 use Rattle.tex_syntax.specs.declared.words.Scanned.TheVariants as scanned
 use Rattle.tex_syntax.specs.declared.words.Manner.{Manner}
-use Rattle.tex_syntax.specs.declared.words.Want.TheVariants.{Expanded, Nonblank}
+use Rattle.tex_syntax.specs.declared.words.Want.{Want}
+use Rattle.tex_syntax.specs.declared.words.Want.TheVariants.{Copied, Expanded, Nonblank, Raw}
 use Rattle.plain_state.specs.Definitions as build
 use Rattle.list_builder.specs.Stages as stages
+use Rattle.list_builder.specs.declared.stage.Stage.{Stage}
+use Rattle.list_builder.specs.declared.stage.Stage.TheVariants as stage
 use Rattle.list_builder.specs.Stages.{cell_count}
 use Rattle.conditionals.specs.declared.choice.Aim.{Aim}
 use Rattle.rows.specs.declared.words.Value.{Value}
@@ -157,6 +160,19 @@ build_at m place.Whole list fed = build.Done list
 
 abbrev pub resume_build : BuildScan → List Token → List Fed → build.Answer
 resume_build scan list fed = build_at scan.manner scan.place list fed
+
+-- what is wanted where a body is read: in an expanded one a token, with those of a list copied, and else one as it stands
+abbrev pub stage_want : (expanded : Bool) → Stage → Option Want
+stage_want true (stage.InBody b depth) = Some Copied
+stage_want false (stage.InBody b depth) = Some Raw
+stage_want expanded s = None
+
+abbrev pub place_want : Bool → BuildPlace → Option Want
+place_want expanded (place.At s) = stage_want expanded s
+place_want expanded place.Whole = None
+
+abbrev pub body_want : BuildScan → Option Want
+body_want scan = place_want scan.manner.expanded scan.place
 
 -- the groups that are open in it
 abbrev pub groups_at : BuildPlace → ℕ

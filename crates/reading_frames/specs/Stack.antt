@@ -3,6 +3,7 @@ use Rattle.std.specs.Prelude.{◌≡◌, ℕ, ◌+◌, ◌≤◌, ◌<◌, ◌^�
 use Rattle.tex_defs.specs.declared.Full.{Full}
 use Rattle.tex_defs.specs.declared.Table.TheVariants.{ExpansionDepth}
 use Rattle.tex_defs.specs.declared.Token.{Token}
+use Rattle.tex_syntax.specs.declared.words.Want.{Want}
 use Rattle.tex_syntax.specs.declared.words.Want.TheVariants.{Copied}
 use Rattle.plain_tokens.specs.Puts.{grow_first}
 use Rattle.rows.specs.Readings as reading
@@ -11,12 +12,13 @@ use Rattle.plain_readings.specs.Readings.{Reading, ask, fed_with}
 use Rattle.plain_readings.specs.Scanning.{Status, Scans, SkipsText, Unguarded, Scanning}
 use Rattle.plain_readings.specs.Scanning as machine
 use Rattle.reading_frames.specs.Views.{Lists, top_list, ask_of}
-use Rattle.reading_frames.specs.Resumes.{resume, building, list_count, frame_status, groups}
+use Rattle.reading_frames.specs.Resumes.{resume, building, list_count, frame_status, groups, body_want}
 use Rattle.reading_frames.specs.Stands.{FramesStand, AreShallow}
 use Rattle.reading_frames.specs.declared.ask.Ask.{Ask}
 use Rattle.reading_frames.specs.declared.ask.Found.{Found}
 use Rattle.reading_frames.specs.declared.ask.Found.TheVariants.{Builds, SkippedText}
 use Rattle.reading_frames.specs.declared.frame.Frame.{Frame}
+use Rattle.reading_frames.specs.declared.frame.Frame.TheVariants.{Build}
 
 pub record Stack : Type 0 where
   pub frames : List Frame
@@ -50,6 +52,15 @@ asked_in (r ∷ work) = Some (ask r.kind r.fed)
 abbrev pub asked_of : Lists → Option Ask → Option reading.Ask
 asked_of held None = None
 asked_of held (Some a) = Some (ask_of held a)
+
+-- what the innermost wants, where it reads a body
+abbrev pub frame_body : Frame → Option Want
+frame_body (Build scan) = body_want scan
+frame_body f = None
+
+abbrev pub innermost_body : List Frame → Option Want
+innermost_body [] = None
+innermost_body (f ∷ fs) = frame_body f
 
 -- the groups that are open in the list of the innermost
 abbrev pub innermost_groups : List Frame → ℕ

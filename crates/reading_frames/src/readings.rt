@@ -10,7 +10,8 @@ ghost use Rattle.plain_readings.specs.Weights.{value_frame, act_frame, value_wei
 ghost use Rattle.reading_frames.specs.Views.{has_no_token, kind_of, IsFetchedAt, Lists, on_top};
 ghost use Rattle.reading_frames.specs.Resumes.{with_list, listed_count, token_count, Owns};
 ghost use Rattle.reading_frames.specs.Stands.{FramesStand, AreShallow, opened_lists};
-ghost use Rattle.reading_frames.specs.Stack.{Stack, AsksCopied, depth_full, asks_in, asked_in, asked_of, innermost_groups, innermost_count, innermost_lists, innermost_of, with_innermost, lists_beneath, found_in, innermost_found, scanning_of};
+ghost use Rattle.reading_frames.specs.Stack.{Stack, innermost_body, AsksCopied, depth_full, asks_in, asked_in, asked_of, innermost_groups, innermost_count, innermost_lists, innermost_of, with_innermost, lists_beneath, found_in, innermost_found, scanning_of};
+ghost use Rattle.reading_frames.specs.declared.ask.Ask.TheVariants as asks;
 ghost use Rattle.reading_frames.specs.Weights.{frames_weight, opening_frame, opening_end, innermost_weight, innermost_end, innermost_fed, innermost_puts, begun_weight, begun_with_weight, IsReported};
 
 use crate::ask::{Ask, Found, Grown, Opening};
@@ -128,6 +129,22 @@ impl Readings {
         ensures stands { (held : Lists) (work : List Reading) → FramesStand self.now.frames held work → MatchBool result (AsksCopied (asked_in work)) (AsksCopied (asked_in work) → ⊥) }
     {
         matches!(self.ask(), Some(Ask::More(Want::Copied)))
+    }
+
+    /// What the innermost asks for, where it reads the body of a text or of a macro: a token. Most tokens of lists that are built come there.
+    #[inline(always)]
+    pub fn body_want(&self) -> Option<Want>
+        ensures is { result ≡ innermost_body self.now.frames }
+        ensures asks { IfSome result (λ want. (held : Lists) → asked_of held (Some (asks.More want)) ≡ asks_in self.now.frames held) }
+        ensures stands { IfSome result (λ want. (held : Lists) (work : List Reading) → FramesStand self.now.frames held work → asked_of held (Some (asks.More want)) ≡ asked_in work) }
+    {
+        let Some(frame) = &self.innermost else {
+            return None;
+        };
+        if let Frame::Build(scan) = frame {
+            return scan.body_want();
+        }
+        None
     }
 
     /// What the innermost asks for.

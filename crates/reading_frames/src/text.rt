@@ -1,5 +1,5 @@
 // A balanced text or the list of a macro, token by token.
-ghost use Rattle.std.specs.Prelude.{◌≡◌, ◌≤◌, ◌<◌, ◌+◌, ◌^◌, List, [], ◌∷◌, true, false};
+ghost use Rattle.std.specs.Prelude.{◌≡◌, ◌≤◌, ◌<◌, ◌+◌, ◌^◌, List, [], ◌∷◌, IfSome, true, false};
 ghost use Rattle.tex_defs.specs.declared.Name.{Name};
 ghost use Rattle.tex_defs.specs.declared.Token.{Token};
 ghost use Rattle.tex_syntax.specs.declared.words.Scanned.{Scanned};
@@ -8,13 +8,14 @@ ghost use Rattle.plain_readings.specs.Lists as lists;
 ghost use Rattle.plain_readings.specs.Lists.{build_ask, build_fed};
 ghost use Rattle.list_builder.specs.Stages as stages;
 ghost use Rattle.reading_frames.specs.Views.{ask_of, IsFetchedAt, grown, Lists, top_list};
-ghost use Rattle.reading_frames.specs.Resumes.{resume_build, groups_in, built_as, token_count, Owns};
+ghost use Rattle.reading_frames.specs.Resumes.{resume_build, body_want, groups_in, built_as, token_count, Owns};
+ghost use Rattle.reading_frames.specs.declared.ask.Ask.TheVariants as asks;
 
 use crate::ask::{Ask, Grown};
 use list_builder::{Due, Next, Stage, Step};
 use rows::Value;
 use tex_defs::{Name, Seen};
-use tex_syntax::{Manner, Scanned};
+use tex_syntax::{Manner, Scanned, Want};
 
 /// Where the reading of a list stands.
 #[derive(Clone, Copy)]
@@ -70,6 +71,24 @@ impl BuildScan {
             Scanned::Definition
         } else {
             Scanned::Text
+        }
+    }
+
+    /// What it asks for where it reads the body of a text or of a macro: a token, expanded or not.
+    #[inline(always)]
+    pub fn body_want(&self) -> Option<Want>
+        ensures is { result ≡ body_want self.now }
+        ensures asks { IfSome result (λ want. (held : Lists) → ask_of held (asks.More want) ≡ build_ask (resume_build self.now (top_list held) [])) }
+    {
+        match self.place {
+            BuildPlace::At(Stage::InBody(_, _)) => {
+                if self.manner.expanded {
+                    Some(Want::Copied)
+                } else {
+                    Some(Want::Raw)
+                }
+            }
+            _ => None,
         }
     }
 

@@ -2,7 +2,7 @@
 ghost use Rattle.std.specs.Prelude.{◌≡◌};
 ghost use Rattle.engine_state.specs.Steps.{all_want, asked};
 ghost use Rattle.stomach.specs.Innermost.{IsInnermost, innermost_wants, innermost_opens};
-ghost use Rattle.input_state.specs.Callings.{call_in};
+ghost use Rattle.input_state.specs.Callings.{NotCalling, call_in};
 
 use engine_state::Engine;
 use input_state::Call;
@@ -32,11 +32,24 @@ impl Innermost {
         match engine.input.call() {
             Some(call) => *self = Innermost::Call(call),
             // Each case by itself: the frequent ones are a few bytes, and the answer isn't copied whole.
-            None => match engine.readings.ask() {
-                None => *self = Innermost::Frame(None),
-                Some(Ask::More(want)) => *self = Innermost::Frame(Some(Ask::More(want))),
-                ask => *self = Innermost::Frame(ask),
+            None if engine.readings.count() == 0 => *self = Innermost::Frame(None),
+            None => match engine.readings.body_want() {
+                Some(want) => *self = Innermost::Frame(Some(Ask::More(want))),
+                None => self.ask(engine),
             },
+        }
+    }
+
+    /// Becomes the innermost frame of an engine, by what it asks for.
+    fn ask(&mut self, engine: &Engine)
+        requires uncalled { engine.now.input.call ≡ NotCalling }
+        ensures is { IsInnermost engine.now self.new }
+        ensures wants { innermost_wants self.new ≡ all_want (call_in engine.now.input.call) (asked engine.now) }
+    {
+        match engine.readings.ask() {
+            None => *self = Innermost::Frame(None),
+            Some(Ask::More(want)) => *self = Innermost::Frame(Some(Ask::More(want))),
+            ask => *self = Innermost::Frame(ask),
         }
     }
 
