@@ -207,8 +207,33 @@ impl Frame {
     }
 
     /// Takes a token. Fewer than 2^64 - 1 groups are open in the list that it builds.
+    #[inline(always)]
     #[tactic(auto, using(crate::proofs::Growing::top_grown, crate::proofs::Growing::beneath_grown, crate::proofs::Growing::grown_held))]
     pub fn feed(&mut self, x: Seen) -> Grown
+        requires { groups self.old + 1 < 2 ^ 64 }
+        ensures own { own_weight self.new ≡ own_weight self.old }
+        ensures ends { frame_end self.new ≡ frame_end self.old }
+        ensures weight { asks_weight self.new ≤ fed_weight self.old }
+        ensures read { put_count self.new ≤ put_count self.old + 1 }
+        ensures asks { (held : Lists) (fed : List Fed) → resume self.old held (Tok x ∷ fed) ≡ resume self.new (on_top result held) fed }
+        ensures builds { (held : Lists) (fed : List Fed) → building self.old held (Tok x ∷ fed) ≡ building self.new (on_top result held) fed }
+        ensures holds { (held : Lists) → list_count self.old ≤ length held → list_count self.new ≤ length (on_top result held) }
+        ensures beneath { (held : Lists) → below self.new (on_top result held) ≡ below self.old held }
+        ensures checks { frame_status self.new ≡ frame_status self.old }
+        ensures shallow { groups self.new ≤ groups self.old + token_count result }
+        ensures listed { 1 ≤ token_count result → list_count self.old ≡ 1 }
+    {
+        // Each token of a text comes here.
+        if let Frame::Build(scan) = self {
+            return scan.feed(x);
+        }
+        self.feed_other(x)
+    }
+
+    // The same, where it may be any frame.
+    #[inline(never)]
+    #[tactic(auto, using(crate::proofs::Growing::top_grown, crate::proofs::Growing::beneath_grown, crate::proofs::Growing::grown_held))]
+    fn feed_other(&mut self, x: Seen) -> Grown
         requires { groups self.old + 1 < 2 ^ 64 }
         ensures own { own_weight self.new ≡ own_weight self.old }
         ensures ends { frame_end self.new ≡ frame_end self.old }

@@ -234,6 +234,7 @@ impl Readings {
     }
 
     /// The innermost takes a token. Fewer than 2^64 - 1 groups are open in the list that it builds.
+    #[inline(always)]
     pub fn feed(&mut self, x: Seen) -> Grown
         requires { innermost_groups self.old.frames + 1 < 2 ^ 64 }
         ensures ends { innermost_end self.new.frames ≡ innermost_end self.old.frames }

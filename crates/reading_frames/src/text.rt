@@ -118,6 +118,7 @@ impl BuildScan {
     }
 
     /// Goes where the step leads.
+    #[inline(never)]
     fn go(&mut self, step: Step) -> Grown
         ensures what { self.new.defines ≡ self.old.defines }
         ensures manner { self.new.manner ≡ self.old.manner }
@@ -136,6 +137,7 @@ impl BuildScan {
     }
 
     /// Takes a token. Fewer than 2^64 - 1 groups are open in the list.
+    #[inline(always)]
     pub fn feed(&mut self, x: Seen) -> Grown
         requires { groups_in self.old + 1 < 2 ^ 64 }
         ensures what { self.new.defines ≡ self.old.defines }

@@ -1,7 +1,7 @@
 -- Behind a token a frame asks for no more than one of its kind may.
 use Rattle.reading_frames.specs.declared.frame.Frame.TheVariants.{Command}
 use Rattle.reading_frames.proofs.Weights.{command_fed, number_fed, fraction_fed, dimension_fed, glue_fed, keyword_fed}
-use Rattle.reading_frames.proofs.frame.Frame.feed.Goals as goal
+use Rattle.reading_frames.proofs.frame.Frame.feed_other.Goals as goal
 
 pub returns-in-Command-clause-weight : goal.returns-in-Command-clause-weight
 returns-in-Command-clause-weight c = command_fed c.args.self.now c.in-Command.scan c.in-Command.field-1 (Command c.feed.new.self c.in-Command.field-1) c.in-Command.is
