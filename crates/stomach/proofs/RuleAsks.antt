@@ -1,6 +1,6 @@
 -- A rule of the frames is by what the innermost asks for.
-use Rattle.std.proofs.Common.{◌≡◌, List, [], ◌∷◌, length, refl, sym, ap, ◌∙◌, subst, Bool, true, false, arith}
-use Rattle.std.specs.Prelude.{Option, Some, None, IfSome, ◌&&◌}
+use Rattle.std.proofs.Common.{◌≡◌, List, [], ◌∷◌, refl, sym, ap, ◌∙◌, subst, Bool, true, false}
+use Rattle.std.specs.Prelude.{Option, Some, None, ◌&&◌}
 use Rattle.tex_syntax.specs.declared.words.Want.{Want}
 use Rattle.tex_defs.specs.declared.Sizes.{Sizes}
 use Rattle.plain_tokens.specs.Pending.{pulled}
@@ -12,8 +12,6 @@ use Rattle.tex_defs.specs.declared.Token.{Token}
 use Rattle.plain_readings.specs.Readings.{Reading, ask}
 use Rattle.reading_frames.specs.Views.{Lists, ask_of, kept_list_of}
 use Rattle.reading_frames.specs.Stack.{asked_in, asked_of, asks_in}
-use Rattle.reading_frames.specs.Stands as frames
-use Rattle.reading_frames.specs.declared.frame.Frame.{Frame}
 use Rattle.reading_frames.specs.declared.ask.Ask.{Ask}
 use Rattle.reading_frames.specs.declared.ask.Ask.TheVariants as asks
 use Rattle.plain_machine.specs.States.{Move, Files}
@@ -47,27 +45,6 @@ frame_innermost e i a is h = subst (λ (x : Innermost). IsInnermost e x) is h
 
 pub asked_is : (e : Engine) (a b : Option Ask) → a ≡ b → IsAsked e a → IsAsked e b
 asked_is e a b is h = subst (λ (x : Option Ask). IsAsked e x) is h
-
--- no frame is open
-asks_none : (fs : List Frame) → length fs ≡ 0 → (held : Lists) → asked_of held None ≡ asks_in fs held
-asks_none [] is held = refl
-asks_none (f ∷ fs) is held = absurd (omega (arith, is))
-
-stands_none : (fs : List Frame) → length fs ≡ 0 → (held : Lists) (work : List Reading) → frames.FramesStand fs held work → asked_of held None ≡ asked_in work
-stands_none [] is held [] st = refl
-stands_none [] is held (r ∷ rs) st = absurd st
-stands_none (f ∷ fs) is held work st = absurd (omega (arith, is))
-
-pub none_asked : (e : Engine) → length e.readings.frames ≡ 0 → IsAsked e None
-none_asked e is = record { asks = asks_none e.readings.frames is; stands = stands_none e.readings.frames is; found = tt }
-
--- the innermost reads a body, and wants a token
-pub body_asked : (e : Engine) (o : Option Want) (want : Want) → o ≡ Some want → IfSome o (λ w. AsksFor e (Some (asks.More w))) → IfSome o (λ w. StandsAsking e (Some (asks.More w))) → IsAsked e (Some (asks.More want))
-body_asked e o want is a s = record {
-  asks = subst (λ (x : Option Want). IfSome x (λ w. AsksFor e (Some (asks.More w)))) is a;
-  stands = subst (λ (x : Option Want). IfSome x (λ w. StandsAsking e (Some (asks.More w)))) is s;
-  found = tt;
-}
 
 -- whether that is a token
 wants_of : (held : Lists) (x : Ask) → asks_more (ask_of held x) ≡ ask_wants x

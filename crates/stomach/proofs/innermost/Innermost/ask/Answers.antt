@@ -1,4 +1,4 @@
-use Rattle.std.proofs.Common.{sym, ap, ◌∙◌, Some, None}
+use Rattle.std.proofs.Common.{ap, ◌∙◌, Some, None}
 use Rattle.stomach.specs.declared.innermost.Innermost.TheVariants as innermost
 use Rattle.stomach.proofs.RuleAsks.{asked_is, wants_same}
 use Rattle.stomach.proofs.innermost.Innermost.ask.Goals as goal

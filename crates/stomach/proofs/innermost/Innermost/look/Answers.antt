@@ -1,7 +1,6 @@
-use Rattle.std.proofs.Common.{sym, ap, ◌∙◌, Some, None}
-use Rattle.engine_state.proofs.Uncalled.{no_call}
+use Rattle.std.proofs.Common.{sym, ◌∙◌}
 use Rattle.stomach.specs.declared.innermost.Innermost.TheVariants as innermost
-use Rattle.stomach.proofs.RuleAsks.{asked_is, wants_same}
+use Rattle.stomach.proofs.RuleAsks.{wants_same}
 use Rattle.stomach.proofs.innermost.Innermost.look.Goals as goal
 
 pub returns-in-Some-clause-is : goal.returns-in-Some-clause-is
