@@ -21,8 +21,8 @@ use Rattle.input_state.specs.Macros.{list_at, is_shared}
 use Rattle.input_state.specs.Stored.{Stored}
 use Rattle.reading_frames.specs.declared.frame.Frame.{Frame}
 use Rattle.reading_frames.specs.Stack.{Stack}
-use Rattle.reading_frames.specs.Stands as frames
-use Rattle.reading_frames.specs.Stands.{AreShallow}
+use Rattle.reading_frames.specs.Frames as frames
+use Rattle.reading_frames.specs.Frames.{AreShallow}
 use Rattle.input_state.specs.declared.answer.Call.{Call}
 use Rattle.engine_state.specs.declared.engine.Engine.{Engine}
 use Rattle.engine_state.specs.Book.{Book}
@@ -36,7 +36,7 @@ pub readings_still : (e e' : Engine) (work : List Reading) → SameReadings e e'
 readings_still e e' work same h =
     let items : e'.readings.frames ≡ e.readings.frames = ap (λ (s : Stack). s.frames) same.readings in
     record {
-      frames = subst (λ (l : List (List Token)). frames.FramesStand e'.readings.frames l work) (sym same.lists) (subst (λ (fs : List Frame). frames.FramesStand fs e.input.builds work) (sym items) h.frames);
+      frames = subst (λ (l : List (List Token)). frames.AreFramesOf e'.readings.frames l work) (sym same.lists) (subst (λ (fs : List Frame). frames.AreFramesOf fs e.input.builds work) (sym items) h.frames);
       shallow = subst (λ (l : List (List Token)). AreShallow e'.readings.frames l) (sym same.lists) (subst (λ (fs : List Frame). AreShallow fs e.input.builds) (sym items) h.shallow);
     }
 

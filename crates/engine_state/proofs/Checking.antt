@@ -17,7 +17,7 @@ use Rattle.reading_frames.specs.declared.frame.Frame.TheVariants as frame
 use Rattle.reading_frames.specs.Resumes.{list_count, frame_status, built_as}
 use Rattle.reading_frames.specs.Views.{Lists, top_list}
 use Rattle.reading_frames.specs.Stack.{found_at, innermost_found, found_in, asks_in, scanning_of as scanning_found, unless_unguarded as unless_found}
-use Rattle.reading_frames.specs.Stands as frames
+use Rattle.reading_frames.specs.Frames as frames
 use Rattle.reading_frames.proofs.Scanning.{scans}
 use Rattle.plain_machine.specs.Plan.{first_list}
 use Rattle.input_state.specs.Callings.{NotCalling, call_in}
@@ -91,15 +91,15 @@ frame_held (frame.FileName scan) n m o le h = h
 frame_held (frame.Behind c x) n m o le h = h
 frame_held (frame.Skips scan) n m o le h = tt
 
-all_held : (fs : List Frame) (n : ℕ) (held : Lists) (work : List Reading) → n ≤ length held → frames.FramesStand fs (drop n held) work → IfSome (innermost_found fs n) (IsBelow (length held))
+all_held : (fs : List Frame) (n : ℕ) (held : Lists) (work : List Reading) → n ≤ length held → frames.AreFramesOf fs (drop n held) work → IfSome (innermost_found fs n) (IsBelow (length held))
 all_held [] n held work le h = tt
 all_held (f ∷ fs) n held [] le h = absurd h
 all_held (f ∷ fs) n held (r ∷ rs) le h =
     let room : n + list_count f ≤ length held = omega (arith, le, h.0.holds, length-drop n held) in
     frame_held f n (length held) (innermost_found fs (n + list_count f)) room
-    (all_held fs (n + list_count f) held rs room (subst (λ (l : Lists). frames.FramesStand fs l rs) (drop-drop (list_count f) n held) h.1))
+    (all_held fs (n + list_count f) held rs room (subst (λ (l : Lists). frames.AreFramesOf fs l rs) (drop-drop (list_count f) n held) h.1))
 
-found_held : (fs : List Frame) (held : Lists) (work : List Reading) → frames.FramesStand fs held work → IfSome (found_in fs) (IsBelow (length held))
+found_held : (fs : List Frame) (held : Lists) (work : List Reading) → frames.AreFramesOf fs held work → IfSome (found_in fs) (IsBelow (length held))
 found_held [] held work h = tt
 found_held (f ∷ fs) held work h = guarded (frame_status f) (innermost_found (f ∷ fs) 0) (IsBelow (length held)) (all_held (f ∷ fs) 0 held work (omega arith) h)
 

@@ -24,7 +24,7 @@ use Rattle.plain_readings.specs.Readings.{Reading, fed_with}
 use Rattle.plain_readings.specs.Scanning.{Scanning, Builds, SkippedText}
 use Rattle.plain_machine.specs.States.{State, Move, Written, Reported, Feeds}
 use Rattle.plain_tokens.specs.Tokens.{space_token, is_outer}
-use Rattle.plain_machine.specs.Plan.{Page, style_of, wanted, reported, check_noted, put_one, page_behind, incomplete, checked, met, met_outer}
+use Rattle.plain_machine.specs.Plan.{Page, style_of, wanted, reported, cut_or_not, put_one, page_behind, incomplete, checked, met, met_outer}
 use Rattle.plain_machine.specs.Does.{Did}
 use Rattle.plain_machine.proofs.Doing.{did_join, did_none}
 use Rattle.plain_machine.proofs.Renumbering.{met_of}
@@ -57,7 +57,7 @@ use Rattle.engine_state.proofs.CheckingNotes.{cut_same, noted_stands, noted_did,
 use Rattle.engine_state.proofs.Joining.{went_by, onward_by, onward_join}
 use Rattle.engine_state.proofs.CuttingReadings.{later_in, in_by}
 use Rattle.engine_state.proofs.Reporting.{others_sound}
-use Rattle.engine_state.proofs.Standing.{all_input}
+use Rattle.engine_state.proofs.AtLocations.{all_input}
 
 -- WHERE A TOKEN IS WANTED, as before
 
@@ -127,12 +127,12 @@ module _ (sizes : Sizes) (want space : Option Want) (e e1 e2 : Engine) (f : File
   abbrev Rep : List Move → Type 0
   Rep rest = Reports sizes (state_of e book) (state_of e1 book) (world_of f s0 e) (world_of f s1 e1) (page_of e book) report rest
 
-  abbrev Noted : Engine → List Move → Type 0
-  Noted y rest = Behind sizes want space (state_of e book) y book page (world_of f s0 e) (world_of f s1 y) (reported (page_of e book) report rest)
+  abbrev IsNotedFrom : Engine → List Move → Type 0
+  IsNotedFrom y rest = Behind sizes want space (state_of e book) y book page (world_of f s0 e) (world_of f s1 y) (reported (page_of e book) report rest)
 
   -- nothing notes it
-  pub unnoted : e2 ≡ e1 → Rep (space_moves page space book.work) → Noted e2 (space_moves page space book.work)
-  unnoted is rep = subst (λ (y : Engine). Noted y (space_moves page space book.work)) (sym is) (record {
+  pub unnoted : e2 ≡ e1 → Rep (space_moves page space book.work) → IsNotedFrom e2 (space_moves page space book.work)
+  unnoted is rep = subst (λ (y : Engine). IsNotedFrom y (space_moves page space book.work)) (sym is) (record {
     book2 = book;
     still = λ none. refl;
     takes = takes1;
@@ -147,7 +147,7 @@ module _ (sizes : Sizes) (want space : Option Want) (e e1 e2 : Engine) (f : File
     asking_is : AsksToken e.input.call → AsksToken e1.input.call
     asking_is taking = subst AsksToken (sym (ap (λ (i : Stored). i.call) input)) taking
 
-    in_call : AsksToken e.input.call → (c : Call) → call_in e1.input.call ≡ Some c → Noted e2 (Feeds Cut ∷ space_moves page space book.work)
+    in_call : AsksToken e.input.call → (c : Call) → call_in e1.input.call ≡ Some c → IsNotedFrom e2 (Feeds Cut ∷ space_moves page space book.work)
     in_call taking c is =
         let u : Using sizes e1 c want book = using sizes e1 c want book is takes1 in
         let now : List Reading = fed_with Cut (u.r ∷ u.rs) in
@@ -167,14 +167,14 @@ module _ (sizes : Sizes) (want space : Option Want) (e e1 e2 : Engine) (f : File
           free = refl;
         }
 
-    used : AsksToken e.input.call → Noted e2 (Feeds Cut ∷ space_moves page space book.work)
+    used : AsksToken e.input.call → IsNotedFrom e2 (Feeds Cut ∷ space_moves page space book.work)
     used taking = by_call (call_in e1.input.call) refl where
-      by_call : (o : Option Call) → call_in e1.input.call ≡ o → Noted e2 (Feeds Cut ∷ space_moves page space book.work)
+      by_call : (o : Option Call) → call_in e1.input.call ≡ o → IsNotedFrom e2 (Feeds Cut ∷ space_moves page space book.work)
       by_call None none = absurd (subst AsksToken (no_call e1.input.call none) (asking_is taking))
       by_call (Some c) is = in_call taking c is
 
   pub behind : (what : Scanned) (k : ℕ) → IsScanned what k e → (what ≡ scanned.Use → e2 ≡ record e1 { input = record e1.input { call = with_scan cut_scan e1.input.call } }) → ((what ≡ scanned.Use → ⊥) → e2 ≡ e1) →
-      Rep (check_noted what (space_moves page space book.work)) → Noted e2 (check_noted what (space_moves page space book.work))
+      Rep (cut_or_not what (space_moves page space book.work)) → IsNotedFrom e2 (cut_or_not what (space_moves page space book.work))
   behind scanned.Use k taking uses other rep = used (uses refl) rep taking
   behind scanned.Text k held uses other rep = unnoted (other (λ (is : scanned.Text ≡ scanned.Use). cc)) rep
   behind scanned.Definition k held uses other rep = unnoted (other (λ (is : scanned.Definition ≡ scanned.Use). cc)) rep

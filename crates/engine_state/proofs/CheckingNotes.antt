@@ -9,10 +9,10 @@ use Rattle.tex_defs.specs.declared.Seen.{Seen}
 use Rattle.tex_defs.specs.declared.Sizes.{Sizes}
 use Rattle.tex_defs.specs.declared.Token.{Token}
 use Rattle.plain_tokens.specs.Arguments as call
-use Rattle.plain_tokens.specs.Arguments.{ParMode, Answer, arguments_in, work_in, start_of, places_of, delimiters_of, is_nil, is_some_place, is_par, has_parameters}
+use Rattle.plain_tokens.specs.Arguments.{ParMode, Answer, arguments_in, work_in, start_of, places_of, delimiters_of, is_nil, is_some_place, is_par, has_parameters, mode_of}
 use Rattle.rows.specs.Readings as reading
 use Rattle.rows.specs.Readings.{Fed, Tok, Cut}
-use Rattle.plain_readings.specs.Calls.{gathered, call_fed, call_ask, mode_of, arguments, work_list, argument_lists}
+use Rattle.plain_readings.specs.Calls.{gathered, call_fed, call_ask, arguments, work_list, argument_lists}
 use Rattle.plain_readings.specs.Readings.{Kind, Reading, Arguments, ask, lists, fed_with}
 use Rattle.plain_machine.specs.States.{Feeds, made}
 use Rattle.plain_machine.specs.Plan.{feeding, feeding_kind, argument_fed}

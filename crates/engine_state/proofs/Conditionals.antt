@@ -37,7 +37,7 @@ use Rattle.engine_state.specs.Stands.{IsSized, IsSound, Stands, OnlyColumn, stat
 use Rattle.engine_state.proofs.CallKept.{frames_kept}
 use Rattle.engine_state.proofs.Cutting.{full_cuts, later_cuts, cuts_by}
 use Rattle.engine_state.proofs.Joining.{on_both, quiet_here}
-use Rattle.engine_state.proofs.Standing.{column_on}
+use Rattle.engine_state.proofs.AtLocations.{column_on}
 use Rattle.engine_state.proofs.Storing.{sized_but}
 
 -- OTHERS STAND OPEN, in as much room

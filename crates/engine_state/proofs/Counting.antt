@@ -14,7 +14,7 @@ use Rattle.plain_tokens.specs.Tables.{memory, lists_words, refused}
 use Rattle.reading_frames.specs.declared.frame.Frame.{Frame}
 use Rattle.reading_frames.specs.Resumes.{below}
 use Rattle.reading_frames.specs.Views.{Lists}
-use Rattle.reading_frames.specs.Stands as frames
+use Rattle.reading_frames.specs.Frames as frames
 use Rattle.plain_machine.specs.States.{Begun, BegunWith}
 use Rattle.plain_machine.specs.Demands.{refusal}
 use Rattle.input_state.specs.Stored.{Stored, words as stored_words}
@@ -27,7 +27,7 @@ use Rattle.engine_state.specs.Stands.{Stands, Counts, state_of, depth, call_coun
 use Rattle.engine_state.proofs.Uncalled.{all_of}
 use Rattle.engine_state.proofs.Storing.{words_more}
 
-pub frames_depth : (fs : List Frame) (held : Lists) (work : List Reading) → frames.FramesStand fs held work → length work ≡ length fs
+pub frames_depth : (fs : List Frame) (held : Lists) (work : List Reading) → frames.AreFramesOf fs held work → length work ≡ length fs
 frames_depth [] held [] h = refl
 frames_depth [] held (r ∷ rs) h = absurd h
 frames_depth (f ∷ fs) held [] h = absurd h

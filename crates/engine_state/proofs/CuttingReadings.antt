@@ -10,7 +10,7 @@ use Rattle.plain_machine.specs.Does.{Did}
 use Rattle.world_io.specs.Contents.{FilesTold, SinkTold, world}
 use Rattle.input_state.specs.Callings.{Calling, NotCalling, call_in}
 use Rattle.reading_frames.specs.Stack.{Stack}
-use Rattle.reading_frames.specs.Stands as frames
+use Rattle.reading_frames.specs.Frames as frames
 use Rattle.reading_frames.specs.declared.frame.Frame.{Frame}
 use Rattle.engine_state.specs.declared.broken.Broken.{Broken}
 use Rattle.input_state.specs.declared.answer.Call.{Call}
@@ -37,8 +37,8 @@ near_all sizes b e book st = record { lists = e.input.builds; front = None; grow
 pub near_none : (b : Broken) (e : Engine) (work : List Reading) → e.input.call ≡ NotCalling → FramesStand e work → FramesAtCut b e work
 near_none b e work none h = record { lists = e.input.builds; front = None; grown = refl; leads = tt; stand = subst (λ (c : Option Call). FramesIn b c e e.input.builds work) (sym (ap call_in none)) h.frames }
 
-work_still : (e e' : Engine) (lists : List (List Token)) (work : List Reading) → SameFrames e e' → frames.FramesStand e.readings.frames lists work → frames.FramesStand e'.readings.frames lists work
-work_still e e' lists work same h = subst (λ (x : List Frame). frames.FramesStand x lists work) (sym (ap (λ (r : Stack). r.frames) same.readings)) h
+work_still : (e e' : Engine) (lists : List (List Token)) (work : List Reading) → SameFrames e e' → frames.AreFramesOf e.readings.frames lists work → frames.AreFramesOf e'.readings.frames lists work
+work_still e e' lists work same h = subst (λ (x : List Frame). frames.AreFramesOf x lists work) (sym (ap (λ (r : Stack). r.frames) same.readings)) h
 
 in_still : (b : Broken) (e e' : Engine) (c : Option Call) (lists : List (List Token)) (work : List Reading) → SameFrames e e' → FramesIn b c e lists work → FramesIn b c e' lists work
 in_still b e e' None lists work same h = work_still e e' lists work same h

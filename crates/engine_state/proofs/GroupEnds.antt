@@ -4,7 +4,7 @@ use Rattle.std.specs.Prelude.{None}
 use Rattle.tex_defs.specs.Places.{World}
 use Rattle.tex_defs.specs.declared.Sizes.{Sizes}
 use Rattle.tex_defs.specs.declared.Token.{Token}
-use Rattle.equivalents.specs.Groups.{Groups, closed, uncovered, kind_of, tokens_after}
+use Rattle.equivalents.specs.Groups.{Groups, closed, uncovered, current_group, tokens_after}
 use Rattle.equivalents.specs.Tables.{Tables}
 use Rattle.equivalents.specs.Laws.{AreAlike, EachNames}
 use Rattle.plain_machine.specs.States.{Move, GroupClosed}
@@ -29,13 +29,13 @@ outer_length : (m : Tables) (ms : List Tables) → EachNames (length m.meanings)
 outer_length m [] h = refl
 outer_length m (n ∷ ns) h = h.0
 
-module _ (e : Engine) (i : Stored) (is : i ≡ record e.input { groups = closed e.input.groups; closing = tokens_after e.input.groups; ending = kind_of e.input.groups; lists = i.lists }) where
+module _ (e : Engine) (i : Stored) (is : i ≡ record e.input { groups = closed e.input.groups; closing = tokens_after e.input.groups; ending = current_group e.input.groups; lists = i.lists }) where
   abbrev gone : Engine
   gone = record e { input = i }
 
   gone_did : (sizes : Sizes) (w : World) (book : Book) → Did sizes (state_of e book) (state_of gone book) w w (GroupClosed ∷ [])
   gone_did sizes w book =
-      grouped_did e (closed e.input.groups) (tokens_after e.input.groups) (kind_of e.input.groups) i.lists i is sizes w book GroupClosed tt refl
+      grouped_did e (closed e.input.groups) (tokens_after e.input.groups) (current_group e.input.groups) i.lists i is sizes w book GroupClosed tt refl
       (ap (λ (g : Groups). record (state_of e book) { groups = g }) (closed_of book.number e.input.groups))
 
   ended_is : (book : Book) → group_ended (page_of e book) ≡ GroupClosed ∷ put_each i.closing
@@ -44,7 +44,7 @@ module _ (e : Engine) (i : Stored) (is : i ≡ record e.input { groups = closed 
   module _ (outside : OutsideIsHeld e.input.groups) (alike : AreAlike e.input.groups) (kept : KeepsShared e.input i) where
     gone_stands : (sizes : Sizes) (book : Book) → Stands sizes e book → Stands sizes gone book
     gone_stands sizes book st =
-        grouped_stands e (closed e.input.groups) (tokens_after e.input.groups) (kind_of e.input.groups) i.lists i is (outer_length e.input.groups.now e.input.groups.outer alike)
+        grouped_stands e (closed e.input.groups) (tokens_after e.input.groups) (current_group e.input.groups) i.lists i is (outer_length e.input.groups.now e.input.groups.outer alike)
         (λ n h. closed_held n e.input.groups outside h) kept sizes book st
 
     pub ended_did : (e2 : Engine) → ((sizes : Sizes) (w : World) (book : Book) → Counts sizes gone book → Did sizes (state_of gone book) (state_of e2 book) w w (put_each i.closing)) →

@@ -10,7 +10,7 @@ use Rattle.plain_tokens.specs.Pending.{all_puts}
 use Rattle.plain_tokens.specs.Tables.{Demand, refused}
 use Rattle.save_stack.specs.declared.GroupKind.{GroupKind}
 use Rattle.save_stack.specs.Closing.{kind_last}
-use Rattle.equivalents.specs.Groups.{Groups, opened, with_token, group_demands, token_demands, kind_of, depth}
+use Rattle.equivalents.specs.Groups.{Groups, opened, with_token, group_demands, token_demands, current_group, depth}
 use Rattle.equivalents.specs.Holding.{lists_held}
 use Rattle.plain_machine.specs.States.{Move, GroupOpened, KeptForGroup, KeptForAssignment, made}
 use Rattle.plain_machine.specs.Demands.{refusal}
@@ -142,7 +142,7 @@ opens_by (k ∷ ks) some = omega arith
 
 module _ (e : Engine) (t : Token) where
   abbrev keeps : List Move
-  keeps = kept_for_group (kind_of e.input.groups) t
+  keeps = kept_for_group (current_group e.input.groups) t
 
   module _ (i : Stored) (inside : 0 < depth e.input.groups) where
     module _ (is : i ≡ record e.input { groups = with_token e.input.groups t }) where

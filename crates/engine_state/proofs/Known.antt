@@ -19,10 +19,10 @@ listed = refl
 -- where two tests agree, so do the meanings
 meanings_by : (p q : ℕ → Bool) (ks : List ℕ) → map p ks ≡ map q ks → map (first_meaning p) ks ≡ map (first_meaning q) ks
 meanings_by p q [] h = refl
-meanings_by p q (k ∷ ks) h = meanings_on (p k) (q k) (ap first_of h) (meanings_by p q ks (ap rest_of h)) where
-  first_of : List Bool → Bool
-  first_of [] = false
-  first_of (b ∷ bs) = b
+meanings_by p q (k ∷ ks) h = meanings_on (p k) (q k) (ap first_bool h) (meanings_by p q ks (ap rest_of h)) where
+  first_bool : List Bool → Bool
+  first_bool [] = false
+  first_bool (b ∷ bs) = b
 
   rest_of : List Bool → List Bool
   rest_of [] = []

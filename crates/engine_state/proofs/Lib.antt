@@ -30,7 +30,7 @@ pub mod ReadingsOpened
 pub mod Reporting
 pub mod SharedPut
 pub mod Showing
-pub mod Standing
+pub mod AtLocations
 pub mod Stopping
 pub mod Storing
 pub mod TextPutting

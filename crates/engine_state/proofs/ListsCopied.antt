@@ -21,11 +21,11 @@ use Rattle.plain_machine.specs.Does.{Did}
 use Rattle.plain_machine.proofs.Doing.{did_join, did_none, did_one}
 use Rattle.reading_frames.specs.Resumes.{resume}
 use Rattle.reading_frames.specs.Stack.{AsksCopied, Enters, asks_in}
-use Rattle.reading_frames.specs.Stands as frames
+use Rattle.reading_frames.specs.Frames as frames
 use Rattle.reading_frames.specs.declared.frame.Frame.{Frame}
 use Rattle.reading_frames.proofs.Entering.{enters}
 use Rattle.input_state.specs.Callings.{call_lists}
-use Rattle.input_state.specs.Standing.{appended, AppendsShort, with_appended}
+use Rattle.input_state.specs.AtLocations.{appended, AppendsShort, with_appended}
 use Rattle.input_state.specs.Stored.{Stored, KeepsShared, words as stored_words}
 use Rattle.input_state.proofs.Refusing.{memory_room}
 use Rattle.engine_state.specs.declared.broken.Broken.TheVariants as broken
@@ -75,7 +75,7 @@ entered_join (t ∷ ts) us = ap (λ (ms : List Move). Grows t ∷ Feeds (Verbati
 -- THE FRAMES
 
 -- an expanded text has its list
-copied_top : (fs : List Frame) (held : List (List Token)) (work : List Reading) → frames.FramesStand fs held work → AsksCopied (asks_in fs held) → held ≡ [] → ⊥
+copied_top : (fs : List Frame) (held : List (List Token)) (work : List Reading) → frames.AreFramesOf fs held work → AsksCopied (asks_in fs held) → held ≡ [] → ⊥
 copied_top [] held work stands copies none = cc
 copied_top (f ∷ fs) held [] stands copies none = stands
 copied_top (f ∷ fs) held (r ∷ rs) stands copies none =

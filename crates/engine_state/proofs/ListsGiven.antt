@@ -24,7 +24,7 @@ use Rattle.plain_machine.proofs.Holders.{is_number, standing_is_held}
 use Rattle.plain_machine.proofs.Ties.{standing_tied}
 use Rattle.input_state.specs.Calls.{after_call}
 use Rattle.input_state.specs.Macros.{list_at as shared_list}
-use Rattle.input_state.specs.Standing.{numbered_tokens, numbered_put, standing_put}
+use Rattle.input_state.specs.AtLocations.{numbered_tokens, numbered_put, location_put}
 use Rattle.input_state.specs.Stored.{KeepsShared, call_refusal}
 use Rattle.engine_state.specs.declared.broken.Broken.TheVariants as broken
 use Rattle.engine_state.specs.declared.engine.Engine.{Engine}
@@ -77,7 +77,7 @@ module _ (sizes : Sizes) (e : Engine) (book : Book) (sound : IsSound sizes e boo
   none_given is = ap (list_given (page_of e book) false) (number_is ∙ ap (number_of_list book.number) is)
 
   -- there is no room for it
-  pub given_cuts : (e2 : Engine) (w : World) (full : Full) (more : List Move) → e2 ≡ record e { input = record e.input { pending = end_token_lists e.input.pending; lists = e2.input.lists } } → call_refusal (standing_put e.input.lists e.input.groups l) e.input ≡ Some full →
+  pub given_cuts : (e2 : Engine) (w : World) (full : Full) (more : List Move) → e2 ≡ record e { input = record e.input { pending = end_token_lists e.input.pending; lists = e2.input.lists } } → call_refusal (location_put e.input.lists e.input.groups l) e.input ≡ Some full →
       Cuts sizes (state_of e book) e2 book w w (list_given (page_of e book) false (list_number (page_of e book) l) ++ more) (broken.Full full)
   given_cuts e2 w full more after refuses = by_standing standing refl where
     by_standing : (o : Option ℕ) → standing ≡ o → Cuts sizes (state_of e book) e2 book w w (list_given (page_of e book) false (list_number (page_of e book) l) ++ more) (broken.Full full)
@@ -87,11 +87,11 @@ module _ (sizes : Sizes) (e : Engine) (book : Book) (sound : IsSound sizes e boo
         cuts_by sizes _ e2 book w w (put_body (numbered book.number p) ++ more) _ (broken.Full full) (ap (λ (ms : List Move). ms ++ more) (given_by id some))
         (shared_cuts sizes e book sound id p refl (held_by id some) e2 w full more after (sym (ap (λ (o : Option ℕ). call_refusal (numbered_put e.input.lists o) e.input) some) ∙ refuses))
 
-  module _ (e2 : Engine) (after : e2 ≡ record e { input = record e.input { pending = after_call (standing_put e.input.lists e.input.groups l) e.input.pending; lists = e2.input.lists } }) (all_lists : KeepsShared e.input e2.input) where
+  module _ (e2 : Engine) (after : e2 ≡ record e { input = record e.input { pending = after_call (location_put e.input.lists e.input.groups l) e.input.pending; lists = e2.input.lists } }) (all_lists : KeepsShared e.input e2.input) where
     after_by : (o : Option ℕ) → standing ≡ o → e2 ≡ record e { input = record e.input { pending = after_call (numbered_put e.input.lists o) e.input.pending; lists = e2.input.lists } }
     after_by o is = after ∙ ap (λ (x : Option ℕ). record e { input = record e.input { pending = after_call (numbered_put e.input.lists x) e.input.pending; lists = e2.input.lists } }) is
 
-    pub given_did : (w : World) → call_refusal (standing_put e.input.lists e.input.groups l) e.input ≡ None → Did sizes (state_of e book) (state_of e2 book) w w (list_given (page_of e book) false (list_number (page_of e book) l))
+    pub given_did : (w : World) → call_refusal (location_put e.input.lists e.input.groups l) e.input ≡ None → Did sizes (state_of e book) (state_of e2 book) w w (list_given (page_of e book) false (list_number (page_of e book) l))
     given_did w fits = by_standing standing refl where
       by_standing : (o : Option ℕ) → standing ≡ o → Did sizes (state_of e book) (state_of e2 book) w w (list_given (page_of e book) false (list_number (page_of e book) l))
       by_standing None none =

@@ -12,11 +12,11 @@ use Rattle.plain_tokens.specs.Puts.{Item, Put as PutList, token_put, without_end
 use Rattle.plain_tokens.specs.Pending.{Pending, end_token_lists, put_front}
 use Rattle.plain_tokens.specs.Tables.{Demand, refused, memory, level, string}
 use Rattle.plain_state.specs.Reports.{report_bytes}
-use Rattle.rows.specs.Readings.{Fed, Told}
+use Rattle.rows.specs.Readings.{Fed, Noted}
 use Rattle.plain_readings.specs.Readings.{Kind, Reads, Spelling, FileName, Arguments, Behind, Skips, Reading, fed_with, lists}
 use Rattle.plain_machine.specs.States.{State, Move, ListsEnded, Kept, Grows, Feeds, ListBegun, ListGrown, Put, Written, Reported, made}
 use Rattle.plain_machine.specs.Demands.{refusal}
-use Rattle.plain_machine.specs.Plan.{Page, put_one, put_inserted, given_back, reported, told, noting, noting_kind, grown_and_fed, first_list}
+use Rattle.plain_machine.specs.Plan.{Page, put_one, put_inserted, given_back, reported, report_noted, noting, noting_kind, grown_and_fed, first_list}
 use Rattle.plain_machine.specs.Numbers.{pending_of}
 use Rattle.plain_machine.specs.Runs.{steps}
 use Rattle.plain_machine.specs.Does.{Did}
@@ -180,10 +180,10 @@ grows_none : (ts : List Token) → steps (map Grows ts) ≡ 0
 grows_none [] = refl
 grows_none (t ∷ ts) = omega (arith, grows_none ts)
 
-grown_none : (k : Kind) (fed : List Fed) → steps (grown_and_fed k fed Told) ≡ 0
+grown_none : (k : Kind) (fed : List Fed) → steps (grown_and_fed k fed Noted) ≡ 0
 grown_none k fed =
-    let ts = drop (length (first_list (lists k fed))) (first_list (lists k (fed ++ Told ∷ []))) in
-    steps_join (map Grows ts) (Feeds Told ∷ []) ∙ omega (arith, grows_none ts)
+    let ts = drop (length (first_list (lists k fed))) (first_list (lists k (fed ++ Noted ∷ []))) in
+    steps_join (map Grows ts) (Feeds Noted ∷ []) ∙ omega (arith, grows_none ts)
 
 noting_kind_none : (k : Kind) (fed : List Fed) → steps (noting_kind k fed) ≡ 0
 noting_kind_none (Arguments name long number ts) fed = refl
@@ -211,21 +211,21 @@ fronts inserted back last = given_back back last ++ put_inserted inserted
 fronts_none : (inserted : Option Token) (back : Bool) (last : Seen) → steps (fronts inserted back last) ≡ 0
 fronts_none inserted back last = steps_join (given_back back last) (put_inserted inserted) ∙ omega (arith, back_none back last, inserted_none inserted)
 
-told_is : (page : Page) (report : Report) (inserted : Option Token) (back : Bool) (r : Reading) → told page report inserted back r ≡ fronts inserted back page.last ++ reported page report (noting r)
+told_is : (page : Page) (report : Report) (inserted : Option Token) (back : Bool) (r : Reading) → report_noted page report inserted back r ≡ fronts inserted back page.last ++ reported page report (noting r)
 told_is page report inserted back r = sym (append_assoc (given_back back page.last) (put_inserted inserted) (reported page report (noting r)))
 
 module _ (sizes : Sizes) (e : Engine) (f : FilesTold) (s0 : SinkTold) (book : Book) (r : Reading) (rs : List Reading) (report : Report) (inserted : Option Token) (back : Bool) where
   -- already the token that is given back has no room
   pub told_first : (e1 : Engine) (b : Broken) → e1.in_line ≡ e.in_line →
       Cuts sizes (state_of e (with_work (r ∷ rs) book)) e1 (with_work (r ∷ rs) book) (world_of f s0 e) (world_of f s0 e) (given_back back e.last ++ (put_inserted inserted ++ reported (page_of e book) report (noting r))) b →
-      Cuts sizes (state_of e (with_work (r ∷ rs) book)) e1 (with_work (r ∷ rs) book) (world_of f s0 e) (world_of f s0 e1) (told (page_of e book) report inserted back r) b
+      Cuts sizes (state_of e (with_work (r ∷ rs) book)) e1 (with_work (r ∷ rs) book) (world_of f s0 e) (world_of f s0 e1) (report_noted (page_of e book) report inserted back r) b
   told_first e1 b column h =
       (subst (λ (x : Bool). Cuts sizes (state_of e (with_work (r ∷ rs) book)) e1 (with_work (r ∷ rs) book) (world_of f s0 e) (world f s0 x) (given_back back e.last ++ (put_inserted inserted ++ reported (page_of e book) report (noting r))) b) (sym column) h)
 
   -- or the one that is inserted
   pub told_second : (e1 e2 : Engine) (b : Broken) → e2.in_line ≡ e.in_line → Did sizes (state_of e (with_work (r ∷ rs) book)) (state_of e1 (with_work (r ∷ rs) book)) (world_of f s0 e) (world_of f s0 e) (given_back back e.last) →
       Cuts sizes (state_of e1 (with_work (r ∷ rs) book)) e2 (with_work (r ∷ rs) book) (world_of f s0 e) (world_of f s0 e) (put_inserted inserted ++ reported (page_of e book) report (noting r)) b →
-      Cuts sizes (state_of e (with_work (r ∷ rs) book)) e2 (with_work (r ∷ rs) book) (world_of f s0 e) (world_of f s0 e2) (told (page_of e book) report inserted back r) b
+      Cuts sizes (state_of e (with_work (r ∷ rs) book)) e2 (with_work (r ∷ rs) book) (world_of f s0 e) (world_of f s0 e2) (report_noted (page_of e book) report inserted back r) b
   told_second e1 e2 b column given h =
       told_first e2 b column (later_cuts sizes _ (state_of e1 (with_work (r ∷ rs) book)) e2 (with_work (r ∷ rs) book) _ _ _ (given_back back e.last) (put_inserted inserted ++ reported (page_of e book) report (noting r)) b given h)
 
@@ -238,19 +238,19 @@ module _ (sizes : Sizes) (e : Engine) (f : FilesTold) (s0 : SinkTold) (book : Bo
     abbrev written : List Move
     written = Written Transcript (report_bytes (own_style e) e.in_line e.input.pending.number report) ∷ Reported ∷ []
 
-    whole_is : Reports sizes (state_of e1 (with_work (r ∷ rs) book)) (state_of e2 (with_work (r ∷ rs) book)) (world_of f s0 e) (world_of f s2 e2) (page_of e book) report (noting r) → told (page_of e book) report inserted back r ≡ fronts inserted back e.last ++ (written ++ noting r)
+    whole_is : Reports sizes (state_of e1 (with_work (r ∷ rs) book)) (state_of e2 (with_work (r ∷ rs) book)) (world_of f s0 e) (world_of f s2 e2) (page_of e book) report (noting r) → report_noted (page_of e book) report inserted back r ≡ fronts inserted back e.last ++ (written ++ noting r)
     whole_is h = told_is (page_of e book) report inserted back r ∙ ap (λ (x : List Move). fronts inserted back e.last ++ x) h.moves
 
     pub told_went : (e3 : Engine) → Reports sizes (state_of e1 (with_work (r ∷ rs) book)) (state_of e2 (with_work (r ∷ rs) book)) (world_of f s0 e1) (world_of f s2 e2) (page_of e1 book) report (noting r) → e3.in_line ≡ e2.in_line →
-        Did sizes (state_of e2 (with_work (r ∷ rs) book)) (state_of e3 (with_work (fed_with Told (r ∷ rs)) book)) (world_of f s2 e2) (world_of f s2 e2) (noting r) → Stands sizes e3 (with_work (fed_with Told (r ∷ rs)) book) →
-        Went sizes (state_of e (with_work (r ∷ rs) book)) e3 (world_of f s0 e) (world_of f s2 e3) (told (page_of e book) report inserted back r) 0
+        Did sizes (state_of e2 (with_work (r ∷ rs) book)) (state_of e3 (with_work (fed_with Noted (r ∷ rs)) book)) (world_of f s2 e2) (world_of f s2 e2) (noting r) → Stands sizes e3 (with_work (fed_with Noted (r ∷ rs)) book) →
+        Went sizes (state_of e (with_work (r ∷ rs) book)) e3 (world_of f s0 e) (world_of f s2 e3) (report_noted (page_of e book) report inserted back r) 0
     told_went e3 rep column noted stands =
         let h = on_page rep in
-        let noted' : Did sizes (state_of e2 (with_work (r ∷ rs) book)) (state_of e3 (with_work (fed_with Told (r ∷ rs)) book)) (world_of f s2 e2) (world_of f s2 e3) (noting r) =
-        subst (λ (x : Bool). Did sizes (state_of e2 (with_work (r ∷ rs) book)) (state_of e3 (with_work (fed_with Told (r ∷ rs)) book)) (world_of f s2 e2) (world f s2 x) (noting r)) (sym column) noted in
+        let noted' : Did sizes (state_of e2 (with_work (r ∷ rs) book)) (state_of e3 (with_work (fed_with Noted (r ∷ rs)) book)) (world_of f s2 e2) (world_of f s2 e3) (noting r) =
+        subst (λ (x : Bool). Did sizes (state_of e2 (with_work (r ∷ rs) book)) (state_of e3 (with_work (fed_with Noted (r ∷ rs)) book)) (world_of f s2 e2) (world f s2 x) (noting r)) (sym column) noted in
         went_by sizes _ e3 _ _ (fronts inserted back e.last ++ (written ++ noting r)) _ 0 (whole_is h) (record {
-          book' = with_work (fed_with Told (r ∷ rs)) book;
-          stands = all_of sizes e3 (with_work (fed_with Told (r ∷ rs)) book) stands;
+          book' = with_work (fed_with Noted (r ∷ rs)) book;
+          stands = all_of sizes e3 (with_work (fed_with Noted (r ∷ rs)) book) stands;
           did = did_join sizes _ _ _ _ _ _ (fronts inserted back e.last) (written ++ noting r) front (did_join sizes _ _ _ _ _ _ written (noting r) h.did noted');
           count = steps_join (fronts inserted back e.last) (written ++ noting r) ∙ omega (arith, fronts_none inserted back e.last, steps_join written (noting r), noting_none r);
         })
@@ -258,7 +258,7 @@ module _ (sizes : Sizes) (e : Engine) (f : FilesTold) (s0 : SinkTold) (book : Bo
     -- the list has no room for what comes behind the report
     pub told_full : (e3 : Engine) (b : Broken) → Reports sizes (state_of e1 (with_work (r ∷ rs) book)) (state_of e2 (with_work (r ∷ rs) book)) (world_of f s0 e1) (world_of f s2 e2) (page_of e1 book) report (noting r) → e3 ≡ e2 →
         Cuts sizes (state_of e2 (with_work (r ∷ rs) book)) e3 (with_work (r ∷ rs) book) (world_of f s2 e2) (world_of f s2 e2) (noting r) b →
-        Cuts sizes (state_of e (with_work (r ∷ rs) book)) e3 (with_work (r ∷ rs) book) (world_of f s0 e) (world_of f s2 e3) (told (page_of e book) report inserted back r) b
+        Cuts sizes (state_of e (with_work (r ∷ rs) book)) e3 (with_work (r ∷ rs) book) (world_of f s0 e) (world_of f s2 e3) (report_noted (page_of e book) report inserted back r) b
     told_full e3 b rep is cuts =
         let h = on_page rep in
         let cuts' : Cuts sizes (state_of e2 (with_work (r ∷ rs) book)) e3 (with_work (r ∷ rs) book) (world_of f s2 e2) (world_of f s2 e3) (noting r) b =
@@ -268,7 +268,7 @@ module _ (sizes : Sizes) (e : Engine) (f : FilesTold) (s0 : SinkTold) (book : Bo
         (later_cuts sizes _ _ e3 (with_work (r ∷ rs) book) _ _ _ written (noting r) b h.did cuts'))
 
     pub told_halts : (o : Outcome) → e1.reports ≡ e.reports → Halts sizes (state_of e1 (with_work (r ∷ rs) book)) e2 (with_work (r ∷ rs) book) (world_of f s0 e1) (world_of f s2 e2) (reported (page_of e1 book) report (noting r)) o 0 →
-        Halts sizes (state_of e (with_work (r ∷ rs) book)) e2 (with_work (r ∷ rs) book) (world_of f s0 e) (world_of f s2 e2) (told (page_of e book) report inserted back r) o 1
+        Halts sizes (state_of e (with_work (r ∷ rs) book)) e2 (with_work (r ∷ rs) book) (world_of f s0 e) (world_of f s2 e2) (report_noted (page_of e book) report inserted back r) o 1
     told_halts o counted halts =
         let h : Halts sizes (state_of e1 (with_work (r ∷ rs) book)) e2 (with_work (r ∷ rs) book) (world_of f s0 e) (world_of f s2 e2) (reported (page_of e book) report (noting r)) o 0 =
         subst (λ (p : Page). Halts sizes (state_of e1 (with_work (r ∷ rs) book)) e2 (with_work (r ∷ rs) book) (world f s0 p.in_line) (world_of f s2 e2) (reported p report (noting r)) o 0) page halts in
@@ -277,7 +277,7 @@ module _ (sizes : Sizes) (e : Engine) (f : FilesTold) (s0 : SinkTold) (book : Bo
         (halts_on sizes (state_of e (with_work (r ∷ rs) book)) (state_of e1 (with_work (r ∷ rs) book)) e2 (with_work (r ∷ rs) book) _ _ _ (fronts inserted back e.last) (reported (page_of e book) report (noting r)) o 0 0 counted front (fronts_none inserted back e.last) h))
 
     pub told_cuts : (b : Broken) → Cuts sizes (state_of e1 (with_work (r ∷ rs) book)) e2 (with_work (r ∷ rs) book) (world_of f s0 e1) (world_of f s2 e2) (reported (page_of e1 book) report (noting r)) b →
-        Cuts sizes (state_of e (with_work (r ∷ rs) book)) e2 (with_work (r ∷ rs) book) (world_of f s0 e) (world_of f s2 e2) (told (page_of e book) report inserted back r) b
+        Cuts sizes (state_of e (with_work (r ∷ rs) book)) e2 (with_work (r ∷ rs) book) (world_of f s0 e) (world_of f s2 e2) (report_noted (page_of e book) report inserted back r) b
     told_cuts b cuts =
         let h : Cuts sizes (state_of e1 (with_work (r ∷ rs) book)) e2 (with_work (r ∷ rs) book) (world_of f s0 e) (world_of f s2 e2) (reported (page_of e book) report (noting r)) b =
         subst (λ (p : Page). Cuts sizes (state_of e1 (with_work (r ∷ rs) book)) e2 (with_work (r ∷ rs) book) (world f s0 p.in_line) (world_of f s2 e2) (reported p report (noting r)) b) page cuts in

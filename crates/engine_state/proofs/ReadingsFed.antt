@@ -11,7 +11,7 @@ use Rattle.tex_defs.specs.declared.Full.{Full}
 use Rattle.tex_defs.specs.declared.Seen.{Seen}
 use Rattle.tex_defs.specs.declared.Token.{Token}
 use Rattle.tex_defs.specs.Places.{World}
-use Rattle.rows.specs.Readings.{Fed, Tok, Told}
+use Rattle.rows.specs.Readings.{Fed, Tok, Noted}
 use Rattle.plain_readings.specs.Readings.{Kind, Reads, Spelling, FileName, Behind, Skips, Arguments, Reading, lists, fed_with}
 use Rattle.plain_machine.specs.States.{State, Move, Grows, Feeds, last_with}
 use Rattle.plain_machine.specs.Plan.{feeding, feeding_kind, noting, noting_kind, grown_and_fed, grown_to, first_list}
@@ -22,8 +22,8 @@ use Rattle.list_builder.specs.Stages.{cell_count}
 use Rattle.reading_frames.specs.Views.{put, on_top, top_list}
 use Rattle.reading_frames.specs.Resumes.{token_count}
 use Rattle.reading_frames.specs.Stack.{Stack, innermost_count, innermost_groups, innermost_of, with_innermost, lists_beneath}
-use Rattle.reading_frames.specs.Stands as frames
-use Rattle.reading_frames.specs.Stands.{AreShallow}
+use Rattle.reading_frames.specs.Frames as frames
+use Rattle.reading_frames.specs.Frames.{AreShallow}
 use Rattle.reading_frames.specs.declared.ask.Grown.{Grown}
 use Rattle.reading_frames.specs.declared.frame.Frame.{Frame}
 use Rattle.input_state.specs.declared.answer.Call.{Call}
@@ -50,7 +50,7 @@ feeding_is (Behind c y) fed x h = refl
 feeding_is (Skips c aim line) fed x h = refl
 feeding_is (Arguments name long number text) fed x h = absurd h
 
-noting_is : (k : Kind) (fed : List Fed) → frames.IsFramed k → noting_kind k fed ≡ grown_and_fed k fed Told
+noting_is : (k : Kind) (fed : List Fed) → frames.IsFramed k → noting_kind k fed ≡ grown_and_fed k fed Noted
 noting_is (Reads k) fed h = refl
 noting_is (Spelling c) fed h = refl
 noting_is (FileName c) fed h = refl
@@ -87,10 +87,10 @@ pub few_one : (n m : ℕ) (l : List (List Token)) → length l ≡ n → n ≡ 1
 few_one n m l e one none = omega (arith, e, one, ap (λ (x : List (List Token)). length x) none)
 
 module _ (fs fs' : List Frame) (g : Grown) (y : Fed)
-    (stands : (held : List (List Token)) (work : List Reading) → frames.FramesStand fs held work → frames.FramesStand fs' (on_top g held) (fed_with y work))
+    (stands : (held : List (List Token)) (work : List Reading) → frames.AreFramesOf fs held work → frames.AreFramesOf fs' (on_top g held) (fed_with y work))
     (others : (held : List (List Token)) → lists_beneath fs' (on_top g held) ≡ lists_beneath fs held)
     (own : 1 ≤ token_count g → innermost_count fs ≡ 1) where
-  module _ (held : List (List Token)) (r : Reading) (rs : List Reading) (st : frames.FramesStand fs held (r ∷ rs)) where
+  module _ (held : List (List Token)) (r : Reading) (rs : List Reading) (st : frames.AreFramesOf fs held (r ∷ rs)) where
     some_list : 1 ≤ token_count g → lists r.kind r.fed ≡ [] → ⊥
     some_list some none = few_one (innermost_count fs) 0 (lists r.kind r.fed) (count_top fs held r rs st) (own some) none
 
@@ -104,13 +104,13 @@ module _ (fs fs' : List Frame) (g : Grown) (y : Fed)
         ap (λ (l : List (List Token)). grown_to (first_list (lists r.kind r.fed)) (first_list l) ++ Feeds y ∷ []) lists_grow
         ∙ ap (λ (ts : List Token). map Grows ts ++ Feeds y ∷ []) (grown_two g.first g.second (lists r.kind r.fed) some_list)
 
-  has_some : (held : List (List Token)) (work : List Reading) → frames.FramesStand fs held work → 1 ≤ token_count g → held ≡ [] → ⊥
+  has_some : (held : List (List Token)) (work : List Reading) → frames.AreFramesOf fs held work → 1 ≤ token_count g → held ≡ [] → ⊥
   has_some held work st some none = has_top fs held work st (own some) none
 
-pub feeding_moves : (fs : List Frame) (held : List (List Token)) (r : Reading) (rs : List Reading) (x : Seen) → frames.FramesStand fs held (r ∷ rs) → feeding r x ≡ grown_and_fed r.kind r.fed (Tok x)
+pub feeding_moves : (fs : List Frame) (held : List (List Token)) (r : Reading) (rs : List Reading) (x : Seen) → frames.AreFramesOf fs held (r ∷ rs) → feeding r x ≡ grown_and_fed r.kind r.fed (Tok x)
 feeding_moves fs held r rs x st = feeding_is r.kind r.fed x (framed_top fs held r rs st)
 
-pub noting_moves : (fs : List Frame) (held : List (List Token)) (r : Reading) (rs : List Reading) → frames.FramesStand fs held (r ∷ rs) → noting r ≡ grown_and_fed r.kind r.fed Told
+pub noting_moves : (fs : List Frame) (held : List (List Token)) (r : Reading) (rs : List Reading) → frames.AreFramesOf fs held (r ∷ rs) → noting r ≡ grown_and_fed r.kind r.fed Noted
 noting_moves fs held r rs st = noting_is r.kind r.fed (framed_top fs held r rs st)
 
 -- THE FRAME THAT IS PUT BACK
@@ -133,7 +133,7 @@ abbrev pub restored : Option Frame → Engine → Engine
 restored o e = record e { readings = record { frames = with_innermost o e.readings.frames; size = e.readings.size } }
 
 module _ (sizes : Sizes) (e : Engine) (stack : Stack) (g : Grown) (y : Fed)
-    (stands : (held : List (List Token)) (work : List Reading) → frames.FramesStand e.readings.frames held work → frames.FramesStand stack.frames (on_top g held) (fed_with y work))
+    (stands : (held : List (List Token)) (work : List Reading) → frames.AreFramesOf e.readings.frames held work → frames.AreFramesOf stack.frames (on_top g held) (fed_with y work))
     (shallow : (held : List (List Token)) → AreShallow e.readings.frames held → AreShallow stack.frames (on_top g held))
     (others : (held : List (List Token)) → lists_beneath stack.frames (on_top g held) ≡ lists_beneath e.readings.frames held)
     (own : 1 ≤ token_count g → innermost_count e.readings.frames ≡ 1) (size : stack.size ≡ e.readings.size) where
@@ -192,7 +192,7 @@ module _ (sizes : Sizes) (e : Engine) (stack : Stack) (g : Grown) (y : Fed)
         grown = ap (λ (x : Engine). x.input.builds) cut.after;
         leads = lead_by full cut.front;
         stand = subst (λ (c : Option Call). FramesIn (broken.Full full) c (restored o e2) e.input.builds (r ∷ rs)) (sym (ap (λ (x : Engine). call_in x.input.call) cut.after ∙ ap call_in st.uncalled))
-            (subst (λ (x : Stack). frames.FramesStand x.frames e.input.builds (r ∷ rs)) (sym back_is) st.readings.frames);
+            (subst (λ (x : Stack). frames.AreFramesOf x.frames e.input.builds (r ∷ rs)) (sym back_is) st.readings.frames);
       };
     } where
       stack_is : e2.readings ≡ stack

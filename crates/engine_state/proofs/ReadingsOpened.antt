@@ -7,7 +7,7 @@ use Rattle.std.proofs.lemmas.Bool.Decides.{nat_tests}
 use Rattle.tex_defs.specs.declared.Sizes.{Sizes}
 use Rattle.tex_defs.specs.declared.Full.{Full}
 use Rattle.tex_defs.specs.declared.Token.{Token}
-use Rattle.rows.specs.declared.words.Kind.TheVariants.{Command, Integer, Factor, Dimension, Glue, Keyword, Text, Definition}
+use Rattle.rows.specs.declared.words.Phrase.TheVariants.{Command, Integer, Factor, Dimension, Glue, Keyword, Text, Definition}
 use Rattle.plain_tokens.specs.Tables.{list_words, lists_words, memory, refused}
 use Rattle.plain_machine.specs.Demands.{words, depth as depth_demand}
 use Rattle.input_state.specs.Callings.{call_lists}
@@ -15,7 +15,7 @@ use Rattle.input_state.specs.Stored.{KeepsShared, words as stored_words}
 use Rattle.list_builder.specs.Stages.{cell_count}
 use Rattle.reading_frames.specs.Views.{put, on_top}
 use Rattle.reading_frames.specs.Resumes.{token_count}
-use Rattle.reading_frames.specs.Stands.{opened_lists}
+use Rattle.reading_frames.specs.Frames.{opened_lists}
 use Rattle.reading_frames.specs.declared.ask.Grown.{Grown}
 use Rattle.reading_frames.specs.declared.ask.Opening.{Opening}
 use Rattle.reading_frames.specs.declared.ask.Opening.TheVariants.{Reads, Spelling, FileName, Behind, Skips}
@@ -26,8 +26,8 @@ use Rattle.engine_state.specs.Stands.{Stands, Counts, IsSound, depth, state_of}
 use Rattle.plain_readings.specs.Readings.{Reading}
 use Rattle.reading_frames.specs.Stack.{Stack}
 use Rattle.reading_frames.specs.declared.frame.Frame.{Frame}
-use Rattle.reading_frames.specs.Stands as frames
-use Rattle.reading_frames.specs.Stands.{AreShallow}
+use Rattle.reading_frames.specs.Frames as frames
+use Rattle.reading_frames.specs.Frames.{AreShallow}
 use Rattle.input_state.specs.Stored.{gathered}
 use Rattle.engine_state.proofs.FramesHeld.{framed_with, same_with, stands_new, stands_gathered, state_new}
 use Rattle.engine_state.proofs.Storing.{words_are, words_more}
@@ -132,12 +132,12 @@ none_of (Some x) h = absurd (h x refl)
 -- BY WHAT THE CALLS SAY
 
 pub opens : (sizes : Sizes) (e e' : Engine) (book : Book) (work : List Reading) (stack : Stack) (held : List (List Token)) → e' ≡ framed_with e stack held e'.input.lists → stack.size ≡ e.readings.size → KeepsShared e.input e'.input →
-    frames.FramesStand stack.frames held work → AreShallow stack.frames held → Stands sizes e book → Stands sizes e' (with_work work book)
+    frames.AreFramesOf stack.frames held work → AreShallow stack.frames held → Stands sizes e book → Stands sizes e' (with_work work book)
 opens sizes e e' book work stack held is size kept stand shallow st =
     stands_new sizes e e' book work stack.frames held (same_with e e' stack held is size kept) (ap (λ (x : Engine). x.readings.frames) is) (ap (λ (x : Engine). x.input.builds) is) st stand shallow
 
 pub opens_state : (sizes : Sizes) (e e' : Engine) (book : Book) (work : List Reading) (stack : Stack) (mine held : List (List Token)) → e' ≡ framed_with e stack held e'.input.lists → stack.size ≡ e.readings.size → KeepsShared e.input e'.input →
-    frames.FramesStand stack.frames held work → AreShallow stack.frames held → Stands sizes e book → mine ++ e.input.builds ≡ held → record (state_of e book) { work = work; gathered = mine ++ gathered e.input } ≡ state_of e' (with_work work book)
+    frames.AreFramesOf stack.frames held work → AreShallow stack.frames held → Stands sizes e book → mine ++ e.input.builds ≡ held → record (state_of e book) { work = work; gathered = mine ++ gathered e.input } ≡ state_of e' (with_work work book)
 opens_state sizes e e' book work stack mine held is size kept stand shallow st lists =
     state_new e e' book work (mine ++ gathered e.input) (same_with e e' stack held is size kept) (ap (λ (x : Engine). x.last) is)
     (stands_gathered sizes e' (with_work work book) (opens sizes e e' book work stack held is size kept stand shallow st) ∙ (ap (λ (x : Engine). x.input.builds) is ∙ (sym lists ∙ ap (λ (l : List (List Token)). mine ++ l) (sym (stands_gathered sizes e book st)))))
@@ -159,8 +159,8 @@ by_stack sizes e book stack size sound = record {
   bodies = sound.bodies;
 }
 
-pub frames_over : (fs : List Frame) (held held' : List (List Token)) (work : List Reading) → held' ≡ held → frames.FramesStand fs held work → frames.FramesStand fs held' work
-frames_over fs held held' work is h = subst (λ (l : List (List Token)). frames.FramesStand fs l work) (sym is) h
+pub frames_over : (fs : List Frame) (held held' : List (List Token)) (work : List Reading) → held' ≡ held → frames.AreFramesOf fs held work → frames.AreFramesOf fs held' work
+frames_over fs held held' work is h = subst (λ (l : List (List Token)). frames.AreFramesOf fs l work) (sym is) h
 
 pub shallow_over : (fs : List Frame) (held held' : List (List Token)) → held' ≡ held → AreShallow fs held → AreShallow fs held'
 shallow_over fs held held' is h = subst (λ (l : List (List Token)). AreShallow fs l) (sym is) h

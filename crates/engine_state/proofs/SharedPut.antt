@@ -27,7 +27,7 @@ use Rattle.engine_state.specs.Rules.{Cuts}
 use Rattle.engine_state.proofs.CallKept.{frames_kept}
 use Rattle.engine_state.proofs.Cutting.{later_cuts, full_cuts}
 use Rattle.engine_state.proofs.Joining.{quiet_here}
-use Rattle.engine_state.proofs.Standing.{list_frames}
+use Rattle.engine_state.proofs.AtLocations.{list_frames}
 use Rattle.engine_state.proofs.Storing.{sound_still, store_making}
 
 -- no list is refused

@@ -15,7 +15,7 @@ use Rattle.equivalents.specs.Locations.{SeenValue, value_seen}
 use Rattle.equivalents.specs.Tables.{get}
 use Rattle.rows.specs.Internal.{value_text}
 use Rattle.plain_machine.specs.States.{Move, Written, Flawed}
-use Rattle.plain_machine.specs.Plan.{shared_tokens, list_number, shown, standing_shown, value_shown}
+use Rattle.plain_machine.specs.Plan.{shared_tokens, list_number, shown, location_shown, value_shown}
 use Rattle.plain_machine.specs.Does.{Did}
 use Rattle.plain_machine.proofs.Doing.{did_join, did_one}
 use Rattle.plain_machine.proofs.GroupNumbers.{fetched_same}
@@ -79,15 +79,15 @@ module _ (sizes : Sizes) (e : Engine) (book : Book) (sound : IsSound sizes e boo
   abbrev value_bytes : List ℕ
   value_bytes = shown_value_bytes (own_style e) e.in_line e.input.pending.number (value_text l (value_seen (get e.input.groups.now l))) (location_list e l)
 
-  standing_is : standing_shown (page_of e book) l ≡ Written Transcript value_bytes ∷ Flawed ∷ []
-  standing_is =
+  location_is : location_shown (page_of e book) l ≡ Written Transcript value_bytes ∷ Flawed ∷ []
+  location_is =
       ap (λ (v : SeenValue). value_shown (page_of e book) (value_text l v) (shared_tokens book.all_lists (list_number (page_of e book) l))) (fetched_same book.number e.input.groups.now l)
       ∙ ap (value_shown (page_of e book) (value_text l (value_seen (get e.input.groups.now l)))) (tokens_are sizes e book sound l)
 
-  pub standing_did : (e1 : Engine) (w w' : World) → Did sizes (state_of e book) (state_of e1 book) w w' (Written Transcript value_bytes ∷ []) →
-      Did sizes (state_of e book) (state_of (record e1 { flawed = true }) book) w w' (standing_shown (page_of e book) l)
-  standing_did e1 w w' first = subst (λ (ms : List Move). Did sizes (state_of e book) (state_of (record e1 { flawed = true }) book) w w' ms) (sym standing_is) (flawed_behind sizes e e1 book w w' value_bytes first)
+  pub location_did : (e1 : Engine) (w w' : World) → Did sizes (state_of e book) (state_of e1 book) w w' (Written Transcript value_bytes ∷ []) →
+      Did sizes (state_of e book) (state_of (record e1 { flawed = true }) book) w w' (location_shown (page_of e book) l)
+  location_did e1 w w' first = subst (λ (ms : List Move). Did sizes (state_of e book) (state_of (record e1 { flawed = true }) book) w w' ms) (sym location_is) (flawed_behind sizes e e1 book w w' value_bytes first)
 
-  pub standing_cuts : (e1 : Engine) (w w' : World) (more : List Move) (b : Broken) → Cuts sizes (state_of e book) e1 book w w' (Written Transcript value_bytes ∷ Flawed ∷ more) b →
-      Cuts sizes (state_of e book) e1 book w w' (standing_shown (page_of e book) l ++ more) b
-  standing_cuts e1 w w' more b h = cuts_by sizes _ e1 book w w' _ _ b (ap (λ (ms : List Move). ms ++ more) standing_is) h
+  pub location_cuts : (e1 : Engine) (w w' : World) (more : List Move) (b : Broken) → Cuts sizes (state_of e book) e1 book w w' (Written Transcript value_bytes ∷ Flawed ∷ more) b →
+      Cuts sizes (state_of e book) e1 book w w' (location_shown (page_of e book) l ++ more) b
+  location_cuts e1 w w' more b h = cuts_by sizes _ e1 book w w' _ _ b (ap (λ (ms : List Move). ms ++ more) location_is) h

@@ -18,7 +18,7 @@ use Rattle.plain_machine.specs.Numbers.{pending_of}
 use Rattle.plain_machine.specs.Does.{Did}
 use Rattle.plain_machine.proofs.Doing.{did_join, did_one, did_none}
 use Rattle.plain_machine.proofs.Renumbering.{settle_of, level_of, put_front_of}
-use Rattle.input_state.specs.Standing.{appended_made, AppendsShort, with_appended_made}
+use Rattle.input_state.specs.AtLocations.{appended_made, AppendsShort, with_appended_made}
 use Rattle.input_state.specs.Stored.{Stored, KeepsShared, words as stored_words}
 use Rattle.input_state.specs.HeldLists.{made as made_list}
 use Rattle.input_state.proofs.Refusing.{memory_room}
@@ -33,7 +33,7 @@ use Rattle.engine_state.specs.Rules.{Cuts}
 use Rattle.engine_state.proofs.Cutting.{cuts_by, later_cuts, full_cuts}
 use Rattle.engine_state.proofs.Joining.{IsQuiet, quiet_here}
 use Rattle.engine_state.proofs.Putting.{settled_still}
-use Rattle.engine_state.proofs.Standing.{frames_join}
+use Rattle.engine_state.proofs.AtLocations.{frames_join}
 use Rattle.engine_state.proofs.Storing.{store_same, store_join, store_making, store_settled, sound_still, words_more}
 
 -- MOVES ON THE INPUT ALONE

@@ -10,7 +10,7 @@ use Rattle.tex_defs.specs.Places.{Transcript}
 use Rattle.tex_defs.specs.declared.Fatal.TheVariants.{NoEnd as FatalNoEnd, NoFile}
 use Rattle.plain_state.specs.Reports.{fresh_line, emergency, no_end_line, no_file_line}
 use Rattle.plain_machine.specs.States.{Move, Written, Stopped}
-use Rattle.plain_machine.specs.Plan.{Page, style_of, groups_left, conditionals_left, reported, finish, no_end, page_behind, put_one, inserted_at, check_noted}
+use Rattle.plain_machine.specs.Plan.{Page, style_of, groups_left, conditionals_left, reported, finish, no_end, page_behind, put_one, inserted_at, cut_or_not}
 use Rattle.engine_state.specs.declared.check.Check.{Check}
 use Rattle.engine_state.specs.declared.check.Check.TheVariants.{FileEnded, Forbidden}
 use Rattle.engine_state.specs.declared.outcome.Last.{Last}
@@ -36,7 +36,7 @@ last_written page NoEnd = Written Transcript (last_bytes page NoEnd) ∷ []
 
 -- what is scanned runs away, and this is shown of it: `}` or `\par` is inserted, the report comes, and a call notes the check
 abbrev pub away_moves : Page → Scanned → List ℕ → Report → (rest : List Move) → List Move
-away_moves page what text report rest = Written Transcript text ∷ (put_one (inserted_at what) ++ reported (page_behind page text) report (check_noted what rest))
+away_moves page what text report rest = Written Transcript text ∷ (put_one (inserted_at what) ++ reported (page_behind page text) report (cut_or_not what rest))
 
 -- the report of it, by why the check comes
 abbrev pub check_report : Check → Scanned → Name → Report

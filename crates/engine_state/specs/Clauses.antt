@@ -8,6 +8,7 @@ use Rattle.tex_defs.specs.declared.Fatal.TheVariants.{HundredErrors}
 use Rattle.tex_defs.specs.declared.Full.{Full}
 use Rattle.tex_defs.specs.declared.Sizes.{Sizes}
 use Rattle.plain_tokens.specs.Lex.{Lexeme}
+use Rattle.plain_tokens.specs.Lookup.{new_name}
 use Rattle.line_lexer.specs.declared.Lexed.{Lexed}
 use Rattle.input_state.specs.Reads.{IsLexeme}
 use Rattle.rows.specs.Readings.{Fed, Done}
@@ -23,6 +24,7 @@ use Rattle.engine_state.specs.declared.engine.Engine.{Engine}
 use Rattle.engine_state.specs.declared.outcome.Ruled.{Ruled}
 use Rattle.engine_state.specs.Book.{Book, with_work}
 use Rattle.engine_state.specs.CutReadings.{CutsIn}
+use Rattle.engine_state.specs.Entering.{with_names}
 use Rattle.engine_state.specs.Calls.{AllStand}
 use Rattle.engine_state.specs.Rules.{world_of, enters_of, name_moves, onward_of, scanning_of, space_moves, Behind, Cuts, DoesOnward, Finds, Halts, Takes, Went}
 use Rattle.engine_state.specs.Steps.{asked}
@@ -43,20 +45,19 @@ StaysSized e e' = (sizes : Sizes) → IsSized sizes e → IsSized sizes e'
 
 -- THE SAME READINGS
 
--- Where this holds of the engine and the book, the machine makes these moves, with nothing written, and the engine stands for what comes of them.
+-- Where this holds of the engine and the book, the machine makes these moves, with nothing written, and the engine stands for what comes of them, with this book in its place.
+abbrev pub MakesMovesTo : (Sizes → Engine → Book → Type 0) → (e e' : Engine) → (Book → Book) → (Book → List Move) → Type 0
+MakesMovesTo Holds e e' to moves = (sizes : Sizes) (w : World) (book : Book) → Holds sizes e book →
+    Did sizes (state_of e book) (state_of e' (to book)) w w (moves book)
+
+-- The same, where the book stays.
 abbrev pub MakesMoves : (Sizes → Engine → Book → Type 0) → (e e' : Engine) → (Page → List Move) → Type 0
-MakesMoves Holds e e' moves = (sizes : Sizes) (w : World) (book : Book) → Holds sizes e book →
-    Did sizes (state_of e book) (state_of e' book) w w (moves (page_of e book))
+MakesMoves Holds e e' moves = MakesMovesTo Holds e e' (λ book. book) (λ book. moves (page_of e book))
 
 -- They are cut off, whatever more was to come behind them.
 abbrev pub CutsMoves : (Sizes → Engine → Book → Type 0) → (e e' : Engine) → (Page → List Move) → Broken → Type 0
 CutsMoves Holds e e' moves b = (sizes : Sizes) (w : World) (book : Book) (more : List Move) → Holds sizes e book →
     Cuts sizes (state_of e book) e' book w w (moves (page_of e book) ++ more) b
-
--- Where this holds, the machine makes these moves, with nothing written, and the engine stands for what comes of them, with this book in its place.
-abbrev pub MakesMovesTo : (Sizes → Engine → Book → Type 0) → (e e' : Engine) → (Book → Book) → (Book → List Move) → Type 0
-MakesMovesTo Holds e e' to moves = (sizes : Sizes) (w : World) (book : Book) → Holds sizes e book →
-    Did sizes (state_of e book) (state_of e' (to book)) w w (moves book)
 
 -- Whatever the engine stands for, the machine makes these moves, with nothing written, and the engine stands for what comes of them.
 abbrev pub MakesAlways : (e e' : Engine) → List Move → Type 0
@@ -141,16 +142,16 @@ abbrev pub DoesWhere : {A : Type 0} → (Holds : Sizes → Engine → Book → T
 DoesWhere Holds Does e e' before after moves a = (sizes : Sizes) (f : FilesTold) (book : Book) → Holds sizes e book →
     Does sizes (state_of e book) e' book (world_of f before e) (world_of f after e') (moves book) a
 
+-- Where this holds, these moves, with this written, are cut off.
+abbrev pub CutsWhere : (Holds : Sizes → Engine → Book → Type 0) → (e e' : Engine) → (before after : SinkTold) → (Book → List Move) → Broken → Type 0
+CutsWhere Holds e e' before after moves b = (sizes : Sizes) (f : FilesTold) (book : Book) → Holds sizes e book →
+    CutsIn sizes (state_of e book) e' (world_of f before e) (world_of f after e') (moves book) b
+
 -- Where this holds, what is done by these moves, with nothing written, is as said.
 abbrev pub DoesSilently : {A : Type 0} → (Holds : Sizes → Engine → Book → Type 0) → (Does : Sizes → State → Engine → Book → World → World → List Move → A → Type 0) →
     (e e' : Engine) → (Book → List Move) → A → Type 0
 DoesSilently Holds Does e e' moves a = (sizes : Sizes) (w : World) (book : Book) → Holds sizes e book →
     Does sizes (state_of e book) e' book w w (moves book) a
-
--- They are cut off.
-abbrev pub CutsWhere : (Holds : Sizes → Engine → Book → Type 0) → (e e' : Engine) → (before after : SinkTold) → (Book → List Move) → Broken → Type 0
-CutsWhere Holds e e' before after moves b = (sizes : Sizes) (f : FilesTold) (book : Book) → Holds sizes e book →
-    CutsIn sizes (state_of e book) e' (world_of f before e) (world_of f after e') (moves book) b
 
 -- The machine makes these moves, for which this is written, and the engine stands for what comes of them.
 abbrev pub WritesWhere : (Holds : Sizes → Engine → Book → Type 0) → (e e' : Engine) → (before after : SinkTold) → (Page → List Move) → Type 0
@@ -191,12 +192,22 @@ ReportsSo Rep e e' before after = (sizes : Sizes) (f : FilesTold) (book : Book) 
 abbrev pub WhereSound : Engine → (Book → Type 0) → Type 0
 WhereSound e Says = (sizes : Sizes) (book : Book) → IsSound sizes e book.number book.all_lists → Says book
 
+-- WHAT A LINE GAVE
+
+-- This is so of whatever character or name it gave.
+abbrev pub OfLexeme : Engine → Lexed → (Lexeme → Type 0) → Type 0
+OfLexeme e lexed Says = (x : Lexeme) → IsLexeme e.input.buffer lexed x → Says x
+
+-- Where names are entered, whatever name it gave joins them if it is new; else nothing changes.
+abbrev pub EntersName : (e e' : Engine) → (enters : Bool) → Lexed → Type 0
+EntersName e e' enters lexed = (sizes : Sizes) (x : Lexeme) → IsSized sizes e → IsLexeme e.input.buffer lexed x → e' ≡ with_names (new_name enters e.names.names x) e
+
 -- A TOKEN THAT IS MET
 
--- Where a token is wanted, for any x as this says, what is done by these moves, with this written, is as said.
+-- Where a token is wanted, as `want` says for x, what is done by moves that depend on x, with this written, is as said, whatever x is.
 abbrev pub DoesWanted : {A : Type 0} → {X : Type 0} → (want : X → Option Want) → (Does : Sizes → Option Want → State → Engine → Book → World → World → List Move → A → Type 0) →
     (e e' : Engine) → (before after : SinkTold) → (X → Book → List Move) → A → Type 0
-DoesWanted want Does e e' before after moves a = (sizes : Sizes) (f : FilesTold) (book : Book) (x : _) → Takes sizes (want x) e book →
+DoesWanted {A} {X} want Does e e' before after moves a = (sizes : Sizes) (f : FilesTold) (book : Book) (x : X) → Takes sizes (want x) e book →
     Does sizes (want x) (state_of e book) e' book (world_of f before e) (world_of f after e') (moves x book) a
 
 -- For whatever wants a token and enters names so, what is done with the character or the name that a line gave, with this written, is as said.

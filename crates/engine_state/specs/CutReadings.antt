@@ -13,7 +13,7 @@ use Rattle.macro_call.specs.PlainScans.{Scan}
 use Rattle.input_state.specs.CallFeeds.{IsCutInGrowth, IsCutBetween}
 use Rattle.input_state.specs.declared.answer.CallEnd.TheVariants as end
 use Rattle.input_state.specs.Callings.{Calling, Stopped, call_in}
-use Rattle.reading_frames.specs.Stands as frames
+use Rattle.reading_frames.specs.Frames as frames
 use Rattle.engine_state.specs.declared.broken.Broken.{Broken}
 use Rattle.engine_state.specs.declared.broken.Broken.TheVariants as broken
 use Rattle.input_state.specs.declared.answer.Call.{Call}
@@ -66,9 +66,9 @@ pub data CallAtCut (b : Broken) (c : Call) (k : Calling) (r : Reading) : Type 0 
 
 -- they are these, where the frames held these lists
 abbrev pub FramesIn : Broken → Option Call → Engine → (lists : List (List Token)) → List Reading → Type 0
-FramesIn b None e lists work = frames.FramesStand e.readings.frames lists work
+FramesIn b None e lists work = frames.AreFramesOf e.readings.frames lists work
 FramesIn b (Some c) e lists [] = ⊥
-FramesIn b (Some c) e lists (r ∷ rs) = CallAtCut b c e.input.call r × frames.FramesStand e.readings.frames lists rs
+FramesIn b (Some c) e lists (r ∷ rs) = CallAtCut b c e.input.call r × frames.AreFramesOf e.readings.frames lists rs
 
 -- the innermost list has one token more, or none
 abbrev pub with_token : Option Token → List (List Token) → List (List Token)

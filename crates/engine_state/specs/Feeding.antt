@@ -8,7 +8,7 @@ use Rattle.reading_frames.specs.declared.ask.Opening.{Opening}
 use Rattle.reading_frames.specs.declared.frame.Frame.{Frame}
 use Rattle.reading_frames.specs.Resumes.{token_count}
 use Rattle.reading_frames.specs.Stack.{innermost_of}
-use Rattle.reading_frames.specs.Stands.{opened_lists}
+use Rattle.reading_frames.specs.Frames.{opened_lists}
 use Rattle.input_state.specs.Stored.{Stored, KeepsShared, words}
 use Rattle.engine_state.specs.declared.engine.Engine.{Engine}
 use Rattle.engine_state.specs.CutReadings.{with_token}

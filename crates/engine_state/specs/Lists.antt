@@ -5,7 +5,7 @@ use Rattle.equivalents.specs.declared.values.Loc.{Loc}
 use Rattle.rows.specs.Readings.{Verbatim}
 use Rattle.plain_readings.specs.Readings.{Reading, fed_with}
 use Rattle.reading_frames.specs.Stack.{AsksCopied}
-use Rattle.input_state.specs.Standing.{standing_tokens}
+use Rattle.input_state.specs.AtLocations.{location_tokens}
 use Rattle.engine_state.specs.declared.engine.Engine.{Engine}
 use Rattle.engine_state.specs.Book.{Book, with_work}
 use Rattle.engine_state.specs.Steps.{asked}
@@ -21,7 +21,7 @@ Copies e = AsksCopied (asked e)
 
 -- the tokens of the list that stands at a location
 abbrev pub location_list : Engine → Loc → List Token
-location_list e l = standing_tokens e.input.lists e.input.groups l
+location_list e l = location_tokens e.input.lists e.input.groups l
 
 -- with the innermost reading fed with them
 abbrev pub with_list : Engine → Loc → Book → Book

@@ -16,7 +16,7 @@ use Rattle.rows.specs.Internal.{is_fetchable, value_text}
 use Rattle.plain_machine.specs.Plan.{Page, style_of, job_in, meaning_characters, shared_tokens}
 use Rattle.plain_machine.specs.States.{Move, ListGrown}
 use Rattle.plain_machine.specs.Does.{Did}
-use Rattle.input_state.specs.Standing.{appended_made}
+use Rattle.input_state.specs.AtLocations.{appended_made}
 use Rattle.input_state.specs.Stored.{Stored, KeepsShared}
 use Rattle.reading_frames.specs.Views.{kept_list_of}
 use Rattle.engine_state.specs.declared.broken.Broken.TheVariants as broken

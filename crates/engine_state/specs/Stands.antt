@@ -8,10 +8,10 @@ use Rattle.plain_tokens.specs.Meanings.{fixed_locations}
 use Rattle.plain_tokens.specs.Pending.{all_puts}
 use Rattle.plain_tokens.specs.Tables.{is_put}
 use Rattle.plain_readings.specs.Readings.{Reading}
-use Rattle.reading_frames.specs.Stands as frames
-use Rattle.reading_frames.specs.Stands.{AreShallow}
+use Rattle.reading_frames.specs.Frames as frames
+use Rattle.reading_frames.specs.Frames.{AreShallow}
 use Rattle.plain_tokens.specs.Printed.{Style}
-use Rattle.equivalents.specs.Groups.{depth as groups_depth, kind_of, tokens_after}
+use Rattle.equivalents.specs.Groups.{depth as groups_depth, current_group, tokens_after}
 use Rattle.equivalents.specs.Holding.{lists_held}
 use Rattle.equivalents.specs.Parameters.{style_in}
 use Rattle.plain_machine.specs.States.{State, no_files}
@@ -53,7 +53,7 @@ abbrev pub page_of : Engine → Book → Page
 page_of e book = record {
   now = tables_of book.number e.input.groups.now;
   depth = groups_depth e.input.groups;
-  group = kind_of e.input.groups;
+  group = current_group e.input.groups;
   tokens = tokens_after e.input.groups;
   after = e.after;
   mag_set = e.mag_set;
@@ -97,7 +97,7 @@ pub record IsSound (sizes : Sizes) (e : Engine) (number : ℕ → ℕ) (all_list
 
 -- The frames, with all lists that are gathered but those of a call, stand for these readings.
 pub record FramesStand (e : Engine) (work : List Reading) : Type 0 where
-  pub frames : frames.FramesStand e.readings.frames e.input.builds work
+  pub frames : frames.AreFramesOf e.readings.frames e.input.builds work
   pub shallow : AreShallow e.readings.frames e.input.builds
 
 -- no call gathers its arguments

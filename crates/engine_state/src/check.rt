@@ -5,7 +5,7 @@ ghost use Rattle.tex_syntax.specs.declared.words.Outcome.TheVariants.{AtFatal};
 ghost use Rattle.tex_syntax.specs.declared.words.Scanned.TheVariants as scanned;
 ghost use Rattle.tex_defs.specs.Places.{Transcript};
 ghost use Rattle.plain_machine.specs.States.{Written};
-ghost use Rattle.plain_machine.specs.Plan.{put_one, reported, checked, check_noted, incomplete, inserted_at};
+ghost use Rattle.plain_machine.specs.Plan.{put_one, reported, checked, cut_or_not, incomplete, inserted_at};
 ghost use Rattle.engine_state.specs.CutReadings.{CutsIn};
 ghost use Rattle.engine_state.specs.Begins.{away_moves, check_report};
 ghost use Rattle.engine_state.specs.Clauses.{WritesOut, CutsWriting, EndsAtHundredth, CutsReport, CutsReading, CutsWhere, DoesWanted, DoesWhere, EndsReading, GoesBehind, ScansNothing, ScansThis};
@@ -133,7 +133,7 @@ impl Engine {
     ) -> Result<bool, Broken>
         requires idle { self.old.input.making ≡ None }
         requires asked { IsScanned what number self.old }
-        ensures on { IfOk result (λ on. on ≡ true → GoesBehind self.old self.new (S.told out.old) (S.told out.new) (λ p space. reported p report (check_noted what space))) }
+        ensures on { IfOk result (λ on. on ≡ true → GoesBehind self.old self.new (S.told out.old) (S.told out.new) (λ p space. reported p report (cut_or_not what space))) }
         ensures last { IfOk result (λ on. on ≡ false → EndsAtHundredth self.old self.new (S.told out.old) (S.told out.new) (λ page rest. reported page report rest)) }
         ensures err { IfErr result (λ b. CutsReport self.old self.new (S.told out.old) (S.told out.new) (λ page rest. reported page report rest) b) }
         ensures halts { IfOk result (λ on. on ≡ false → SameFrames self.old self.new) }

@@ -1,6 +1,6 @@
 // Groups opened and closed, and the tokens that come behind them and behind assignments.
 ghost use Rattle.std.specs.Prelude.{◌≡◌, [], ◌∷◌, IfErr, OnOk, Some, None};
-ghost use Rattle.equivalents.specs.Groups.{kind_of};
+ghost use Rattle.equivalents.specs.Groups.{current_group};
 ghost use Rattle.plain_machine.specs.States.{GroupOpened, KeptForAssignment};
 ghost use Rattle.plain_machine.specs.Plan.{put_each, group_ended, kept_for_group, behind_assignment};
 ghost use Rattle.engine_state.specs.Clauses.{Still, HoldsLists, MakesAlways, MakesMoves, CutsMoves, DoesSilently};
@@ -35,8 +35,8 @@ impl Engine {
     /// # Errors
     /// The save stack is full; nothing has changed.
     pub fn keep_for_group(&mut self, token: Token) -> Result<(), Broken>
-        ensures did { OnOk result (MakesMoves HoldsLists self.old self.new (λ _. kept_for_group (kind_of self.old.input.groups) token)) }
-        ensures err { IfErr result (λ b. CutsMoves HoldsLists self.old self.new (λ _. kept_for_group (kind_of self.old.input.groups) token) b) }
+        ensures did { OnOk result (MakesMoves HoldsLists self.old self.new (λ _. kept_for_group (current_group self.old.input.groups) token)) }
+        ensures err { IfErr result (λ b. CutsMoves HoldsLists self.old self.new (λ _. kept_for_group (current_group self.old.input.groups) token) b) }
         ensures stands { OnOk result (Still Stands self.old self.new) }
         ensures frames { SameFrames self.old self.new }
         ensures only { self.new ≡ record self.old { input = record self.old.input { groups = self.new.input.groups } } }
@@ -72,7 +72,7 @@ impl Engine {
     /// The main memory or the input stack is full: the group has gone, and of the tokens there are those that had room.
     pub fn end_group(&mut self) -> Result<(), Broken>
         requires idle { self.old.input.making ≡ None }
-        requires open { kind_of self.old.input.groups ≡ None → ⊥ }
+        requires open { current_group self.old.input.groups ≡ None → ⊥ }
         ensures did { OnOk result (MakesMoves Stands self.old self.new group_ended) }
         ensures err { IfErr result (DoesSilently Stands Cuts self.old self.new (λ book. group_ended (page_of self.old book))) }
         ensures stands { OnOk result (Still Stands self.old self.new) }

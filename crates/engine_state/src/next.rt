@@ -1,14 +1,12 @@
 // The next token.
 ghost use Rattle.std.specs.Prelude.{◌≡◌, ◌<◌, IfOk, IfErr, OnOk, OnErr, MatchResult, Option, None, false, true};
-ghost use Rattle.tex_defs.specs.declared.Sizes.{Sizes};
 ghost use Rattle.plain_tokens.specs.Pending.{pulled};
-ghost use Rattle.plain_tokens.specs.Lex.{Lexeme};
-ghost use Rattle.input_state.specs.Reads.{gives_step, IsLexeme};
+ghost use Rattle.input_state.specs.Reads.{gives_step};
 ghost use Rattle.plain_tokens.specs.Lookup.{token_of, new_name};
-ghost use Rattle.engine_state.specs.Clauses.{DoesLexeme};
+ghost use Rattle.engine_state.specs.Clauses.{DoesLexeme, EntersName, OfLexeme};
 ghost use Rattle.engine_state.specs.CutReadings.{CutsIn};
-ghost use Rattle.engine_state.specs.Entering.{with_names, EntryFits, EntryRefused};
-ghost use Rattle.engine_state.specs.Stands.{IsSized, SameFrames, SameReadings};
+ghost use Rattle.engine_state.specs.Entering.{EntryFits, EntryRefused};
+ghost use Rattle.engine_state.specs.Stands.{SameFrames, SameReadings};
 ghost use Rattle.engine_state.specs.Rules.{Meets};
 ghost use Rattle.engine_state.specs.OneRule.{ReadsNext, CutsNext};
 ghost use Rattle.engine_state.specs.Steps.{weight, IsSkipped, IsOver, NextStepsIf, ends_run, next_met, next_free};
@@ -19,17 +17,17 @@ use crate::names::resolve;
 use crate::outcome::{Last, Next, Ruled};
 use input_state::Pulled;
 use line_lexer::Lexed;
-use tex_defs::{Fatal, Full, Seen, Sizes, Token};
+use tex_defs::{Fatal, Full, Seen, Token};
 use tex_syntax::{Outcome, Report};
 use world_io::Sink;
 
 impl Engine {
     /// The token that a line gives. A name that joins those that are entered gets its location with them.
     fn resolve(&mut self, lexed: Lexed, enters: bool) -> Result<Token, Full>
-        ensures token { IfOk result (λ t. (x : Lexeme) → IsLexeme self.old.input.buffer lexed x → t ≡ token_of enters self.old.names.names x) }
-        ensures after { OnOk result ((sizes : Sizes) (x : Lexeme) → IsSized sizes self.old → IsLexeme self.old.input.buffer lexed x → self.new ≡ with_names (new_name enters self.old.names.names x) self.old) }
-        ensures fits { OnOk result ((x : Lexeme) → IsLexeme self.old.input.buffer lexed x → EntryFits self.old.names (new_name enters self.old.names.names x)) }
-        ensures refused { IfErr result (λ full. (x : Lexeme) → IsLexeme self.old.input.buffer lexed x → EntryRefused self.old.names (new_name enters self.old.names.names x) full) }
+        ensures token { IfOk result (λ t. OfLexeme self.old lexed (λ x. t ≡ token_of enters self.old.names.names x)) }
+        ensures after { OnOk result (EntersName self.old self.new enters lexed) }
+        ensures fits { OnOk result (OfLexeme self.old lexed (λ x. EntryFits self.old.names (new_name enters self.old.names.names x))) }
+        ensures refused { IfErr result (λ full. OfLexeme self.old lexed (λ x. EntryRefused self.old.names (new_name enters self.old.names.names x) full)) }
         ensures err { OnErr result (self.new ≡ self.old) }
         ensures frames { SameFrames self.old self.new }
         ensures idle { self.new.input.making ≡ self.old.input.making }

@@ -3,13 +3,13 @@ ghost use Rattle.std.specs.Prelude.{◌≡◌, ◌<◌, ◌≤◌, ◌+◌, ◌-
 ghost use Rattle.equivalents.specs.Groups.{IsLocation};
 ghost use Rattle.equivalents.specs.Locations.{value_seen};
 ghost use Rattle.equivalents.specs.Tables.{get};
-ghost use Rattle.rows.specs.Readings.{Tok, Told, Fetched, Val, Fetches};
+ghost use Rattle.rows.specs.Readings.{Tok, Noted, Fetched, Val, Fetches};
 ghost use Rattle.plain_readings.specs.Readings.{fed_with, opened, opened_with, lists};
 ghost use Rattle.plain_readings.specs.Weights.{value_frame, act_frame, value_weight, act_weight};
 ghost use Rattle.plain_tokens.specs.Tables.{memory, refused};
-ghost use Rattle.reading_frames.specs.Views.{kind_of, has_no_token, on_top};
+ghost use Rattle.reading_frames.specs.Views.{reading_kind, has_no_token, on_top};
 ghost use Rattle.reading_frames.specs.Resumes.{listed_lists, token_count};
-ghost use Rattle.reading_frames.specs.Stands.{opened_lists};
+ghost use Rattle.reading_frames.specs.Frames.{opened_lists};
 ghost use Rattle.input_state.specs.Callings.{NotCalling};
 ghost use Rattle.input_state.specs.Stored.{KeepsShared, words as stored_words};
 ghost use Rattle.reading_frames.specs.Weights.{frames_weight, opening_frame, innermost_weight, begun_weight, begun_with_weight, IsReported};
@@ -27,7 +27,7 @@ ghost use Rattle.engine_state.specs.declared.broken.Broken.TheVariants as broken
 use crate::engine::Engine;
 use equivalents::Loc;
 use reading_frames::{Frame, Grown, Opening};
-use rows::{Kind, Value};
+use rows::{Phrase, Value};
 use tex_defs::{Full, Seen, Table, Token};
 
 /// The words of the list that a reading has from the beginning, if it has one.
@@ -35,7 +35,7 @@ fn list_need(opening: Opening) -> u32
     ensures { result ≡ length (opened_lists opening []) }
 {
     match opening {
-        Opening::Reads(Kind::Text(..) | Kind::Definition(..))
+        Opening::Reads(Phrase::Text(..) | Phrase::Definition(..))
         | Opening::Spelling(_)
         | Opening::FileName(_) => 1,
         _ => 0,
@@ -81,10 +81,10 @@ impl Engine {
     /// # Errors
     /// There is no room for one more reading, or for its list; nothing has changed.
     pub fn begin(&mut self, opening: Opening) -> Result<(), Full>
-        ensures stands { OnOk result (StandsFor self.old self.new (λ _. opened (kind_of opening))) }
-        ensures state { OnOk result (IsMadeBy self.old self.new (λ _. Begun (kind_of opening)) (λ _ work. opened (kind_of opening) work)) }
-        ensures fits { OnOk result (RefusedAs self.old (Begun (kind_of opening)) None) }
-        ensures refused { IfErr result (λ full. RefusedAs self.old (Begun (kind_of opening)) (Some full)) }
+        ensures stands { OnOk result (StandsFor self.old self.new (λ _. opened (reading_kind opening))) }
+        ensures state { OnOk result (IsMadeBy self.old self.new (λ _. Begun (reading_kind opening)) (λ _ work. opened (reading_kind opening) work)) }
+        ensures fits { OnOk result (RefusedAs self.old (Begun (reading_kind opening)) None) }
+        ensures refused { IfErr result (λ full. RefusedAs self.old (Begun (reading_kind opening)) (Some full)) }
         ensures err { OnErr result (self.new ≡ self.old) }
         ensures same { SameBut self.old self.new }
         ensures weight { OnOk result (innermost_weight self.new.readings.frames ≤ begun_weight opening) }
@@ -110,10 +110,10 @@ impl Engine {
     /// # Errors
     /// There is no room for one more reading, or for its list; nothing has changed.
     pub fn begin_with(&mut self, opening: Opening) -> Result<(), Full>
-        ensures stands { OnOk result (StandsFor self.old self.new (λ _. opened_with (kind_of opening) (Tok self.old.last))) }
-        ensures state { OnOk result (IsMadeBy self.old self.new (λ _. BegunWith (kind_of opening)) (λ _ work. opened_with (kind_of opening) (Tok self.old.last) work)) }
-        ensures fits { OnOk result (RefusedAs self.old (BegunWith (kind_of opening)) None) }
-        ensures refused { IfErr result (λ full. RefusedAs self.old (BegunWith (kind_of opening)) (Some full)) }
+        ensures stands { OnOk result (StandsFor self.old self.new (λ _. opened_with (reading_kind opening) (Tok self.old.last))) }
+        ensures state { OnOk result (IsMadeBy self.old self.new (λ _. BegunWith (reading_kind opening)) (λ _ work. opened_with (reading_kind opening) (Tok self.old.last) work)) }
+        ensures fits { OnOk result (RefusedAs self.old (BegunWith (reading_kind opening)) None) }
+        ensures refused { IfErr result (λ full. RefusedAs self.old (BegunWith (reading_kind opening)) (Some full)) }
         ensures err { OnErr result (self.new ≡ self.old) }
         ensures same { SameBut self.old self.new }
         ensures weight { OnOk result (innermost_weight self.new.readings.frames ≤ begun_with_weight opening) }
@@ -196,8 +196,8 @@ impl Engine {
     /// # Errors
     /// The main memory is full; as [`Engine::feed`].
     pub fn note(&mut self) -> Result<(), Full>
-        ensures stands { OnOk result (StandsFor self.old self.new (λ _. fed_with Told)) }
-        ensures did { OnOk result (FeedsReading self.old self.new Told noting) }
+        ensures stands { OnOk result (StandsFor self.old self.new (λ _. fed_with Noted)) }
+        ensures did { OnOk result (FeedsReading self.old self.new Noted noting) }
         ensures refused { IfErr result (λ full. CutsAtReading self.old self.new (λ _ r. noting r) (broken.Full full)) }
         ensures weight { OnOk result (IsReported (asks_in self.old.readings.frames []) → innermost_weight self.new.readings.frames < innermost_weight self.old.readings.frames) }
         ensures count { OnOk result (length self.new.readings.frames ≡ length self.old.readings.frames) }
@@ -208,7 +208,7 @@ impl Engine {
         ensures call { self.new.input.call ≡ self.old.input.call }
     {
         let kept = self.frame_at_risk();
-        let grown = self.readings.told();
+        let grown = self.readings.noted();
         if let Err(full) = self.take(grown) {
             self.readings.restore(kept);
             return Err(full);
@@ -274,7 +274,7 @@ impl Engine {
         ensures err { OnErr result (self.new ≡ self.old) }
     {
         match opening {
-            Opening::Reads(Kind::Text(..) | Kind::Definition(..))
+            Opening::Reads(Phrase::Text(..) | Phrase::Definition(..))
             | Opening::Spelling(_)
             | Opening::FileName(_) => self.input.begin_list(),
             _ => {

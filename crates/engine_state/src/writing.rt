@@ -11,7 +11,7 @@ ghost use Rattle.plain_tokens.specs.Numerals.{whole_number};
 ghost use Rattle.plain_tokens.specs.Printed.{meaning_tokens};
 ghost use Rattle.plain_state.specs.Reports.{report_bytes, message_bytes, error_message_bytes, runaway_bytes, shown_meaning_bytes, shown_value_bytes};
 ghost use Rattle.plain_machine.specs.States.{Written};
-ghost use Rattle.plain_machine.specs.Plan.{reported, reported_as, token_line, shared_tokens, shown, standing_shown, value_shown};
+ghost use Rattle.plain_machine.specs.Plan.{reported, reported_as, token_line, shared_tokens, shown, location_shown, value_shown};
 ghost use Rattle.reading_frames.specs.Views.{kept_list_of};
 ghost use Rattle.engine_state.specs.Book.{Book};
 ghost use Rattle.engine_state.specs.Calls.{AllStand, argument_bytes};
@@ -264,7 +264,7 @@ impl Engine {
     }
 
     /// Writes what stands at a location.
-    fn write_standing<S: Sink>(&mut self, out: &mut S, loc: Loc) -> Result<(), Broken>
+    fn write_value_at<S: Sink>(&mut self, out: &mut S, loc: Loc) -> Result<(), Broken>
         requires there { IsLocation self.old.input.groups loc }
         ensures did { OnOk result (WritesOut self.old self.new (S.told out.old) (S.told out.new) (λ _. Written Transcript (shown_value_bytes (own_style self.old) self.old.in_line self.old.input.pending.number (value_text loc (value_seen (get self.old.input.groups.now loc))) (location_list self.old loc)) ∷ [])) }
         ensures err { IfErr result (λ b. CutsWriting self.old self.new (S.told out.old) (S.told out.new) (λ _. Written Transcript (shown_value_bytes (own_style self.old) self.old.in_line self.old.input.pending.number (value_text loc (value_seen (get self.old.input.groups.now loc))) (location_list self.old loc)) ∷ []) b) }
@@ -272,7 +272,7 @@ impl Engine {
     {
         let line = self.input.line_number();
         let text = value_text(loc, self.input.value(loc));
-        let (lists, list) = self.input.standing_list(loc);
+        let (lists, list) = self.input.list_at_location(loc);
         let view = view_of(lists, &self.input, &self.names);
         write_shown_value(out, &mut self.in_line, view, line, text.bytes(), list)?;
         Ok(())
@@ -300,12 +300,12 @@ impl Engine {
     /// A write failed or wanted memory: a front of the text was written.
     pub fn show_value<S: Sink>(&mut self, out: &mut S, loc: Loc) -> Result<(), Broken>
         requires there { IsLocation self.old.input.groups loc }
-        ensures did { OnOk result (WritesWhere HoldsLists self.old self.new (S.told out.old) (S.told out.new) (λ page. standing_shown page loc)) }
-        ensures err { IfErr result (λ b. CutsWritingWhere HoldsLists self.old self.new (S.told out.old) (S.told out.new) (λ page. standing_shown page loc) b) }
+        ensures did { OnOk result (WritesWhere HoldsLists self.old self.new (S.told out.old) (S.told out.new) (λ page. location_shown page loc)) }
+        ensures err { IfErr result (λ b. CutsWritingWhere HoldsLists self.old self.new (S.told out.old) (S.told out.new) (λ page. location_shown page loc) b) }
         ensures only { self.new ≡ record self.old { in_line = self.new.in_line; flawed = self.new.flawed } }
         ensures frames { SameFrames self.old self.new }
     {
-        self.write_standing(out, loc)?;
+        self.write_value_at(out, loc)?;
         self.flawed = true;
         Ok(())
     }

@@ -19,7 +19,7 @@ use Rattle.save_stack.proofs.Mapped.{closed_as, restored_as}
 use Rattle.save_stack.proofs.Undo.{skip_values, put_values}
 use Rattle.save_stack.proofs.Restoring.{is_entry, restored_taken}
 use Rattle.equivalents.specs.Locations.{V}
-use Rattle.equivalents.specs.Groups.{Groups, kind_of}
+use Rattle.equivalents.specs.Groups.{Groups, current_group}
 use Rattle.equivalents.specs.Flat.{groups_of}
 use Rattle.equivalents.specs.Holding.{value_list}
 use Rattle.equivalents.specs.Laws.{IsWhole}
@@ -29,7 +29,7 @@ use Rattle.meanings.specs.Holding.{Lasts, without_holder}
 use Rattle.meanings.proofs.Counted.{list_is_held}
 use Rattle.eqtb_save.specs.Values.{numbered_value, categories_in}
 use Rattle.eqtb_save.specs.Holding.{MarksLast}
-use Rattle.eqtb_save.specs.Table.{Table, IsSound, noted, begun_by}
+use Rattle.eqtb_save.specs.Table.{Table, IsSound, mirrored, begun_by}
 use Rattle.eqtb_save.proofs.Codes.{noted_set, noted_still}
 use Rattle.eqtb_save.proofs.Held.{K, weight}
 use Rattle.eqtb_save.proofs.Kept.{mk}
@@ -44,24 +44,24 @@ top_mapped s = of s.maps
     of [] = refl
     of (m ∷ ms) = refl
 
-noted_back : (cs : List ℕ) (ms : List (List K)) (e : Saved K) (l : List ℕ) → cs ≡ categories_in (map numbered_value (top ms)) → noted cs (map numbered_value (top (set_top (back_values e (top ms) l) ms))) e.loc ≡ categories_in (map numbered_value (top (set_top (back_values e (top ms) l) ms)))
+noted_back : (cs : List ℕ) (ms : List (List K)) (e : Saved K) (l : List ℕ) → cs ≡ categories_in (map numbered_value (top ms)) → mirrored cs (map numbered_value (top (set_top (back_values e (top ms) l) ms))) e.loc ≡ categories_in (map numbered_value (top (set_top (back_values e (top ms) l) ms)))
 noted_back cs [] e l is = noted_still cs [] e.loc is
 noted_back cs (m ∷ ms) e l is = elim (cases_eq (level_at l e.loc) 0) [
-  | inl z ↦ subst (λ (u : List K). noted cs (map numbered_value u) e.loc ≡ categories_in (map numbered_value u)) (sym (skip_values e m l z)) (noted_still cs (map numbered_value m) e.loc is)
+  | inl z ↦ subst (λ (u : List K). mirrored cs (map numbered_value u) e.loc ≡ categories_in (map numbered_value u)) (sym (skip_values e m l z)) (noted_still cs (map numbered_value m) e.loc is)
   | inr p ↦
       let new : map numbered_value (back_values e m l) ≡ _ = ap (λ (u : List K). map numbered_value u) (put_values e m l p) ∙ map-set numbered_value m e.loc e.value in
-      subst (λ (u : List V). noted cs u e.loc ≡ categories_in u) (sym new) (noted_set cs (map numbered_value m) e.loc (numbered_value e.value) is)
+      subst (λ (u : List V). mirrored cs u e.loc ≡ categories_in u) (sym new) (noted_set cs (map numbered_value m) e.loc (numbered_value e.value) is)
 ]
 
-noted_taken : (cs : List ℕ) (s s' : Stack K) (at : ℕ) (v : K) → cs ≡ categories_in (top (mapped numbered_value s).maps) → s' ≡ took_back (last_entry s.entries) s → Some (let p : ℕ × K = (at, v) in p) ≡ gone (last_entry s.entries) s → noted cs (top (mapped numbered_value s').maps) at ≡ categories_in (top (mapped numbered_value s').maps)
+noted_taken : (cs : List ℕ) (s s' : Stack K) (at : ℕ) (v : K) → cs ≡ categories_in (top (mapped numbered_value s).maps) → s' ≡ took_back (last_entry s.entries) s → Some (let p : ℕ × K = (at, v) in p) ≡ gone (last_entry s.entries) s → mirrored cs (top (mapped numbered_value s').maps) at ≡ categories_in (top (mapped numbered_value s').maps)
 noted_taken cs s s' at v is taken out =
     let found = is_entry (last_entry s.entries) s (at, v) out in
     let e : Saved K = found.0 in
     let here : s' ≡ took_back (Some e) s = taken ∙ ap (λ (o : Option (Saved K)). took_back o s) found.1 in
     let back = noted_back cs s.maps e s.levels (is ∙ ap categories_in (top_mapped s)) in
     let map_is : top (mapped numbered_value s').maps ≡ map numbered_value (top (set_top (back_values e (top s.maps) s.levels) s.maps)) = top_mapped s' ∙ ap (λ (x : Stack K). map numbered_value (top x.maps)) here in
-    subst (λ (m : List V). noted cs m at ≡ categories_in m) (sym map_is)
-    (subst (λ (k : ℕ). noted cs (map numbered_value (top (set_top (back_values e (top s.maps) s.levels) s.maps))) k ≡ categories_in (map numbered_value (top (set_top (back_values e (top s.maps) s.levels) s.maps)))) (sym (ap (λ (p : ℕ × K). p.0) found.2)) back)
+    subst (λ (m : List V). mirrored cs m at ≡ categories_in m) (sym map_is)
+    (subst (λ (k : ℕ). mirrored cs (map numbered_value (top (set_top (back_values e (top s.maps) s.levels) s.maps))) k ≡ categories_in (map numbered_value (top (set_top (back_values e (top s.maps) s.levels) s.maps)))) (sym (ap (λ (p : ℕ × K). p.0) found.2)) back)
 
 -- WHILE IT GOES
 
@@ -90,7 +90,7 @@ module _ (lists0 lists : List (Option Entry)) (s0 s s' : Stack K) (cs : List ℕ
   going_counted = list_is_held lists (value_list (numbered_value y)) (λ h. omega (arith, covers h, g.moves h, account h))
 
   pub going_on : (lists' : List (Option Entry)) (cs' : List ℕ) (at : ℕ) → s' ≡ took_back (last_entry s.entries) s → Some (let p : ℕ × K = (at, y) in p) ≡ gone (last_entry s.entries) s →
-      Moves lists lists' (λ h. weight h y) none → Keeps lists lists' (λ h. weight h y) → Lasts lists lists' → lists' ≡ without_holder (value_list (numbered_value y)) lists → cs' ≡ noted cs (top (mapped numbered_value s').maps) at → IsGoing lists0 s0 lists' s' cs'
+      Moves lists lists' (λ h. weight h y) none → Keeps lists lists' (λ h. weight h y) → Lasts lists lists' → lists' ≡ without_holder (value_list (numbered_value y)) lists → cs' ≡ mirrored cs (top (mapped numbered_value s').maps) at → IsGoing lists0 s0 lists' s' cs'
   going_on lists' cs' at taken out moves keeps lasts without codes = record {
     moves = λ h. omega (arith, g.moves h, account h, moves h);
     kept = record {
@@ -138,11 +138,11 @@ pub gone_whole : (s0 g : Stack K) → g ≡ closed (restored s0) → IsWhole (ma
 gone_whole s0 g is whole some = subst IsWhole (sym (gone_view s0 g is)) (closes (mapped numbered_value s0) whole some)
 
 pub begun_table : (s0 g : Stack K) (t : Table) (closing0 : List Token) (ending0 : Option GroupKind) (sizes : Sizes) (ts : List Token) (k : GroupKind) → mk (groups_of (mapped numbered_value s0)) closing0 ending0 sizes ≡ t → IsWhole (mapped numbered_value s0) → 0 < length s0.kinds →
-    g ≡ closed (restored s0) → ts ≡ top s0.tokens → kind_of (groups_of (mapped numbered_value s0)) ≡ Some k → mk (groups_of (mapped numbered_value g)) ts (Some k) sizes ≡ begun_by (kind_of t.groups) t
+    g ≡ closed (restored s0) → ts ≡ top s0.tokens → current_group (groups_of (mapped numbered_value s0)) ≡ Some k → mk (groups_of (mapped numbered_value g)) ts (Some k) sizes ≡ begun_by (current_group t.groups) t
 begun_table s0 g t closing0 ending0 sizes ts k view whole some is given kind =
     ap₂ (λ (x : Groups) (us : List Token). mk x us (Some k) sizes) (ap (λ (x : Stack V). groups_of x) (gone_view s0 g is) ∙ closes_groups (mapped numbered_value s0) whole some) given
     ∙ ap (λ (o : Option GroupKind). begun_by o (mk (groups_of (mapped numbered_value s0)) closing0 ending0 sizes)) (sym kind)
-    ∙ ap (λ (u : Table). begun_by (kind_of u.groups) u) view
+    ∙ ap (λ (u : Table). begun_by (current_group u.groups) u) view
 
 -- the codes are those of the map below
 codes_below : (cs : List ℕ) (s g : Stack K) → cs ≡ categories_in (top (mapped numbered_value s).maps) → g ≡ closed s → top s.maps ≡ top (below s.maps) → cs ≡ categories_in (top (mapped numbered_value g).maps)

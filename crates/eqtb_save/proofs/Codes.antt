@@ -5,7 +5,7 @@ use Rattle.std.proofs.lemmas.Bool.{cases_lt, lt-ltb, le-ltb}
 use Rattle.std.proofs.lemmas.List.{map-set, set-get_or}
 use Rattle.equivalents.specs.Locations.{V, category_of, zero_value}
 use Rattle.eqtb_save.specs.Values.{categories_in}
-use Rattle.eqtb_save.specs.Table.{noted}
+use Rattle.eqtb_save.specs.Table.{mirrored}
 
 take_set : (n : ℕ) (m : List V) (k : ℕ) (v : V) → take n (set m k v) ≡ set (take n m) k v
 take_set zero m k v = refl
@@ -39,14 +39,14 @@ set_same [] k v d = refl
 set_same (x ∷ m) zero v d = refl
 set_same (x ∷ m) (suc k) v d = ap (λ (xs : List V). x ∷ xs) (set_same m k v d)
 
-pub noted_in : (cs : List ℕ) (m : List V) (at : ℕ) → at < 256 → noted cs m at ≡ set cs at (category_of (get_or m at zero_value))
+pub noted_in : (cs : List ℕ) (m : List V) (at : ℕ) → at < 256 → mirrored cs m at ≡ set cs at (category_of (get_or m at zero_value))
 noted_in cs m at within = ap (λ (b : Bool). cond b (set cs at (category_of (get_or m at zero_value))) cs) (lt-ltb at 256 within)
 
-noted_out : (cs : List ℕ) (m : List V) (at : ℕ) → 256 ≤ at → noted cs m at ≡ cs
+noted_out : (cs : List ℕ) (m : List V) (at : ℕ) → 256 ≤ at → mirrored cs m at ≡ cs
 noted_out cs m at past = ap (λ (b : Bool). cond b (set cs at (category_of (get_or m at zero_value))) cs) (le-ltb at 256 past)
 
--- what is noted of a location that was set
-pub noted_set : (cs : List ℕ) (m : List V) (k : ℕ) (v : V) → cs ≡ categories_in m → noted cs (set m k v) k ≡ categories_in (set m k v)
+-- what is mirrored of a location that was set
+pub noted_set : (cs : List ℕ) (m : List V) (k : ℕ) (v : V) → cs ≡ categories_in m → mirrored cs (set m k v) k ≡ categories_in (set m k v)
 noted_set cs m k v is = elim (cases_lt k 256) [
   | inl within ↦
       let x : V = get_or (set m k v) k zero_value in
@@ -55,7 +55,7 @@ noted_set cs m k v is = elim (cases_lt k 256) [
 ]
 
 -- nothing is new where nothing was set
-pub noted_still : (cs : List ℕ) (m : List V) (k : ℕ) → cs ≡ categories_in m → noted cs m k ≡ categories_in m
+pub noted_still : (cs : List ℕ) (m : List V) (k : ℕ) → cs ≡ categories_in m → mirrored cs m k ≡ categories_in m
 noted_still cs m k is = elim (cases_lt k 256) [
   | inl within ↦
       let x : V = get_or m k zero_value in

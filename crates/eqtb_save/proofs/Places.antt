@@ -20,7 +20,7 @@ use Rattle.equivalents.specs.Laws.{IsWhole}
 use Rattle.equivalents.proofs.Whole.{top_suited}
 use Rattle.equivalents.proofs.Reading.{reads}
 use Rattle.eqtb_save.specs.Values.{numbered_value}
-use Rattle.eqtb_save.specs.Table.{noted}
+use Rattle.eqtb_save.specs.Table.{mirrored}
 use Rattle.eqtb_save.proofs.Codes.{noted_in}
 use Rattle.eqtb_save.proofs.Held.{K, weight, at_held}
 
@@ -86,8 +86,8 @@ read_held s g view whole l v is at h = at_held s g (index l) v view whole (omega
 zero_kept : K
 zero_kept = val.Number (pos 0)
 
--- what is noted is the category code of what was read
-pub noted_get : (cs : List ℕ) (s : Stack K) (k : ℕ) (v : K) → k < 256 → IsAt (top s.maps) k v → set cs k (category_of (numbered_value v)) ≡ noted cs (top (mapped numbered_value s).maps) k
+-- what is mirrored is the category code of what was read
+pub noted_get : (cs : List ℕ) (s : Stack K) (k : ℕ) (v : K) → k < 256 → IsAt (top s.maps) k v → set cs k (category_of (numbered_value v)) ≡ mirrored cs (top (mapped numbered_value s).maps) k
 unfolding zero_kept
 noted_get cs s k v within at =
     ap (λ (x : V). set cs k (category_of x)) (ap numbered_value (at zero_kept) ∙ sym (get_as numbered_value (top s.maps) k zero_kept) ∙ ap (λ (m : List V). get_or m k zero_value) (sym (top_mapped s)))

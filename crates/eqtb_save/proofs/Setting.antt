@@ -22,7 +22,7 @@ use Rattle.equivalents.proofs.Joins as joins
 use Rattle.equivalents.proofs.Whole as wholes
 use Rattle.eqtb_save.specs.Values.{numbered_value, categories_in}
 use Rattle.eqtb_save.specs.Holding.{replaced_list}
-use Rattle.eqtb_save.specs.Table.{Table, IsSound, noted}
+use Rattle.eqtb_save.specs.Table.{Table, IsSound, mirrored}
 use Rattle.eqtb_save.proofs.Codes.{noted_set}
 use Rattle.eqtb_save.proofs.Held.{K}
 use Rattle.eqtb_save.proofs.Kept.{mk}
@@ -55,9 +55,9 @@ some_if : {X : Type 0} (b : Bool) (x y : X) → Some y ≡ cond b (Some x) None 
 some_if true x y e = (refl, same_Some y x e)
 some_if false x y e = absurd (none-some y (sym e))
 
-none_if : {X : Type 0} (b : Bool) (x : X) → None ≡ cond b (Some x) None → b ≡ false
-none_if true x e = absurd (none-some x e)
-none_if false x e = refl
+absent_if : {X : Type 0} (b : Bool) (x : X) → None ≡ cond b (Some x) None → b ≡ false
+absent_if true x e = absurd (none-some x e)
+absent_if false x e = refl
 
 module _ (s : Stack K) (g : Groups) (view : groups_of (mapped numbered_value s) ≡ g) (whole : IsWhole (mapped numbered_value s)) (l : Loc) (within : IsLocation g l) (k : ℕ) (k_is : k ≡ index l) (v : K) where
   pub old_is : (y : K) → y ≡ old_value s k v → numbered_value y ≡ get g.now l
@@ -71,7 +71,7 @@ module _ (s : Stack K) (g : Groups) (view : groups_of (mapped numbered_value s) 
       ap value_list (old_is y found.1) ∙ sym (ap (λ (b : Bool). cond b (value_list (get g.now l)) None) (present_is s g view l k k_is ∙ found.0))
 
   pub nothing_goes : None ≡ replaced s k v → replaced_list g l ≡ None
-  nothing_goes is = ap (λ (b : Bool). cond b (value_list (get g.now l)) None) (present_is s g view l k k_is ∙ none_if (is_present s k) (old_value s k v) is)
+  nothing_goes is = ap (λ (b : Bool). cond b (value_list (get g.now l)) None) (present_is s g view l k k_is ∙ absent_if (is_present s k) (old_value s k v) is)
 
 -- THE GROUPS
 
@@ -83,12 +83,12 @@ top_put_all : (ms : List (List V)) (k : ℕ) (v : V) → top (put_all ms k v) �
 top_put_all [] k v = refl
 top_put_all (m ∷ ms) k v = refl
 
-noted_at : (cs : List ℕ) (m m' : List V) (k : ℕ) (v : V) → cs ≡ categories_in m → m' ≡ set m k v → noted cs m' k ≡ categories_in m'
-noted_at cs m m' k v is set_is = subst (λ (x : List V). noted cs x k ≡ categories_in x) (sym set_is) (noted_set cs m k v is)
+noted_at : (cs : List ℕ) (m m' : List V) (k : ℕ) (v : V) → cs ≡ categories_in m → m' ≡ set m k v → mirrored cs m' k ≡ categories_in m'
+noted_at cs m m' k v is set_is = subst (λ (x : List V). mirrored cs x k ≡ categories_in x) (sym set_is) (noted_set cs m k v is)
 
--- where what was noted is that of a map in which the location was set
+-- where what was mirrored is that of a map in which the location was set
 sound_with : (cs cs' : List ℕ) (s s' : Stack V) (closing : List Token) (room given : ℕ) (ending : Option GroupKind) (sizes : Sizes) (k : ℕ) (v : V) → IsSound cs s closing room given ending sizes →
-    IsWhole s' → top s'.maps ≡ set (top s.maps) k v → cs' ≡ noted cs (top s'.maps) k → s'.size ≡ s.size → s'.most ≡ s.most → s'.kinds ≡ s.kinds → IsSound cs' s' closing room given ending sizes
+    IsWhole s' → top s'.maps ≡ set (top s.maps) k v → cs' ≡ mirrored cs (top s'.maps) k → s'.size ≡ s.size → s'.most ≡ s.most → s'.kinds ≡ s.kinds → IsSound cs' s' closing room given ending sizes
 sound_with cs cs' s s' closing room given ending sizes k v is whole set_is codes sized most kinds = record {
   whole = whole;
   codes = codes ∙ noted_at cs (top s.maps) (top s'.maps) k v is.codes set_is;
@@ -117,7 +117,7 @@ module _ (s s' : Stack K) (g : Groups) (view : groups_of (mapped numbered_value 
     defined_groups =
         ap groups_of defined_view ∙ joins.sets old whole l (numbered_value v) at_row (placed old g view whole l within) ∙ ap (λ (x : Groups). set_local x l (numbered_value v)) view
 
-    pub defined_sound : (cs cs' : List ℕ) (closing : List Token) (room given : ℕ) (ending : Option GroupKind) (sizes : Sizes) → IsSound cs old closing room given ending sizes → Suits l (numbered_value v) → cs' ≡ noted cs (top (mapped numbered_value s').maps) k → IsSound cs' (mapped numbered_value s') closing room given ending sizes
+    pub defined_sound : (cs cs' : List ℕ) (closing : List Token) (room given : ℕ) (ending : Option GroupKind) (sizes : Sizes) → IsSound cs old closing room given ending sizes → Suits l (numbered_value v) → cs' ≡ mirrored cs (top (mapped numbered_value s').maps) k → IsSound cs' (mapped numbered_value s') closing room given ending sizes
     defined_sound cs cs' closing room given ending sizes is suits codes =
         sound_with cs cs' old (mapped numbered_value s') closing room given ending sizes k (numbered_value v) is (defined_whole suits)
         (ap (λ (x : Stack V). top x.maps) defined_view ∙ top_put old.maps (index l) (numbered_value v) ∙ ap (λ (j : ℕ). set (top old.maps) j (numbered_value v)) (sym k_is)) codes
@@ -133,7 +133,7 @@ module _ (s s' : Stack K) (g : Groups) (view : groups_of (mapped numbered_value 
     pub gdefined_groups : groups_of (mapped numbered_value s') ≡ set_global g l (numbered_value v)
     gdefined_groups = ap groups_of gdefined_view ∙ joins.sets_all old l (numbered_value v) at_row ∙ ap (λ (x : Groups). set_global x l (numbered_value v)) view
 
-    pub gdefined_sound : (cs cs' : List ℕ) (closing : List Token) (room given : ℕ) (ending : Option GroupKind) (sizes : Sizes) → IsSound cs old closing room given ending sizes → Suits l (numbered_value v) → cs' ≡ noted cs (top (mapped numbered_value s').maps) k → IsSound cs' (mapped numbered_value s') closing room given ending sizes
+    pub gdefined_sound : (cs cs' : List ℕ) (closing : List Token) (room given : ℕ) (ending : Option GroupKind) (sizes : Sizes) → IsSound cs old closing room given ending sizes → Suits l (numbered_value v) → cs' ≡ mirrored cs (top (mapped numbered_value s').maps) k → IsSound cs' (mapped numbered_value s') closing room given ending sizes
     gdefined_sound cs cs' closing room given ending sizes is suits codes =
         sound_with cs cs' old (mapped numbered_value s') closing room given ending sizes k (numbered_value v) is (gdefined_whole suits)
         (ap (λ (x : Stack V). top x.maps) gdefined_view ∙ top_put_all old.maps (index l) (numbered_value v) ∙ ap (λ (j : ℕ). set (top old.maps) j (numbered_value v)) (sym k_is)) codes

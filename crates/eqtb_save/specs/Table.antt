@@ -10,7 +10,7 @@ use Rattle.save_stack.specs.Groups.{Stack, top}
 use Rattle.plain_tokens.specs.Meanings.{fixed_locations, location}
 use Rattle.equivalents.specs.declared.values.Loc.{Loc}
 use Rattle.equivalents.specs.Locations.{V, locations_without_names, zero_value, category_of}
-use Rattle.equivalents.specs.Groups.{Groups, depth, set_local, set_global, opened, with_token, closed, entered, tokens_after, kind_of, first_groups}
+use Rattle.equivalents.specs.Groups.{Groups, depth, set_local, set_global, opened, with_token, closed, entered, tokens_after, current_group, first_groups}
 use Rattle.equivalents.specs.Laws.{IsWhole}
 use Rattle.meanings.specs.Kept.{IsPlaced}
 use Rattle.eqtb_save.specs.Values.{categories_in}
@@ -62,7 +62,7 @@ begun_by (Some kind) t = record t { groups = closed t.groups; closing = tokens_a
 
 -- where none is being closed, one begins
 abbrev pub closing_from : Option GroupKind → Table → Table
-closing_from None t = begun_by (kind_of t.groups) t
+closing_from None t = begun_by (current_group t.groups) t
 closing_from (Some kind) t = t
 
 -- the next of its tokens, or its end
@@ -76,8 +76,8 @@ Closes r t u = GivesNext r (closing_from t.ending t) u
 -- HOW IT IS KEPT
 
 -- the category codes once a location was assigned
-abbrev pub noted : List ℕ → List V → ℕ → List ℕ
-noted categories m at = if nat_lt at 256 then slice_set categories at (category_of (slice_index_or m at zero_value)) else categories
+abbrev pub mirrored : List ℕ → List V → ℕ → List ℕ
+mirrored categories m at = if nat_lt at 256 then slice_set categories at (category_of (slice_index_or m at zero_value)) else categories
 
 pub record IsSound (categories : List ℕ) (s : Stack V) (closing : List Token) (room given : ℕ) (ending : Option GroupKind) (sizes : Sizes) : Type 0 where
   pub whole : IsWhole s

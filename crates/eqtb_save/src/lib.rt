@@ -18,14 +18,14 @@ ghost use Rattle.std.specs.Option.{option_map};
 ghost use Rattle.equivalents.specs.declared.values.Loc.TheVariants as loc;
 ghost use Rattle.equivalents.specs.Tables.{get};
 ghost use Rattle.equivalents.specs.Locations.{Suits, index, locations_without_names, value_seen};
-ghost use Rattle.equivalents.specs.Groups.{saves, kind_of, depth as groups_depth, set_demands, group_demands, token_demands, IsLocation};
+ghost use Rattle.equivalents.specs.Groups.{saves, current_group, depth as groups_depth, set_demands, group_demands, token_demands, IsLocation};
 ghost use Rattle.equivalents.specs.Holding.{list_of, value_list, lists_held, lists_outside};
 ghost use Rattle.equivalents.specs.Laws.{AreAlike};
 ghost use Rattle.meanings.specs.Kept.{numbered_meaning};
 ghost use Rattle.meanings.specs.Holding.{meaning_holds, with_holder, without_holder, Lasts};
 ghost use Rattle.eqtb_save.specs.Values.{numbered_value, categories_in};
 ghost use Rattle.eqtb_save.specs.Holding.{val_holds, held, replaced_list, entry_holds, most_holders, MarksLast};
-ghost use Rattle.eqtb_save.specs.Table.{Table, first_table, begun_by, GivesNext, set_at, set_all, group_opened, name_entered, token_kept, IsAssignable, HasRoom, CanClose, Closes, noted};
+ghost use Rattle.eqtb_save.specs.Table.{Table, first_table, begun_by, GivesNext, set_at, set_all, group_opened, name_entered, token_kept, IsAssignable, HasRoom, CanClose, Closes, mirrored};
 
 mod first;
 pub mod laws;
@@ -84,7 +84,7 @@ pub fn name_loc(name: Name) -> Option<Loc>
 // Where a location has a category code, that of its value.
 fn note(categories: &mut [u8; 256], groups: &Groups<Value>, at: u32)
     requires { at < length groups.now.levels }
-    ensures { categories.new ≡ noted categories.old (top (mapped numbered_value groups.now).maps) at }
+    ensures { categories.new ≡ mirrored categories.old (top (mapped numbered_value groups.now).maps) at }
 {
     if at < 256 {
         categories[at as usize] = category_of(groups.get(at));
@@ -221,7 +221,7 @@ impl Eqtb {
 
     /// The kind of the innermost open group, if one is open.
     pub fn kind(&self) -> Option<GroupKind>
-        ensures { result ≡ kind_of self.now.groups }
+        ensures { result ≡ current_group self.now.groups }
     {
         self.groups.kind()
     }
@@ -514,7 +514,7 @@ impl Eqtb {
     pub fn close_group(&mut self, lists: &mut Lists)
         requires open { 0 < groups_depth self.old.groups }
         requires covered { Covers lists.old (held self.old) }
-        ensures after { self.new ≡ begun_by (kind_of self.old.groups) self.old }
+        ensures after { self.new ≡ begun_by (current_group self.old.groups) self.old }
         ensures began { self.new.ending ≡ None → ⊥ }
         ensures account { Moves lists.old lists.new (held self.old) (held self.new) }
         ensures kept { Keeps lists.old lists.new (held self.old) }

@@ -122,8 +122,9 @@ closed g = record {
 abbrev pub tokens_after : Groups → List Token
 tokens_after g = top g.tokens
 
-abbrev pub kind_of : Groups → Option GroupKind
-kind_of g = kind_last g.kinds
+-- the kind of the innermost open group (`cur_group` of *TeX: The Program*)
+abbrev pub current_group : Groups → Option GroupKind
+current_group g = kind_last g.kinds
 
 -- NAMES
 

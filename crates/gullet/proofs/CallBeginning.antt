@@ -8,14 +8,14 @@ use Rattle.tex_defs.specs.declared.Name.{Name}
 use Rattle.tex_defs.specs.declared.Sizes.{Sizes}
 use Rattle.tex_defs.specs.declared.Token.{Token}
 use Rattle.tex_defs.specs.Places.{World}
-use Rattle.plain_tokens.specs.Arguments.{ParMode, arguments_in, work_in, call, start_of, delimiters_of, is_nil, is_some_place, begins_with_place, has_parameters, gathering}
+use Rattle.plain_tokens.specs.Arguments.{ParMode, arguments_in, work_in, call, start_of, delimiters_of, is_nil, is_some_place, begins_with_place, has_parameters, mode_of}
 use Rattle.plain_tokens.specs.Meanings.{is_listed, name_meaning}
 use Rattle.equivalents.specs.Holding.{lists_held}
 use Rattle.plain_tokens.specs.Names.{name_of}
 use Rattle.plain_tokens.specs.Pending.{end_token_lists, all_puts}
 use Rattle.plain_tokens.specs.Puts.{Item, Put, call_put}
 use Rattle.plain_readings.specs.Readings as reading
-use Rattle.plain_readings.specs.Calls.{call_fed, mode_of as reading_mode}
+use Rattle.plain_readings.specs.Calls.{call_fed}
 use Rattle.plain_readings.specs.Readings.{Reading}
 use Rattle.plain_machine.specs.States.{Begun, made}
 use Rattle.plain_tokens.specs.Tables.{lists_words, memory, refused, is_put}
@@ -25,7 +25,6 @@ use Rattle.plain_machine.specs.Numbers.{IsHeld, meaning_of, put_of as numbered}
 use Rattle.plain_machine.specs.Plan.{Page, body_put, called, called_by, called_meaning}
 use Rattle.plain_machine.proofs.Doing.{did_one}
 use Rattle.plain_machine.proofs.Renumbering.{name_meaning_of}
-use Rattle.macro_call.specs.Modes.{mode_of}
 use Rattle.macro_call.specs.PlainScans.{Scan, first_by, first_scan, scan_work}
 use Rattle.macro_call.proofs.PlainScans.{scans_gather}
 use Rattle.input_state.specs.declared.answer.CallKind.{CallKind}
@@ -120,10 +119,6 @@ called_none e book t name is_name is = called_is e book t name is_name ∙ none_
 
 -- A SCANNER THAT BEGINS
 
-mode_same : (long : Bool) → reading_mode long ≡ mode_of long
-mode_same true = refl
-mode_same false = refl
-
 first_args : (begins : Bool) (mode : ParMode) → (first_by begins mode).args ≡ []
 first_args true mode = refl
 first_args false mode = refl
@@ -141,9 +136,9 @@ answer_work mode other (d ∷ ds) places = refl
 -- nothing has been gathered yet
 first_gathers : (long : Bool) (text : List Token) → Gathers long text (first_scan text (mode_of long)) []
 first_gathers long text = record {
-  args = answer_args (reading_mode long) (start_of text) _ ∙ sym (first_args (begins_with_place text) (mode_of long));
-  work = answer_work (reading_mode long) (mode_of long) (start_of text) (delimiters_of text);
-  goes_on = λ more. ap (λ (m : ParMode). gathering text m (call_fed more)) (mode_same long) ∙ sym (scans_gather.first text (mode_of long) (call_fed more));
+  args = answer_args (mode_of long) (start_of text) _ ∙ sym (first_args (begins_with_place text) (mode_of long));
+  work = answer_work (mode_of long) (mode_of long) (start_of text) (delimiters_of text);
+  goes_on = λ more. sym (scans_gather.first text (mode_of long) (call_fed more));
 }
 
 first_has : (begins : Bool) (mode : ParMode) → HasWork (first_by begins mode)

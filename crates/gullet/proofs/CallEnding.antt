@@ -26,7 +26,7 @@ use Rattle.engine_state.specs.Stands.{IsSized, SameFrames, SameOthers, SameStore
 use Rattle.engine_state.specs.Rules.{world_of, plan_of, Went, Halts, Reports}
 use Rattle.engine_state.proofs.CallKept.{all_still}
 use Rattle.engine_state.proofs.Joining.{quiet_wrote, went_by, halts_least}
-use Rattle.engine_state.proofs.Standing.{column_all}
+use Rattle.engine_state.proofs.AtLocations.{column_all}
 use Rattle.engine_state.proofs.Reporting.{input_sound, others_sound}
 use Rattle.engine_state.proofs.Storing.{sound_still, store_call, store_is}
 

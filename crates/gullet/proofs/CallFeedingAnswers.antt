@@ -12,14 +12,14 @@ use Rattle.plain_readings.specs.Calls.{gathered, call_fed, call_ask, arguments}
 use Rattle.macro_call.specs.declared.ask.CallAsk.{CallAsk}
 use Rattle.macro_call.specs.declared.ask.CallAsk.TheVariants as ask
 use Rattle.macro_call.specs.PlainScans.{Scan, resume_scan, scan_work}
-use Rattle.input_state.specs.CallFeeds.{Says, Stands, GoesOn, Ends, Comes}
+use Rattle.input_state.specs.CallFeeds.{Says, IsAnswer, GoesOn, Ends, Comes}
 use Rattle.input_state.specs.Callings as calls
 use Rattle.input_state.specs.Callings.{Calling, call_lists, last_first, asks_where, scan_asks, ended_asks, asks_as, call_in}
 use Rattle.input_state.specs.declared.answer.CallEnd.{CallEnd}
 use Rattle.input_state.specs.declared.answer.CallEnd.TheVariants as end
 use Rattle.engine_state.specs.Calls.{Gathers, HasWork, IsTaking, CallAt, asks_by}
 use Rattle.gullet.proofs.CallLists.{lists_by}
-use Rattle.gullet.proofs.CallFeedingTurns.{Turn, Waits, Enters, Grown, Last, Next, turn}
+use Rattle.gullet.proofs.CallFeedingCases.{FedCase, Waits, Enters, Grown, Last, Next, turn}
 
 -- THE SCANNER THAT TAKES TOKENS
 
@@ -70,7 +70,7 @@ pub in_front : (long : Bool) (text : List Token) (scan : Scan) (fed : List Fed) 
 in_front long text scan fed g = ap (gathered long text) (sym (append-nil fed)) ∙ g.goes_on []
 
 -- what it comes to
-pub scan_turn : (long : Bool) (text : List Token) (scan : Scan) (fed : List Fed) (x : Seen) → HasWork scan → Gathers long text scan fed → Turn scan.args (scan_work scan) (resume_scan text scan (call.Tok x.token ∷ []))
+pub scan_turn : (long : Bool) (text : List Token) (scan : Scan) (fed : List Fed) (x : Seen) → HasWork scan → Gathers long text scan fed → FedCase scan.args (scan_work scan) (resume_scan text scan (call.Tok x.token ∷ []))
 scan_turn long text scan fed x has g = turn text scan x.token has (sym (ap work_in (in_front long text scan fed g)) ∙ g.work)
 
 module _ (name : Name) (long : Bool) (text : List Token) (scan : Scan) (fed : List Fed) (x : Seen) (has : HasWork scan) (g : Gathers long text scan fed) where
@@ -82,7 +82,7 @@ module _ (name : Name) (long : Bool) (text : List Token) (scan : Scan) (fed : Li
   after = g.goes_on (Tok x ∷ [])
 
   -- the lists that it holds then
-  stood_lists : (answer : CallAsk) (next : Scan) → Stands text x.token answer scan next → option_to_list (scan_work next) ++ last_first next.args [] ≡ lists_by a
+  stood_lists : (answer : CallAsk) (next : Scan) → IsAnswer text x.token answer scan next → option_to_list (scan_work next) ++ last_first next.args [] ≡ lists_by a
   stood_lists answer next s =
       ap (λ (o : Option (List Token)). option_to_list o ++ last_first next.args []) s.work
       ∙ ap (λ (args : List (List Token)). option_to_list (work_in a) ++ last_first args []) s.args
@@ -94,7 +94,7 @@ module _ (name : Name) (long : Bool) (text : List Token) (scan : Scan) (fed : Li
   lists_after (calls.Gathered n args) h = sym (ap lists_by h.1)
 
   -- it has no argument where it has no list in work
-  has_after : (answer : CallAsk) (next : Scan) → Stands text x.token answer scan next → HasWork next
+  has_after : (answer : CallAsk) (next : Scan) → IsAnswer text x.token answer scan next → HasWork next
   has_after answer next s none = by_turn (scan_turn long text scan fed x has g) where
     left : next.args ≡ arguments_in a
     left = s.args
@@ -102,7 +102,7 @@ module _ (name : Name) (long : Bool) (text : List Token) (scan : Scan) (fed : Li
     now : work_in a ≡ None
     now = sym s.work ∙ none
 
-    by_turn : Turn scan.args (scan_work scan) a → next.args ≡ []
+    by_turn : FedCase scan.args (scan_work scan) a → next.args ≡ []
     by_turn (Waits w bare work args) = left ∙ args
     by_turn (Enters w bare work args) = left ∙ args
     by_turn (Grown was more w work args) = cc (work, now)

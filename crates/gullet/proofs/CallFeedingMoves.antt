@@ -24,7 +24,7 @@ use Rattle.plain_machine.proofs.Doing.{did_none, did_join, did_one}
 use Rattle.macro_call.specs.Growths.{target_by}
 use Rattle.input_state.specs.Callings.{last_first}
 use Rattle.gullet.proofs.CallLists.{lists_of}
-use Rattle.gullet.proofs.CallFeedingTurns.{Turn, Waits, Enters, Grown, Last, Next}
+use Rattle.gullet.proofs.CallFeedingCases.{FedCase, Waits, Enters, Grown, Last, Next}
 use Rattle.engine_state.proofs.Joining.{quiet_here}
 
 -- an argument more comes first
@@ -126,7 +126,7 @@ module _ (sizes : Sizes) (s : State) (w : World) where
         (did_join sizes _ _ _ w w w (grown_to was arg ++ (Feeds (Tok x) ∷ Completed arg ∷ [])) (Opened ∷ []) (whole_did arg was (last_first args []) builds (λ some. room))
         (opened_did ((list_of_tokens arg ++ last_first args []) ++ builds) after)))
 
-    pub turn_leads : (args : List (List Token)) (work : Option (List Token)) (a : Answer) (builds : List (List Token)) → Turn args work a → Leads args work (arguments_in a) (work_in a) builds
+    pub turn_leads : (args : List (List Token)) (work : Option (List Token)) (a : Answer) (builds : List (List Token)) → FedCase args work a → Leads args work (arguments_in a) (work_in a) builds
     turn_leads args work a builds (Waits none bare next now) = rw (none, bare, next, now) (waits_lead builds)
     turn_leads args work a builds (Enters none bare next now) = rw (none, bare, next, now) (enters_lead builds)
     turn_leads args work a builds (Grown was more is next now) = rw (is, next, now) (grown_lead args was more builds)

@@ -11,7 +11,7 @@ use Rattle.input_state.specs.Reads.{gives_step}
 use Rattle.input_state.specs.Stored.{Stored}
 use Rattle.engine_state.specs.declared.broken.Broken.{Broken}
 use Rattle.input_state.specs.declared.answer.Call.{Call}
-use Rattle.macro_call.specs.PlainScans.{settled_scan}
+use Rattle.macro_call.specs.PlainScans.{noted_scan}
 use Rattle.input_state.specs.CallFeeds.{with_scan}
 use Rattle.input_state.specs.Callings.{Calling, NotCalling, call_in}
 use Rattle.macro_call.specs.declared.ask.CallAsk.{CallAsk}
@@ -20,7 +20,7 @@ use Rattle.engine_state.specs.declared.engine.Engine.{Engine}
 use Rattle.engine_state.specs.declared.outcome.Ruled.{Ruled}
 use Rattle.engine_state.specs.declared.outcome.Ruled.TheVariants.{Step, Free, Halted}
 use Rattle.engine_state.specs.Calls.{brace_call, open_call}
-use Rattle.gullet.proofs.CallsIn.{settled_asks}
+use Rattle.gullet.proofs.CallsIn.{noted_asks}
 use Rattle.engine_state.specs.Stands.{SameFrames}
 use Rattle.engine_state.specs.Steps.{stepping, asked, all_want, call_asks_more, pending_weight, readings_weight, call_weight, weight, IsStep, StepsIf}
 
@@ -84,12 +84,12 @@ closed_lighter e e1 e2 i c same before left gone after is none =
     omega (arith, light, now, same_weight e e1 same before)
 
 -- it goes on behind its extra brace
-pub brace_lighter : (e e1 e2 : Engine) (name : Name) → SameFrames e e1 → pending_weight e1.input.pending ≡ pending_weight e.input.pending → e2 ≡ record e1 { input = record e1.input { call = with_scan settled_scan e1.input.call } } → call_in e.input.call ≡ Some (brace_call name) → weight e2 < weight e
+pub brace_lighter : (e e1 e2 : Engine) (name : Name) → SameFrames e e1 → pending_weight e1.input.pending ≡ pending_weight e.input.pending → e2 ≡ record e1 { input = record e1.input { call = with_scan noted_scan e1.input.call } } → call_in e.input.call ≡ Some (brace_call name) → weight e2 < weight e
 brace_lighter e e1 e2 name same before after is =
     let was : call_in e1.input.call ≡ Some (brace_call name) = ap call_in same.call ∙ is in
-    let i : Stored = record e1.input { call = with_scan settled_scan e1.input.call } in
+    let i : Stored = record e1.input { call = with_scan noted_scan e1.input.call } in
     let now : weight e2 ≡ weight (record e1 { input = i }) = ap weight after in
-    let has : readings_weight (call_in i.call) (record e1 { input = i }) ≡ readings_weight (Some (open_call name)) e1 = ap (λ (c : Option Call). readings_weight c (record e1 { input = i })) (settled_asks name e1.input.call was) in
+    let has : readings_weight (call_in i.call) (record e1 { input = i }) ≡ readings_weight (Some (open_call name)) e1 = ap (λ (c : Option Call). readings_weight c (record e1 { input = i })) (noted_asks name e1.input.call was) in
     let had : readings_weight (call_in e1.input.call) e1 ≡ readings_weight (Some (brace_call name)) e1 = ap (λ (c : Option Call). readings_weight c e1) was in
     omega (arith, now, has, had, same_weight e e1 same before)
 

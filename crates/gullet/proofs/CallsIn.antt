@@ -11,7 +11,7 @@ use Rattle.input_state.specs.declared.answer.CallEnd.{CallEnd}
 use Rattle.input_state.specs.declared.answer.CallEnd.TheVariants as end
 use Rattle.input_state.specs.CallFeeds.{IsTaking, with_scan}
 use Rattle.input_state.specs.Callings.{Calling, NotCalling, Gathering, Stopped, Gathered, IsComplete, asks_where, asks_as, scan_asks, ended_asks, call_in}
-use Rattle.macro_call.specs.PlainScans.{first_by, first_scan, settled_scan}
+use Rattle.macro_call.specs.PlainScans.{first_by, first_scan, noted_scan}
 use Rattle.engine_state.specs.Calls.{brace_call, open_call}
 
 -- one that begins asks for a token
@@ -49,8 +49,8 @@ braced_at (Stopped n why scan) name is = ended_so why (ap (λ (c : Call). c.ask)
 braced_at (Gathered n args) name is = let no : ask.Gathered ≡ ask.ExtraBrace = ap (λ (c : Call). c.ask) (same_Some (record { name = n; ask = ask.Gathered }) (brace_call name) is) in cc
 
 -- and asks for one once the brace is settled
-pub settled_asks : (name : Name) (k : Calling) → call_in k ≡ Some (brace_call name) → call_in (with_scan settled_scan k) ≡ Some (open_call name)
-settled_asks name NotCalling is = absurd cc
-settled_asks name (Gathering n scan) is = ap (λ (c : Call). Some (open_call c.name)) (same_Some (record { name = n; ask = scan_asks scan }) (brace_call name) is)
-settled_asks name (Stopped n why scan) is = absurd (braced_at (Stopped n why scan) name is)
-settled_asks name (Gathered n args) is = absurd (let no : ask.Gathered ≡ ask.ExtraBrace = ap (λ (c : Call). c.ask) (same_Some (record { name = n; ask = ask.Gathered }) (brace_call name) is) in cc)
+pub noted_asks : (name : Name) (k : Calling) → call_in k ≡ Some (brace_call name) → call_in (with_scan noted_scan k) ≡ Some (open_call name)
+noted_asks name NotCalling is = absurd cc
+noted_asks name (Gathering n scan) is = ap (λ (c : Call). Some (open_call c.name)) (same_Some (record { name = n; ask = scan_asks scan }) (brace_call name) is)
+noted_asks name (Stopped n why scan) is = absurd (braced_at (Stopped n why scan) name is)
+noted_asks name (Gathered n args) is = absurd (let no : ask.Gathered ≡ ask.ExtraBrace = ap (λ (c : Call). c.ask) (same_Some (record { name = n; ask = ask.Gathered }) (brace_call name) is) in cc)

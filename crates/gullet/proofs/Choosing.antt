@@ -19,7 +19,7 @@ use Rattle.conditionals.specs.Limits as limits
 use Rattle.conditionals.specs.Open.{limit_of}
 use Rattle.conditionals.specs.Skipping.{part, ender_number}
 use Rattle.rows.specs.declared.command.Call.{Call}
-use Rattle.rows.specs.declared.words.Kind.TheVariants.{Command}
+use Rattle.rows.specs.declared.words.Phrase.TheVariants.{Command}
 use Rattle.plain_readings.specs.Readings.{Kind, Reads, Skips, opened}
 use Rattle.plain_machine.specs.Demands.{refusal}
 use Rattle.plain_machine.specs.Does.{Did}

@@ -15,7 +15,7 @@ use Rattle.engine_state.specs.Calls.{open_call}
 use Rattle.engine_state.specs.Stands.{SameFrames}
 use Rattle.engine_state.specs.Steps.{pending_weight, readings_weight, weight}
 use Rattle.gullet.proofs.CallWeighing.{same_weight}
-use Rattle.engine_state.proofs.Standing.{same_engine}
+use Rattle.engine_state.proofs.AtLocations.{same_engine}
 
 module _ (e : Engine) (none : e.input.call ≡ NotCalling) (light : innermost_weight e.readings.frames ≤ act_weight) where
   abbrev most : ℕ

@@ -25,7 +25,7 @@ use Rattle.engine_state.proofs.CallKept.{all_still}
 use Rattle.engine_state.proofs.Cutting.{full_cuts}
 use Rattle.engine_state.proofs.Joining.{quiet_here}
 use Rattle.engine_state.proofs.CuttingReadings.{stands_in, later_in}
-use Rattle.engine_state.proofs.Standing.{same_engine}
+use Rattle.engine_state.proofs.AtLocations.{same_engine}
 use Rattle.gullet.proofs.Stepping.{free_of}
 use Rattle.engine_state.proofs.Storing.{sound_still}
 

@@ -6,7 +6,7 @@ pub mod CallFeeding
 pub mod CallFeedingAnswers
 pub mod CallFeedingCuts
 pub mod CallFeedingMoves
-pub mod CallFeedingTurns
+pub mod CallFeedingCases
 pub mod CallLists
 pub mod CallPutting
 pub mod CallRules

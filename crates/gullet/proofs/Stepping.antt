@@ -18,7 +18,7 @@ use Rattle.plain_readings.specs.Scanning.{Scanning, scanning}
 use Rattle.reading_frames.specs.declared.frame.Frame.{Frame}
 use Rattle.reading_frames.specs.Views.{Lists}
 use Rattle.reading_frames.specs.Stack.{asks_in, asked_in}
-use Rattle.reading_frames.specs.Stands as frames
+use Rattle.reading_frames.specs.Frames as frames
 use Rattle.plain_machine.specs.States.{State, Move, Handed, Taken}
 use Rattle.plain_machine.specs.Plan.{Page, page_of, plan, ruled, answered, input_begun, handed, met, entered, enters_names, checked, at_line, reported, stomach, wanted, feeding}
 use Rattle.plain_machine.specs.Numbers.{pending_of, pulled_of}
@@ -79,7 +79,7 @@ pub handed_now : (e : Engine) (book : Book) (page : Page) (enters : Bool) (o : O
 handed_now e book page enters o onward h = handed_steps page enters o onward (pulled e.input.groups.now.categories (pending_of book.number e.input.pending)) h ∙ ap one_if (gives_same book.number e.input.groups.now.categories e.input.pending)
 
 -- what the frames ask for is what the machine's innermost reading does
-pub asked_same : (fs : List Frame) (held : Lists) (work : List Reading) → frames.FramesStand fs held work → asked_in work ≡ asks_in fs held
+pub asked_same : (fs : List Frame) (held : Lists) (work : List Reading) → frames.AreFramesOf fs held work → asked_in work ≡ asks_in fs held
 asked_same [] held [] h = refl
 asked_same [] held (r ∷ rs) h = absurd h
 asked_same (f ∷ fs) held [] h = absurd h

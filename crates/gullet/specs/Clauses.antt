@@ -37,7 +37,7 @@ FeedsCall Does e e' moves a = (sizes : Sizes) (w : World) (book : Book) (r : Rea
     call_in e.input.call ≡ Some (open_call name) → AllStand sizes e (with_work (r ∷ rs) book) →
     Does sizes (state_of e (with_work (r ∷ rs) book)) e' w w (moves r) a
 
--- Where a call gathers its arguments, the rule makes these moves, with this written, and ends so.
+-- Where the innermost reading is a call's arguments, the rule makes these moves, with this written, and ends so.
 abbrev pub DoesRuleAtCall : (e e' : Engine) → (before after : SinkTold) → (Page → List Move) → Ruled → Type 0
 DoesRuleAtCall e e' before after moves ruled = (sizes : Sizes) (f : FilesTold) (book : Book) (r : Reading) (rs : List Reading) (call : Call) →
     call_in e.input.call ≡ Some call → AllStand sizes e (with_work (r ∷ rs) book) →

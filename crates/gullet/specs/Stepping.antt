@@ -12,10 +12,10 @@ use Rattle.tex_defs.specs.declared.Token.{Token}
 use Rattle.plain_tokens.specs.Categories.{is_between}
 use Rattle.conditionals.specs.Open.{constant_test}
 use Rattle.conditionals.specs.Skipping.{first_conditional, or_primitive}
-use Rattle.rows.specs.declared.words.Kind.TheVariants.{Command}
+use Rattle.rows.specs.declared.words.Phrase.TheVariants.{Command}
 use Rattle.rows.specs.declared.command.Call.{Call}
 use Rattle.plain_readings.specs.Readings.{Kind, Reads}
-use Rattle.reading_frames.specs.Views.{kind_of}
+use Rattle.reading_frames.specs.Views.{reading_kind}
 use Rattle.reading_frames.specs.Weights.{begun_weight}
 use Rattle.plain_machine.specs.States.{State, Move, Begun, Closed, FileEnds}
 use Rattle.plain_machine.specs.Plan.{Page, reported, called, input_met, is_expandable_primitive, job_in, put_characters, conditional_met, conditional_begun, ender_met}
@@ -66,8 +66,8 @@ abbrev pub ExpandsTo : Expansion → Page → (others moves : List Move) → Typ
 ExpandsTo by.Undefined page others moves = moves ≡ reported page UndefinedName []
 ExpandsTo by.Unexpandable page others moves = moves ≡ others
 ExpandsTo (by.Call t) page others moves = moves ≡ called page t
-ExpandsTo (by.Begin o) page others moves = moves ≡ Begun (kind_of o) ∷ []
-ExpandsTo (by.JobName o) page others moves = moves ≡ job_moves page (kind_of o)
+ExpandsTo (by.Begin o) page others moves = moves ≡ Begun (reading_kind o) ∷ []
+ExpandsTo (by.JobName o) page others moves = moves ≡ job_moves page (reading_kind o)
 ExpandsTo (by.Input t c) page others moves = moves ≡ input_met page t c
 ExpandsTo by.EndInput page others moves = moves ≡ FileEnds ∷ []
 ExpandsTo (by.Conditional c n) page others moves = moves ≡ conditional_begun page c n (constant_test n)

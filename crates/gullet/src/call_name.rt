@@ -7,7 +7,7 @@ ghost use Rattle.plain_readings.specs.Weights.{act_weight};
 ghost use Rattle.reading_frames.specs.Weights.{frames_weight, innermost_weight};
 ghost use Rattle.plain_machine.specs.States.{Begun};
 ghost use Rattle.plain_machine.specs.Plan.{called};
-ghost use Rattle.macro_call.specs.Modes.{mode_of};
+ghost use Rattle.plain_tokens.specs.Arguments.{mode_of};
 ghost use Rattle.macro_call.specs.PlainScans.{first_scan};
 ghost use Rattle.input_state.specs.declared.answer.CallKind.TheVariants.{Gathers};
 ghost use Rattle.input_state.specs.Callings.{NotCalling};

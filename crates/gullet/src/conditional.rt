@@ -14,7 +14,7 @@ use crate::relax::put_behind_relax;
 use conditionals::{Aim, Ender, Met, Value, aim_of, constant_test, ender_number, on_fi_or_else};
 use engine_state::{Broken, Engine, Ruled};
 use reading_frames::Opening;
-use rows::{Call, Kind};
+use rows::{Call, Phrase};
 use tex_defs::Token;
 use tex_syntax::Report;
 use world_io::Sink;
@@ -70,7 +70,7 @@ pub(crate) fn begin_conditional(engine: &mut Engine, call: Call, number: u16) ->
     ensures column { engine.new.in_line ≡ engine.old.in_line }
     ensures idle { engine.new.input.making ≡ engine.old.input.making }
 {
-    engine.begin(Opening::Reads(Kind::Command(call)))?;
+    engine.begin(Opening::Reads(Phrase::Command(call)))?;
     engine.begin_conditional(number)?;
     match constant_test(number) {
         Some(truth) => {

@@ -3,7 +3,7 @@
 ghost use Rattle.std.specs.Prelude.{◌≡◌, ◌<◌, ◌≤◌, ◌+◌, IfOk, IfErr, OnOk, MatchResult, List, None, false, true};
 ghost use Rattle.plain_tokens.specs.Pending.{pulled};
 ghost use Rattle.plain_readings.specs.Weights.{act_weight};
-ghost use Rattle.reading_frames.specs.Views.{kind_of};
+ghost use Rattle.reading_frames.specs.Views.{reading_kind};
 ghost use Rattle.reading_frames.specs.Weights.{frames_weight, innermost_weight};
 ghost use Rattle.plain_machine.specs.States.{Move};
 ghost use Rattle.plain_machine.specs.Plan.{Page, call_of as plain_call, expanded, expansion as plain_expansion, input_met, is_expandable_primitive};
@@ -23,7 +23,7 @@ use crate::relax::put_behind_relax;
 use conditionals::{Ender, Part, part_of};
 use engine_state::{Broken, Engine, Made, Next, Ruled, name_of};
 use reading_frames::Opening;
-use rows::{Call, Head, Kind};
+use rows::{Call, Head, Phrase};
 use tex_defs::{Meaning, Seen, Token};
 use tex_syntax::{Outcome, Report, Want};
 use world_io::Sink;
@@ -130,7 +130,7 @@ fn row_expansion(token: Token, call: Call, number: u16) -> Expansion
     match part_of(Meaning::Prim(number)) {
         Part::Conditional => Expansion::Conditional(call, number),
         Part::Ends(ender) => Expansion::Ender(token, call, ender),
-        Part::Plain => Expansion::Begin(Opening::Reads(Kind::Command(call))),
+        Part::Plain => Expansion::Begin(Opening::Reads(Phrase::Command(call))),
     }
 }
 
@@ -143,7 +143,7 @@ fn primitive_expansion(token: Token, number: u16) -> Expansion
     let call = call_of(token, Head::Primitive(number));
     match number {
         CSNAME => Expansion::Begin(Opening::Spelling(call)),
-        JOBNAME => Expansion::JobName(Opening::Reads(Kind::Command(call))),
+        JOBNAME => Expansion::JobName(Opening::Reads(Phrase::Command(call))),
         INPUT => Expansion::Input(token, call),
         ENDINPUT => Expansion::EndInput,
         _ => row_expansion(token, call, number),
@@ -181,8 +181,8 @@ fn expansion_of(seen: Seen) -> Expansion
 /// There is no room for the reading or for the name: the engine stands for the moment before.
 fn put_job(engine: &mut Engine, opening: Opening) -> Result<(), Broken>
     requires idle { engine.old.input.making ≡ None }
-    ensures rule { OnOk result (GoesFree engine.old engine.new (λ page. job_moves page (kind_of opening))) }
-    ensures err { IfErr result (λ b. CutsFree engine.old engine.new (λ page. job_moves page (kind_of opening)) b) }
+    ensures rule { OnOk result (GoesFree engine.old engine.new (λ page. job_moves page (reading_kind opening))) }
+    ensures err { IfErr result (λ b. CutsFree engine.old engine.new (λ page. job_moves page (reading_kind opening)) b) }
     ensures frames { OnOk result (engine.new.readings.frames ≡ engine.old.readings.frames) }
     ensures call { OnOk result (engine.new.input.call ≡ engine.old.input.call) }
     ensures pending { OnOk result (pending_weight engine.new.input.pending ≡ pending_weight engine.old.input.pending) }

@@ -3,10 +3,10 @@ ghost use Rattle.std.specs.Prelude.{◌≡◌, ◌++◌, ◌∷◌, ◌<◌, [],
 ghost use Rattle.tex_syntax.specs.declared.words.Report.TheVariants.{ParagraphEnded, ExtraBrace};
 ghost use Rattle.tex_syntax.specs.declared.words.Want.TheVariants.{Raw};
 ghost use Rattle.plain_readings.specs.Calls.{par_token};
-ghost use Rattle.rows.specs.Readings.{Told};
+ghost use Rattle.rows.specs.Readings.{Noted};
 ghost use Rattle.plain_machine.specs.States.{Feeds};
 ghost use Rattle.plain_machine.specs.Plan.{failed, put_one, reported};
-ghost use Rattle.macro_call.specs.PlainScans.{settled_scan};
+ghost use Rattle.macro_call.specs.PlainScans.{noted_scan};
 ghost use Rattle.input_state.specs.CallFeeds.{IsTaking, with_scan};
 ghost use Rattle.plain_tokens.specs.Pending.{end_token_lists};
 ghost use Rattle.input_state.specs.Callings.{NotCalling, IsComplete, call_in};
@@ -158,8 +158,8 @@ fn run_away_call<S: Sink>(engine: &mut Engine, out: &mut S, name: Name) -> Resul
 fn settle_brace<S: Sink>(engine: &mut Engine, out: &mut S, name: Name) -> Result<Ruled, Broken>
     requires idle { engine.old.input.making ≡ None }
     requires call { call_in engine.old.input.call ≡ Some (brace_call name) }
-    ensures rule { IfOk result (DoesAtReading AllStand DoesRule engine.old engine.new (S.told out.old) (S.told out.new) (λ book. put_one engine.old.last.token ++ (put_one par_token ++ reported (page_of engine.old book) (ExtraBrace name) (Feeds Told ∷ [])))) }
-    ensures err { IfErr result (DoesAtReading AllStand Cuts engine.old engine.new (S.told out.old) (S.told out.new) (λ book. put_one engine.old.last.token ++ (put_one par_token ++ reported (page_of engine.old book) (ExtraBrace name) (Feeds Told ∷ [])))) }
+    ensures rule { IfOk result (DoesAtReading AllStand DoesRule engine.old engine.new (S.told out.old) (S.told out.new) (λ book. put_one engine.old.last.token ++ (put_one par_token ++ reported (page_of engine.old book) (ExtraBrace name) (Feeds Noted ∷ [])))) }
+    ensures err { IfErr result (DoesAtReading AllStand Cuts engine.old engine.new (S.told out.old) (S.told out.new) (λ book. put_one engine.old.last.token ++ (put_one par_token ++ reported (page_of engine.old book) (ExtraBrace name) (Feeds Noted ∷ [])))) }
     ensures step { IfOk result (λ ruled. IsStep ruled → ⊥) }
     ensures light { IfOk result (λ ruled. IsFree ruled → weight engine.new < weight engine.old) }
     ensures frames { OnErr result (SameFrames engine.old engine.new) }
@@ -178,9 +178,9 @@ fn settle_brace<S: Sink>(engine: &mut Engine, out: &mut S, name: Name) -> Result
 /// The call asks for more behind its extra brace.
 fn go_on_behind_brace(engine: &mut Engine)
     requires { IsTaking engine.old.input.call }
-    ensures { engine.new ≡ record engine.old { input = record engine.old.input { call = with_scan settled_scan engine.old.input.call } } }
+    ensures { engine.new ≡ record engine.old { input = record engine.old.input { call = with_scan noted_scan engine.old.input.call } } }
 {
-    engine.input.settle_call();
+    engine.input.note_call();
 }
 
 /// The call ends without its arguments, and its lists go.

@@ -20,7 +20,7 @@ use Rattle.input_stack.specs.Levels.{HandsAtOnce, LevelPulls, level_item, is_lev
 use Rattle.input_stack.specs.Pending.{Pending, with_puts}
 use Rattle.input_stack.specs.Pulls.{Pulls, PullsTop, PullsItem, HandsOn, refused_at, token_in}
 use Rattle.input_stack.specs.View.{innermost, pending, pending_in, held, held_in, level_open}
-use Rattle.input_stack.specs.Standing.{IsSized, Stands, AreRead}
+use Rattle.input_stack.specs.Stacks.{IsSized, IsStack, AreRead}
 use Rattle.input_stack.specs.AtOnce.{PullsAtOnce}
 use Rattle.input_stack.specs.Wholes.{count_in}
 use Rattle.input_stack.proofs.CallPulled.{argument_pulls, body_pulls, closed_items, itself}
@@ -181,7 +181,7 @@ opens_none (Later n t) h is = refl
 opens_none Gap h is = refl
 
 -- the level on top has changed, and what counts as ever
-module _ (table : List (Option Entry)) (s s' : InputStack) (l l' : WholeLevel) (ls : List WholeLevel) (is : innermost s ≡ l ∷ ls) (at : innermost s' ≡ l' ∷ ls) (len : length s'.levels.items ≡ length s.levels.items) (lv : s'.argument_levels ≡ s.argument_levels) (counts : length s'.arguments.items ≡ count_in (reverse s'.levels.items)) (same_count : length s'.arguments.items ≡ length s.arguments.items) (sized : IsSized s s') (stands : Stands table s) where
+module _ (table : List (Option Entry)) (s s' : InputStack) (l l' : WholeLevel) (ls : List WholeLevel) (is : innermost s ≡ l ∷ ls) (at : innermost s' ≡ l' ∷ ls) (len : length s'.levels.items ≡ length s.levels.items) (lv : s'.argument_levels ≡ s.argument_levels) (counts : length s'.arguments.items ≡ count_in (reverse s'.levels.items)) (same_count : length s'.arguments.items ≡ length s.arguments.items) (sized : IsSized s s') (stands : IsStack table s) where
   module _ (t : Token) (h : HandsAtOnce table l l' t) where
     abbrev r : Pulled
     r = pulled_as.Token t
@@ -201,7 +201,7 @@ module _ (table : List (Option Entry)) (s s' : InputStack) (l l' : WholeLevel) (
     once_open : level_open l' ≡ level_open l
     once_open = omega (arith, level_opens table table [] [] [] l l' r gives, ap {B = ℕ} (λ (o : Option Item). cond (is_opening (met o)) 1 0) h.next, ap {B = ℕ} (λ (x : Bool). cond x 1 0) h.closed)
 
-    once_stands : Stands table s'
+    once_stands : IsStack table s'
     once_stands = record {
       read = top_read table table [] [] [] l l' (innermost s) (innermost s') ls r is at gives stands.read;
       fits = fits_changed s s' l l' ls stands.fits is at (omega (arith, stands.fits.within, len, lv)) (omega (arith, lv, once_open)) counts same_count sized;
@@ -213,7 +213,7 @@ module _ (table : List (Option Entry)) (s s' : InputStack) (l l' : WholeLevel) (
   same_levels : l' ≡ l → innermost s' ≡ innermost s
   same_levels same = at ∙ ap (λ (x : WholeLevel). x ∷ ls) same ∙ sym is
 
-  same_stands : l' ≡ l → Stands table s'
+  same_stands : l' ≡ l → IsStack table s'
   same_stands same = record {
     read = subst (AreRead table) (sym (same_levels same)) stands.read;
     fits = fits_changed s s' l l' ls stands.fits is at (omega (arith, stands.fits.within, len, lv)) (omega (arith, lv, ap level_open same)) counts same_count sized;
@@ -227,7 +227,7 @@ module _ (table : List (Option Entry)) (s s' : InputStack) (l l' : WholeLevel) (
   pub none_stays : (o : Option Token) → (o ≡ None → l' ≡ l) → o ≡ None → pending table s' ≡ pending table s
   none_stays o stays none = ap (pending_in table) (same_levels (stays none))
 
-  pub some_stands : (o : Option Token) → IfSome o (λ t. HandsAtOnce table l l' t) → (o ≡ None → l' ≡ l) → Stands table s'
+  pub some_stands : (o : Option Token) → IfSome o (λ t. HandsAtOnce table l l' t) → (o ≡ None → l' ≡ l) → IsStack table s'
   some_stands None h stays = same_stands (stays refl)
   some_stands (Some t) h stays = once_stands t h
 

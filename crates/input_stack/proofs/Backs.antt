@@ -8,7 +8,7 @@ use Rattle.input_stack.specs.Puts.{Put, Item, without_ended, settled_top}
 use Rattle.input_stack.specs.WholeLevel.{WholeLevel}
 use Rattle.input_stack.specs.Pending.{Pending, with_puts, end_token_lists, put, plain_put, room, refusal, used_levels}
 use Rattle.input_stack.specs.View.{pending_in, held_in}
-use Rattle.input_stack.specs.Standing.{AreRead}
+use Rattle.input_stack.specs.Stacks.{AreRead}
 use Rattle.input_stack.proofs.Kept.{Stay, pending_stays, read_stays}
 use Rattle.input_stack.proofs.Pushed.{room_left}
 use Rattle.input_stack.proofs.ListsEnded.{used_settle}

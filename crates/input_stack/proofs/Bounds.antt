@@ -15,7 +15,7 @@ use Rattle.input_stack.specs.Rest.{number}
 use Rattle.input_stack.specs.CallViews.{open_number, open_holds}
 use Rattle.input_stack.specs.Pending.{levels, arguments}
 use Rattle.input_stack.specs.View.{pending, innermost, held, held_in, level_holds, level_open, open_in, level_arguments, arguments_of}
-use Rattle.input_stack.specs.Standing.{Fits, Stands}
+use Rattle.input_stack.specs.Stacks.{Fits, IsStack}
 use Rattle.input_stack.proofs.Kept.{held_cons}
 use Rattle.input_stack.proofs.Wholes.{levels_count, arguments_count}
 use Rattle.input_stack.proofs.ListsEnded.{open_cons, arguments_cons, levels_are, arguments_are}
@@ -49,7 +49,7 @@ held_once : (ls : List WholeLevel) (h : ℕ) → held_in ls h ≤ length ls + (o
 held_once [] h = omega arith
 held_once (l ∷ ls) h = omega (arith, held_once ls h, level_once l h, held_cons l ls h, open_cons l ls, arguments_cons l ls)
 
-pub held_standing : (table : List (Option Entry)) (s : InputStack) (h : ℕ) → Stands table s → held s h ≤ levels (pending table s) + arguments (pending table s)
+pub held_standing : (table : List (Option Entry)) (s : InputStack) (h : ℕ) → IsStack table s → held s h ≤ levels (pending table s) + arguments (pending table s)
 held_standing table s h stands =
     omega (arith, held_once (innermost s) h, levels_are table (innermost s), arguments_are table (innermost s))
 

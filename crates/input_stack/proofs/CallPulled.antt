@@ -120,13 +120,13 @@ first_placed n None ys = refl
 first_placed n (Some None) ys = refl
 first_placed n (Some (Some a)) ys = first_spread a.list a.tokens ys
 
-first_token : (args : List (Option Argument)) (t : Token) (ys : List Item) → first (token_items args t ++ ys) ≡ first (token_items args t)
-first_token args (Char cat code) ys = refl
-first_token args (Named name) ys = refl
-first_token args (Marked name) ys = refl
-first_token args (Place c) ys = refl
-first_token args (Number n) ys = first_placed n (slice_get args (n - 1)) ys
-first_token args EndPlaces ys = refl
+token_first : (args : List (Option Argument)) (t : Token) (ys : List Item) → first (token_items args t ++ ys) ≡ first (token_items args t)
+token_first args (Char cat code) ys = refl
+token_first args (Named name) ys = refl
+token_first args (Marked name) ys = refl
+token_first args (Place c) ys = refl
+token_first args (Number n) ys = first_placed n (slice_get args (n - 1)) ys
+token_first args EndPlaces ys = refl
 
 front_no_gap : (xs : List Item) → is_gap (first (without_gaps xs)) ≡ false
 front_no_gap [] = refl
@@ -157,7 +157,7 @@ module _ (table : List (Option Entry)) (c : WholeCall) (us vs : List Token) (t :
   token_behind = ap without_gaps (closed_items table c is) ∙ sym behind ∙ ap (substituted (cells_in table c.args)) at
 
   first_behind : first (without_gaps (items_of table c)) ≡ first (token_items (cells_in table c.args) t)
-  first_behind = ap first token_behind ∙ first_token (cells_in table c.args) t (substituted (cells_in table c.args) vs)
+  first_behind = ap first token_behind ∙ token_first (cells_in table c.args) t (substituted (cells_in table c.args) vs)
 
   pub no_gap_behind : is_gap (first (token_items (cells_in table c.args) t)) ≡ false
   no_gap_behind = ap is_gap (sym first_behind) ∙ front_no_gap (items_of table c)

@@ -21,7 +21,7 @@ use Rattle.input_stack.specs.Pending.{Pending, with_puts, end_token_lists, put, 
 use Rattle.input_stack.specs.CallViews.{arguments_in, call_holds, put_of_call, IsCall}
 use Rattle.input_stack.specs.Pushes.{pushed_holds}
 use Rattle.input_stack.specs.View.{pending_in, in_front, held_in}
-use Rattle.input_stack.specs.Standing.{AreRead}
+use Rattle.input_stack.specs.Stacks.{AreRead}
 use Rattle.input_stack.proofs.CallItems.{body_left}
 use Rattle.input_stack.proofs.CallKept.{filled_holds, call_same, call_stands}
 use Rattle.input_stack.proofs.Kept.{Stay, leaves, pending_stays, read_stays}

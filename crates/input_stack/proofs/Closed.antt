@@ -18,7 +18,7 @@ use Rattle.input_stack.specs.Pending.{Pending, end_token_lists}
 use Rattle.input_stack.specs.CallViews.{cells_in, open_items, open_tokens, open_number, open_holds, call_holds, items_of, put_of_call, IsCall, IsSettled, Closes}
 use Rattle.input_stack.specs.Levels.{LevelCloses, is_level_finished}
 use Rattle.input_stack.specs.View.{pending_in, in_front, level_holds, level_open, held_in}
-use Rattle.input_stack.specs.Standing.{IsLevel, IsUnfinished, AreUnfinished, AreRead}
+use Rattle.input_stack.specs.Stacks.{IsLevel, IsUnfinished, AreUnfinished, AreRead}
 use Rattle.input_stack.proofs.CallKept.{call_same, call_stands}
 use Rattle.input_stack.proofs.Kept.{Stay, leave, held_cons, pending_stays, levels_stay, unfinished_stay}
 use Rattle.input_stack.proofs.ListsEnded.{head_settle, closed_settle}

@@ -19,7 +19,7 @@ use Rattle.input_stack.specs.Pending.{Pending, Below, with_puts, end_token_lists
 use Rattle.input_stack.specs.Pulls.{Pulls, PullsTop, Passes, token_in, is_line_end, HandsOn, refused_at, PullsItem, PullsFrom, IsInBuffer}
 use Rattle.input_stack.specs.Levels.{LevelPulls, level_item, IsLevelInBuffer}
 use Rattle.input_stack.specs.View.{pending_in, in_front, over, level_holds, level_open, held_in, IsSourceOnTop}
-use Rattle.input_stack.specs.Standing.{IsLevel, IsUnfinished, AreUnfinished, AreRead}
+use Rattle.input_stack.specs.Stacks.{IsLevel, IsUnfinished, AreUnfinished, AreRead}
 use Rattle.input_stack.proofs.Kept.{Stay, held_cons, pending_stays, levels_stay, unfinished_stay}
 use Rattle.input_stack.proofs.ListsEnded.{used_settle}
 use Rattle.input_stack.proofs.Backs.{settle_twice}

@@ -12,7 +12,7 @@ use Rattle.input_stack.specs.Pending.{Pending, times, held_lists, lists_in, list
 use Rattle.input_stack.specs.CallViews.{put_of_call}
 use Rattle.input_stack.proofs.CallKept.{call_lists}
 use Rattle.input_stack.specs.View.{pending, pending_in, in_front, innermost, held, held_in}
-use Rattle.input_stack.specs.Standing.{Stands}
+use Rattle.input_stack.specs.Stacks.{IsStack}
 use Rattle.input_stack.proofs.Kept.{held_cons, leave, pending_stays, read_stays}
 
 put_lists : (p : Put) (q : Pending) (h : ℕ) → times h (held_lists (in_front p q)) ≡ times h (lists_of p) + times h (held_lists q)
@@ -29,7 +29,7 @@ held_puts table (level.Call c ∷ ls) h =
 held_puts table (level.Source s ∷ ls) h =
     omega (arith, held_cons (level.Source s) ls h, held_puts table ls h)
 
-pub others : (s : InputStack) (old new : List (Option Entry)) (before after : ℕ → ℕ) → Stands old s → Covers old (λ h. before h + held s h) → Moves old new before after → Keeps old new before → Stands new s × (pending new s ≡ pending old s)
+pub others : (s : InputStack) (old new : List (Option Entry)) (before after : ℕ → ℕ) → IsStack old s → Covers old (λ h. before h + held s h) → Moves old new before after → Keeps old new before → IsStack new s × (pending new s ≡ pending old s)
 others s old new before after stands covers moves keeps =
     let k = leave old new before after (held_in (innermost s)) covers moves keeps in (
       record {

@@ -15,7 +15,7 @@ use Rattle.input_stack.specs.CallViews.{IsSettled}
 use Rattle.input_stack.specs.View.{pending_in, in_front, over, level_holds, held_in}
 use Rattle.input_stack.proofs.CallKept as CallKept
 use Rattle.input_stack.proofs.CallKept.{call_same, call_stands}
-use Rattle.input_stack.specs.Standing.{IsLevel, IsUnfinished, AreUnfinished, AreUnfinishedBelow, AreRead}
+use Rattle.input_stack.specs.Stacks.{IsLevel, IsUnfinished, AreUnfinished, AreUnfinishedBelow, AreRead}
 
 -- the lists that are held so often are as they were, and still held
 pub record Stay (old new : List (Option Entry)) (f : ℕ → ℕ) : Type 0 where

@@ -9,7 +9,7 @@ use Rattle.input_stack.specs.WholeLevel as level
 use Rattle.input_stack.specs.declared.stack.InputStack.{InputStack}
 use Rattle.input_stack.specs.Pending.{at_line}
 use Rattle.input_stack.specs.View.{pending_in, innermost, held_in, level_at, level_open, IsSourceOnTop}
-use Rattle.input_stack.specs.Standing.{IsLevel, AreRead, Fits, IsSized}
+use Rattle.input_stack.specs.Stacks.{IsLevel, AreRead, Fits, IsSized}
 use Rattle.input_stack.proofs.Kept.{held_cons, all_below}
 use Rattle.input_stack.specs.declared.level.Level.TheVariants as raw
 use Rattle.input_stack.specs.Wholes.{count_in, wholes}

@@ -4,7 +4,7 @@ use Rattle.std.proofs.lemmas.List.Elements.{All-head, All-tail}
 use Rattle.std.proofs.lemmas.List.Sums.{sum_by-cons}
 use Rattle.tex_defs.specs.declared.Token.{Token}
 use Rattle.token_lists.specs.Table.{Entry}
-use Rattle.input_stack.specs.Puts.{Put, Item, Text, is_empty, without_ended, settled_top, later_of, count_of, standing, standing_of, standing_arguments, used, used_of, used_arguments, when_some}
+use Rattle.input_stack.specs.Puts.{Put, Item, Text, is_empty, without_ended, settled_top, later_of, count_of, open_levels, open_levels_of, open_arguments, used, used_of, used_arguments, when_some}
 use Rattle.input_stack.specs.WholeLevel.{WholeLevel}
 use Rattle.input_stack.specs.WholeLevel as level
 use Rattle.input_stack.specs.Rest.{number, rest}
@@ -13,7 +13,7 @@ use Rattle.token_lists.specs.declared.ListRef.{ListRef}
 use Rattle.input_stack.specs.Calls.{argument_list}
 use Rattle.input_stack.specs.CallViews.{cells_in, put_of_call, IsSettled}
 use Rattle.input_stack.specs.View.{pending_in, put_of, in_front, level_open, open_in, level_arguments, arguments_of}
-use Rattle.input_stack.specs.Standing.{IsUnfinished, AreUnfinished}
+use Rattle.input_stack.specs.Stacks.{IsUnfinished, AreUnfinished}
 
 pub finished_goes : (p : Put) (xs : List Item) (below rest : List Put) → is_empty xs ≡ true → settled_top p xs below rest ≡ below
 finished_goes p [] below rest is = refl
@@ -65,13 +65,13 @@ pub levels_are : (table : List (Option Entry)) (ls : List WholeLevel) → length
 levels_are table [] = refl
 levels_are table (level.List r ∷ ls) =
     let q = pending_in table ls in
-    omega (arith, levels_are table ls, open_cons (level.List r) ls, sum_by-cons standing_of (put_of table r) q.puts)
+    omega (arith, levels_are table ls, open_cons (level.List r) ls, sum_by-cons open_levels_of (put_of table r) q.puts)
 levels_are table (level.Call c ∷ ls) =
     let q = pending_in table ls in
-    omega (arith, levels_are table ls, open_cons (level.Call c) ls, sum_by-cons standing_of (put_of_call table c) q.puts)
+    omega (arith, levels_are table ls, open_cons (level.Call c) ls, sum_by-cons open_levels_of (put_of_call table c) q.puts)
 levels_are table (level.Source s ∷ ls) =
     let q = pending_in table ls in
-    omega (arith, levels_are table ls, open_cons (level.Source s) ls, sum_by-cons (λ (b : Below). 1 + standing b.puts) (record { source = s; puts = q.puts }) q.sources)
+    omega (arith, levels_are table ls, open_cons (level.Source s) ls, sum_by-cons (λ (b : Below). 1 + open_levels b.puts) (record { source = s; puts = q.puts }) q.sources)
 
 text_used : (ts : List Token) → 0 < length ts → used_of (map Text ts) ≡ 1
 text_used [] some = absurd (omega arith)
@@ -125,7 +125,7 @@ arguments_are table (level.Call c ∷ ls) =
     omega (arith, arguments_are table ls, arguments_cons (level.Call c) ls, put_count table c.args, sum_by-cons (λ (p : Put). length p.arguments) (put_of_call table c) q.puts)
 arguments_are table (level.Source s ∷ ls) =
     let q = pending_in table ls in
-    omega (arith, arguments_are table ls, arguments_cons (level.Source s) ls, sum_by-cons (λ (b : Below). standing_arguments b.puts) (record { source = s; puts = q.puts }) q.sources)
+    omega (arith, arguments_are table ls, arguments_cons (level.Source s) ls, sum_by-cons (λ (b : Below). open_arguments b.puts) (record { source = s; puts = q.puts }) q.sources)
 
 settled_some : (reading : Option ℕ) (xs : List Item) (n : ℕ) → IsSettled reading xs → when_some xs n ≡ n
 settled_some reading [] n is = absurd is

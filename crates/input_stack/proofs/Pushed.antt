@@ -18,7 +18,7 @@ use Rattle.input_stack.specs.declared.stack.InputStack.{InputStack}
 use Rattle.input_stack.specs.Rest.{number, rest}
 use Rattle.input_stack.specs.Pending.{Pending, end_token_lists, put, listed_put, shared_put, refusal, room, parameter_room, either, used_levels, used_parameters}
 use Rattle.input_stack.specs.View.{pending_in, in_front, innermost, level_holds, held_in}
-use Rattle.input_stack.specs.Standing.{IsLevel, AreUnfinished, AreRead, Fits}
+use Rattle.input_stack.specs.Stacks.{IsLevel, AreUnfinished, AreRead, Fits}
 use Rattle.input_stack.proofs.Kept.{Stay, leaves, pending_stays, read_stays, held_cons, holds_itself}
 use Rattle.input_stack.proofs.Wholes.{levels_count, arguments_count}
 use Rattle.input_stack.proofs.CallItems.{without_arguments}

@@ -6,8 +6,6 @@ use Rattle.std.proofs.lemmas.List.Elements.{All-head, All-tail}
 use Rattle.std.proofs.lemmas.Option.{none-some, same_Some}
 use Rattle.std.proofs.Math.Seq.{take-suc}
 use Rattle.tex_defs.specs.declared.Token.{Token}
-use Rattle.plain_tokens.specs.Lex as plain
-use Rattle.line_lexer.specs.Answers.{looks_of}
 use Rattle.token_lists.specs.Table.{Entry}
 use Rattle.token_lists.specs.declared.ListRef.{ListRef}
 use Rattle.input_stack.specs.declared.level.Level.{Level}
@@ -22,10 +20,10 @@ use Rattle.line_lexer.specs.declared.Ahead.TheVariants as ahead
 use Rattle.input_stack.specs.Puts.{Item, Put, next_item, first, without_gaps, flat}
 use Rattle.input_stack.specs.CallViews.{put_of_call, met, is_opening}
 use Rattle.input_stack.proofs.Gaps.{first_item, gaps_first, gaps_none}
-use Rattle.input_stack.specs.Pulls.{looks, is_ready, item_looks, item_ready, line_looks, line_ready, is_token, IsInBuffer}
-use Rattle.input_stack.specs.Levels.{level_looks, when_left, when_met, is_ahead, IsLevelInBuffer}
+use Rattle.input_stack.specs.Pulls.{looks, item_looks, IsInBuffer}
+use Rattle.input_stack.specs.Levels.{level_looks, when_left, when_met, IsLevelInBuffer}
 use Rattle.input_stack.specs.View.{innermost, pending, pending_in, in_front}
-use Rattle.input_stack.specs.Standing.{IsLevel, Fits}
+use Rattle.input_stack.specs.Stacks.{IsLevel, Fits}
 use Rattle.input_stack.proofs.Wholes.{count_cons}
 
 take_top : (ls : List Level) (n : ℕ) (l : Level) → n ≤ length ls → 0 < n → l ≡ get_or ls (n - 1) l → reverse (take n ls) ≡ l ∷ reverse (take (n - 1) ls)
@@ -92,22 +90,6 @@ module _ (s : InputStack) (n count : ℕ) (l : Level) (k : AreLeft s n count) (s
 
     pub top_left : left s n count ≡ whole args l ∷ left s (n - 1) first
     top_left = ap (wholes (take count s.arguments.items)) raw ∙ ap₂ (λ (xs ys : List (Option ListRef)). whole xs l ∷ wholes ys (reverse (take (n - 1) s.levels.items))) mine below
-
-ahead_is : (x : plain.Lexed) → is_ahead (looks_of x) ≡ is_token x
-ahead_is (plain.Gives x state line) = refl
-ahead_is (plain.Invalid state line) = refl
-ahead_is plain.UsedUp = refl
-
-line_ready_is : (c b : List ℕ) (bs : List Below) → is_ahead (line_looks c b bs) ≡ line_ready c b bs
-line_ready_is c b [] = refl
-line_ready_is c b (x ∷ xs) = ahead_is _
-
-item_ready_is : (c b : List ℕ) (bs : List Below) (o : Option Item) → is_ahead (item_looks c b bs o) ≡ item_ready c b bs o
-item_ready_is c b bs None = line_ready_is c b bs
-item_ready_is c b bs (Some x) = refl
-
-pub ready_is : (c b : List ℕ) (p : Pending) → is_ahead (looks c b p) ≡ is_ready c b p
-ready_is c b p = item_ready_is c b p.sources (next_item p.puts)
 
 items_some : (c b : List ℕ) (bs : List Below) (xs ys : List Item) (r : Ahead) → when_met (first xs) ≡ Some r → r ≡ item_looks c b bs (first_item xs ys)
 items_some c b bs [] ys r is = absurd (none-some r is)

@@ -15,7 +15,7 @@ use Rattle.input_stack.specs.Rest.{rest}
 use Rattle.input_stack.specs.CallViews.{put_of_call}
 use Rattle.input_stack.specs.Levels.{is_level_finished, is_level_passed, is_top_passed}
 use Rattle.input_stack.specs.View.{pending_in, put_of, innermost, held_in, level_holds, level_open, open_in, arguments_of}
-use Rattle.input_stack.specs.Standing.{IsLevel, AreUnfinished, AreRead, Fits, IsSized, Stands}
+use Rattle.input_stack.specs.Stacks.{IsLevel, AreUnfinished, AreRead, Fits, IsSized, IsStack}
 use Rattle.input_stack.specs.declared.level.Level.{Level}
 use Rattle.input_stack.specs.Wholes.{count_in, wholes}
 use Rattle.input_stack.proofs.Wholes.{levels_count}
@@ -164,7 +164,7 @@ arguments_in_use table (level.Source s ∷ ls) a is =
 none_read : (table : List (Option Entry)) → AreRead table []
 none_read table = record { levels = All-nil (IsLevel table); below = tt; covers = λ h. omega arith }
 
-pub new_stands : (table : List (Option Entry)) (s : InputStack) → s.levels.items ≡ [] → s.arguments.items ≡ [] → s.argument_levels ≡ 0 → s.size ≤ vec_capacity s.levels → s.parameter_size ≤ vec_capacity s.arguments → s.size < 2 ^ 32 → s.parameter_size < 2 ^ 32 → Stands table s
+pub new_stands : (table : List (Option Entry)) (s : InputStack) → s.levels.items ≡ [] → s.arguments.items ≡ [] → s.argument_levels ≡ 0 → s.size ≤ vec_capacity s.levels → s.parameter_size ≤ vec_capacity s.arguments → s.size < 2 ^ 32 → s.parameter_size < 2 ^ 32 → IsStack table s
 new_stands table s none free lv room parameter_room small few =
     let empty : innermost s ≡ [] = ap (λ (ls : List Level). wholes s.arguments.items (reverse ls)) none in
     record {

@@ -16,7 +16,7 @@ use Rattle.input_stack.specs.Wholes.{level_count, count_in, whole, own, beneath,
 use Rattle.input_stack.specs.Reads.{AreReadersAt, level_readers_hold}
 use Rattle.token_lists.specs.Accounts.{cells_hold}
 use Rattle.input_stack.specs.View.{innermost, level_holds, level_arguments, arguments_of}
-use Rattle.input_stack.specs.Standing.{IsLevel, Fits}
+use Rattle.input_stack.specs.Stacks.{IsLevel, Fits}
 use Rattle.input_stack.proofs.ListsEnded.{arguments_cons}
 
 pub count_cons : (l : Level) (ls : List Level) → count_in (l ∷ ls) ≡ level_count l + count_in ls

@@ -1,5 +1,5 @@
 -- What one level gives.
-use Rattle.std.specs.Prelude.{◌≡◌, ℕ, ◌≤◌, List, [], ◌∷◌, Option, None, Some, Bool, true, false, map}
+use Rattle.std.specs.Prelude.{◌≡◌, ℕ, ◌≤◌, List, [], ◌∷◌, Option, None, Some, Bool, false, map}
 use Rattle.plain_tokens.specs.Lex as plain
 use Rattle.line_lexer.specs.Answers.{state_of, rest_of, looks_of}
 use Rattle.line_lexer.specs.declared.Ahead.{Ahead}
@@ -93,11 +93,6 @@ abbrev pub IsLevelInBuffer : WholeLevel → ℕ → Type 0
 IsLevelInBuffer (level.List r) n = Unit {0}
 IsLevelInBuffer (level.Call c) n = Unit {0}
 IsLevelInBuffer (level.Source s) n = (s.line.at ≤ s.line.end) × (s.line.end ≤ n)
-
-abbrev pub is_ahead : Ahead → Bool
-is_ahead ahead.Token = true
-is_ahead ahead.Invalid = false
-is_ahead ahead.End = false
 
 -- a token, where one is left
 abbrev pub when_left : List Token → Option Ahead

@@ -8,7 +8,7 @@ pub mod Levels
 pub mod Pending
 pub mod Pulls
 pub mod View
-pub mod Standing
+pub mod Stacks
 pub mod Lasting
 pub mod Pushes
 pub mod AtOnce

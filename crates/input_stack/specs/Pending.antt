@@ -4,7 +4,7 @@ use Rattle.std.specs.Prelude.{◌≡◌, ℕ, ◌+◌, List, [], ◌∷◌, ◌+
 use Rattle.tex_defs.specs.declared.Token.{Token}
 use Rattle.tex_defs.specs.declared.Full.{Full}
 use Rattle.tex_defs.specs.declared.Table.TheVariants.{InputStackSize, ParameterStackSize}
-use Rattle.input_stack.specs.Puts.{Item, Text, Put, used, used_arguments, standing, standing_arguments, without_ended, put_in_front, lists_of}
+use Rattle.input_stack.specs.Puts.{Item, Text, Put, used, used_arguments, open_levels, open_arguments, without_ended, put_in_front, lists_of}
 use Rattle.token_lists.specs.Accounts.{holds}
 use Rattle.line_lexer.specs.declared.Line.{Line}
 use Rattle.world_io.specs.declared.traits.InId.{InId}
@@ -26,11 +26,11 @@ with_puts ps p = record { puts = ps; sources = p.sources }
 
 -- levels of what is beneath: one for each file or `\read` line, and those of the lists in front of what it covers
 abbrev pub levels_below : List Below → ℕ
-levels_below bs = sum_by (λ b. 1 + standing b.puts) bs
+levels_below bs = sum_by (λ b. 1 + open_levels b.puts) bs
 
 -- all levels that stand
 abbrev pub levels : Pending → ℕ
-levels p = standing p.puts + levels_below p.sources
+levels p = open_levels p.puts + levels_below p.sources
 
 -- the levels that are used
 abbrev pub used_levels : Pending → ℕ
@@ -38,7 +38,7 @@ used_levels p = used p.puts + sum_by (λ b. 1 + used b.puts) p.sources
 
 -- the arguments of all calls that stand
 abbrev pub arguments : Pending → ℕ
-arguments p = standing_arguments p.puts + sum_by (λ b. standing_arguments b.puts) p.sources
+arguments p = open_arguments p.puts + sum_by (λ b. open_arguments b.puts) p.sources
 
 -- the arguments that are used
 abbrev pub used_parameters : Pending → ℕ

@@ -83,23 +83,6 @@ abbrev pub IsInBuffer : List Below → ℕ → Type 0
 IsInBuffer [] n = Unit {0}
 IsInBuffer (b ∷ bs) n = (b.source.line.at ≤ b.source.line.end) × (b.source.line.end ≤ n)
 
-abbrev pub is_token : plain.Lexed → Bool
-is_token (plain.Gives x state line) = true
-is_token (plain.Invalid state line) = false
-is_token plain.UsedUp = false
-
-abbrev pub line_ready : List ℕ → List ℕ → List Below → Bool
-line_ready categories bytes [] = false
-line_ready categories bytes (b ∷ bs) = is_token (plain.lexed categories (state_of b.source.line.state) (rest_of bytes b.source.line))
-
-abbrev pub item_ready : List ℕ → List ℕ → List Below → Option Item → Bool
-item_ready categories bytes bs (Some x) = true
-item_ready categories bytes bs None = line_ready categories bytes bs
-
--- a token comes next, from a list or from the line
-abbrev pub is_ready : List ℕ → List ℕ → Pending → Bool
-is_ready categories bytes p = item_ready categories bytes p.sources (next_item p.puts)
-
 abbrev pub line_looks : List ℕ → List ℕ → List Below → Ahead
 line_looks categories bytes [] = ahead.End
 line_looks categories bytes (b ∷ bs) = looks_of (plain.lexed categories (state_of b.source.line.state) (rest_of bytes b.source.line))

@@ -59,15 +59,15 @@ abbrev pub used_arguments : List Put → ℕ
 used_arguments puts = sum_by (λ p. when_some p.items (length p.arguments)) puts
 
 -- the arguments of the calls that stand, those that are finished too
-abbrev pub standing_arguments : List Put → ℕ
-standing_arguments puts = sum_by (λ p. length p.arguments) puts
+abbrev pub open_arguments : List Put → ℕ
+open_arguments puts = sum_by (λ p. length p.arguments) puts
 
 -- the levels that stand, those that are finished too
-abbrev pub standing_of : Put → ℕ
-standing_of p = 1 + count_of p.reading
+abbrev pub open_levels_of : Put → ℕ
+open_levels_of p = 1 + count_of p.reading
 
-abbrev pub standing : List Put → ℕ
-standing puts = sum_by standing_of puts
+abbrev pub open_levels : List Put → ℕ
+open_levels puts = sum_by open_levels_of puts
 
 -- HELD
 

@@ -28,7 +28,7 @@ pub struct Call {
 
 // The first token of a list, if it has one.
 #[inline(always)]
-fn first_of(lists: &Lists, list: &ListRef) -> Option<Token>
+fn first_token(lists: &Lists, list: &ListRef) -> Option<Token>
     requires { IsHeld lists.now (id_of list.now) }
     ensures { result ≡ slice_get (tokens_at lists.now (id_of list.now)) 0 }
 {
@@ -48,7 +48,7 @@ fn item_of(lists: &Lists, args: &[Option<ListRef>], token: Token) -> Met
         let place = (n as usize).saturating_sub(1);
         if place < args.len() {
             return match &args[place] {
-                Some(list) => match first_of(lists, list) {
+                Some(list) => match first_token(lists, list) {
                     Some(first) => Met::First(first),
                     None => Met::Gap,
                 },
@@ -100,7 +100,7 @@ fn hand_on(lists: &mut Lists, args: &[Option<ListRef>], token: Token) -> (Token,
         let place = (n as usize).saturating_sub(1);
         if place < args.len() {
             if let Some(list) = &args[place] {
-                if let Some(first) = first_of(lists, list) {
+                if let Some(first) = first_token(lists, list) {
                     return (first, Some(opened(lists, list)));
                 }
             }

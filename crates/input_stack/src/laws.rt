@@ -8,13 +8,13 @@ ghost use Rattle.token_lists.specs.Table.{Entry};
 ghost use Rattle.token_lists.specs.Accounts.{Moves, Keeps, Covers};
 ghost use Rattle.input_stack.specs.Pending.{times, held_lists, levels, arguments};
 ghost use Rattle.input_stack.specs.View.{pending, held, innermost, IsSourceOnTop};
-ghost use Rattle.input_stack.specs.Standing.{Stands};
+ghost use Rattle.input_stack.specs.Stacks.{IsStack};
 
 use crate::InputStack;
 
 /// Where other parts change which lists they hold, the levels stand on, and what is pending stays.
 pub fn others_leave_pending(stack: &InputStack)
-    ensures { (old new : List (Option Entry)) (before after : ℕ → ℕ) → Stands old stack.now → Covers old (λ h. before h + held stack.now h) → Moves old new before after → Keeps old new before → Stands new stack.now × (pending new stack.now ≡ pending old stack.now) }
+    ensures { (old new : List (Option Entry)) (before after : ℕ → ℕ) → IsStack old stack.now → Covers old (λ h. before h + held stack.now h) → Moves old new before after → Keeps old new before → IsStack new stack.now × (pending new stack.now ≡ pending old stack.now) }
 {
     let _ = stack;
 }
@@ -29,8 +29,8 @@ pub fn puts_are_held(stack: &InputStack)
 /// Each level that stands and each argument of a call holds one list at most. So no list is held more often than levels
 /// and arguments stand, which are within the sizes of the input stack and of the parameter stack.
 pub fn few_are_held(stack: &InputStack)
-    ensures standing { (table : List (Option Entry)) (h : ℕ) → Stands table stack.now → held stack.now h ≤ levels (pending table stack.now) + arguments (pending table stack.now) }
-    ensures sizes { (table : List (Option Entry)) (h : ℕ) → Stands table stack.now → held stack.now h ≤ stack.now.size + stack.now.parameter_size }
+    ensures standing { (table : List (Option Entry)) (h : ℕ) → IsStack table stack.now → held stack.now h ≤ levels (pending table stack.now) + arguments (pending table stack.now) }
+    ensures sizes { (table : List (Option Entry)) (h : ℕ) → IsStack table stack.now → held stack.now h ≤ stack.now.size + stack.now.parameter_size }
 {
     let _ = stack;
 }

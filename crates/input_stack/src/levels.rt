@@ -5,7 +5,7 @@ ghost use Rattle.token_lists.specs.Accounts.{Moves, Keeps, Covers, none};
 ghost use Rattle.input_stack.specs.Lasting.{Lasts};
 ghost use Rattle.input_stack.specs.CallViews.{is_opening, met, opens};
 ghost use Rattle.input_stack.specs.Levels.{level_item, is_level_finished, is_level_passed, LevelCloses};
-ghost use Rattle.input_stack.specs.Standing.{IsLevel};
+ghost use Rattle.input_stack.specs.Stacks.{IsLevel};
 ghost use Rattle.input_stack.specs.View.{level_holds, level_open};
 ghost use Rattle.input_stack.specs.Reads.{AreReadersAt, level_readers_hold};
 ghost use Rattle.input_stack.specs.Wholes.{whole, own, beneath, level_count};

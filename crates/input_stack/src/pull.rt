@@ -3,11 +3,11 @@ ghost use Rattle.std.specs.Prelude.{◌≡◌, length, false, List, Option, None
 ghost use Rattle.token_lists.specs.declared.ListRef.{ListRef};
 ghost use Rattle.line_lexer.specs.declared.Ahead.TheVariants as ahead;
 ghost use Rattle.input_stack.specs.Pulls.{answer_of};
-ghost use Rattle.input_stack.specs.Standing.{IsLevel, IsUnfinished};
+ghost use Rattle.input_stack.specs.Stacks.{IsLevel, IsUnfinished};
 ghost use Rattle.input_stack.specs.CallViews.{IsCountable};
 ghost use Rattle.input_stack.specs.Reads.{AreReadersAt};
 ghost use Rattle.input_stack.specs.Wholes.{whole, level_count};
-ghost use Rattle.input_stack.specs.Levels.{LevelPulls, HandsAtOnce, IsLevelInBuffer, level_item, is_level_passed, level_looks, is_ahead};
+ghost use Rattle.input_stack.specs.Levels.{LevelPulls, HandsAtOnce, IsLevelInBuffer, level_item, is_level_passed, level_looks};
 
 use crate::level::{Level, Pulled};
 use line_lexer::{Ahead, Lexed, looks, next};
@@ -113,15 +113,5 @@ pub fn level_looks(
         Level::List(reader) => token_if(reader.is_left(lists)),
         Level::Call(call) => token_if(call.is_left(lists, args)),
         Level::Source(source) => Some(looks(bytes, &source.line, categories)),
-    }
-}
-
-/// Whether it is a token.
-pub fn is_token(ahead: Ahead) -> bool
-    ensures { result ≡ is_ahead ahead }
-{
-    match ahead {
-        Ahead::Token => true,
-        Ahead::Invalid | Ahead::End => false,
     }
 }

@@ -16,8 +16,8 @@ ghost use Rattle.input_stack.specs.Levels.{is_top_passed};
 ghost use Rattle.input_stack.specs.Pending.{levels, arguments, used_parameters, without_top, either, parameter_room, end_token_lists, put, plain_put, shared_put, listed_put, refusal, room, used_levels, open_over, at_line, Ends};
 ghost use Rattle.input_stack.specs.Backs.{begun_holds, IsBegun, LacksMemory, PutsBack, Refuses};
 ghost use Rattle.input_stack.specs.View.{pending, pending_in, in_front, held, innermost, IsSourceOnTop, level_at, level_holds, level_open};
-ghost use Rattle.input_stack.specs.Pulls.{Pulls, PullsTop, Passes, IsInBuffer, looks, is_ready, is_line_end};
-ghost use Rattle.input_stack.specs.Standing.{Stands, Fits, IsSized, IsLevel, AreUnfinished, AreRead};
+ghost use Rattle.input_stack.specs.Pulls.{Pulls, PullsTop, Passes, IsInBuffer, looks, is_line_end};
+ghost use Rattle.input_stack.specs.Stacks.{IsStack, Fits, IsSized, IsLevel, AreUnfinished, AreRead};
 ghost use Rattle.input_stack.specs.Lasting.{Lasts, LastsBut};
 ghost use Rattle.input_stack.specs.AtOnce.{PullsAtOnce};
 
@@ -26,7 +26,7 @@ use crate::level::{Begun, Level, Pulled, Source};
 use crate::levels::{
     argument_levels, close_argument, first_own, is_finished, is_passed, next_opens, release,
 };
-use crate::pull::{has_item, is_token, level_looks, pull_level, quick_level};
+use crate::pull::{has_item, level_looks, pull_level, quick_level};
 use crate::reader::Reader;
 use crate::release::let_go;
 use line_lexer::{Ahead, Line};
@@ -121,7 +121,7 @@ impl InputStack {
     /// There is no room for them. No other call takes memory.
     pub fn new(alloc: Global, sizes: &Sizes) -> Result<InputStack, AllocError>
         ensures empty { IfOk result (λ s. innermost s ≡ []) }
-        ensures stands { (table : List (Option Entry)) → IfOk result (Stands table) }
+        ensures stands { (table : List (Option Entry)) → IfOk result (IsStack table) }
         ensures size { IfOk result (λ s. s.size ≡ sizes.now.input_stack_size) }
         ensures parameter_size { IfOk result (λ s. s.parameter_size ≡ sizes.now.parameter_stack_size) }
     {
@@ -150,7 +150,7 @@ impl InputStack {
         requires no_arguments { arguments.items ≡ [] }
         requires room { size ≤ vec_capacity levels }
         requires parameter_room { parameter_size ≤ vec_capacity arguments }
-        ensures stands { (table : List (Option Entry)) → Stands table result }
+        ensures stands { (table : List (Option Entry)) → IsStack table result }
         ensures empty { innermost result ≡ [] }
         ensures size { result.size ≡ size }
         ensures parameter_size { result.parameter_size ≡ parameter_size }
@@ -176,8 +176,8 @@ impl InputStack {
     /// what is used of the parameter stack.
     pub fn arguments(&self) -> u32
         requires { Fits self.now }
-        ensures standing { (table : List (Option Entry)) → Stands table self.now → result ≡ arguments (pending table self.now) }
-        ensures used { (table : List (Option Entry)) → Stands table self.now → is_finished (pending table self.now).puts ≡ false → result ≡ used_parameters (pending table self.now) }
+        ensures standing { (table : List (Option Entry)) → IsStack table self.now → result ≡ arguments (pending table self.now) }
+        ensures used { (table : List (Option Entry)) → IsStack table self.now → is_finished (pending table self.now).puts ≡ false → result ≡ used_parameters (pending table self.now) }
     {
         self.arguments.len() as u32
     }
@@ -185,7 +185,7 @@ impl InputStack {
     // Whether nothing is left of the list on top.
     #[inline(always)]
     fn is_finished(&self, lists: &Lists) -> bool
-        requires { Stands lists.now self.now }
+        requires { IsStack lists.now self.now }
         ensures { result ≡ is_finished (pending lists.now self.now).puts }
     {
         let count = self.levels.len();
@@ -194,7 +194,7 @@ impl InputStack {
 
     // Whether nothing is left of the list on top but gaps.
     fn is_passed(&self, lists: &Lists) -> bool
-        requires { Stands lists.now self.now }
+        requires { IsStack lists.now self.now }
         ensures { result ≡ is_top_passed lists.now (innermost self.now) }
     {
         let count = self.levels.len();
@@ -209,9 +209,9 @@ impl InputStack {
     // The list or the call on top goes, with what is left of it.
     #[inline(always)]
     fn drop_top(&mut self, lists: &mut Lists)
-        requires stands { Stands lists.old self.old }
+        requires stands { IsStack lists.old self.old }
         requires in_front { 0 < length (pending lists.old self.old).puts }
-        ensures stands { Stands lists.new self.new }
+        ensures stands { IsStack lists.new self.new }
         ensures beneath { AreUnfinished lists.new (innermost self.new) }
         ensures after { pending lists.new self.new ≡ without_top (pending lists.old self.old) }
         ensures fewer { length self.new.levels.items < length self.old.levels.items }
@@ -230,9 +230,9 @@ impl InputStack {
     // The argument's level on top goes, if no token is left of it.
     #[inline(always)]
     fn close_argument(&mut self, lists: &mut Lists)
-        requires stands { Stands lists.old self.old }
+        requires stands { IsStack lists.old self.old }
         requires unfinished { is_finished (pending lists.old self.old).puts ≡ false }
-        ensures stands { Stands lists.new self.new }
+        ensures stands { IsStack lists.new self.new }
         ensures after { pending lists.new self.new ≡ end_token_lists (pending lists.old self.old) }
         ensures unfinished { AreUnfinished lists.new (innermost self.new) }
         ensures account { Moves lists.old lists.new (held self.old) (held self.new) }
@@ -251,8 +251,8 @@ impl InputStack {
     /// The finished lists on top go, from the top down.
     #[inline(always)]
     pub fn drop_finished(&mut self, lists: &mut Lists)
-        requires { Stands lists.old self.old }
-        ensures stands { Stands lists.new self.new }
+        requires { IsStack lists.old self.old }
+        ensures stands { IsStack lists.new self.new }
         ensures after { pending lists.new self.new ≡ end_token_lists (pending lists.old self.old) }
         ensures unfinished { AreUnfinished lists.new (innermost self.new) }
         ensures account { Moves lists.old lists.new (held self.old) (held self.new) }
@@ -270,9 +270,9 @@ impl InputStack {
     // The lists and calls on top go of which nothing is left but gaps.
     #[inline(always)]
     fn pass_gaps(&mut self, lists: &mut Lists)
-        requires stands { Stands lists.old self.old }
+        requires stands { IsStack lists.old self.old }
         requires unfinished { AreUnfinished lists.old (innermost self.old) }
-        ensures stands { Stands lists.new self.new }
+        ensures stands { IsStack lists.new self.new }
         ensures unfinished { AreUnfinished lists.new (innermost self.new) }
         ensures passed { is_top_passed lists.new (innermost self.new) ≡ false }
         ensures same { Passes (pending lists.old self.old) (pending lists.new self.new) }
@@ -291,7 +291,7 @@ impl InputStack {
     // Whether the next item is an argument's first token.
     #[inline(always)]
     fn is_opening(&self, lists: &Lists) -> bool
-        requires { Stands lists.now self.now }
+        requires { IsStack lists.now self.now }
         ensures { result ≡ is_opening (met (next_item (pending lists.now self.now).puts)) }
     {
         let mut at = self.levels.len();
@@ -367,8 +367,8 @@ impl InputStack {
 
     /// Why there is no room for one more level, once the finished lists on top have gone.
     pub fn room(&mut self, lists: &mut Lists) -> Option<Full>
-        requires { Stands lists.old self.old }
-        ensures stands { Stands lists.new self.new }
+        requires { IsStack lists.old self.old }
+        ensures stands { IsStack lists.new self.new }
         ensures after { pending lists.new self.new ≡ end_token_lists (pending lists.old self.old) }
         ensures refused { result ≡ room self.old.size (used_levels (pending lists.old self.old)) }
         ensures account { Moves lists.old lists.new (held self.old) (held self.new) }
@@ -386,9 +386,9 @@ impl InputStack {
     /// # Errors
     /// The levels are at the size of the input stack, once the finished lists on top have gone. The list is handed back.
     pub fn push_list(&mut self, lists: &mut Lists, list: ListRef) -> Result<(), (Full, ListRef)>
-        requires stands { Stands lists.old self.old }
+        requires stands { IsStack lists.old self.old }
         requires held { Covers lists.old (λ h. holds (id_of list) h + held self.old h) }
-        ensures stands { Stands lists.new self.new }
+        ensures stands { IsStack lists.new self.new }
         ensures ok { OnOk result (pending lists.new self.new ≡ put (plain_put (id_of list) (tokens_at lists.old (id_of list))) (pending lists.old self.old)) }
         ensures err { OnErr result (pending lists.new self.new ≡ end_token_lists (pending lists.old self.old)) }
         ensures refused { MatchResult result (λ _. refusal self.old.size (map Text (tokens_at lists.old (id_of list))) (pending lists.old self.old) ≡ None) (λ e. (refusal self.old.size (map Text (tokens_at lists.old (id_of list))) (pending lists.old self.old) ≡ Some e.0) × (e.1 ≡ list)) }
@@ -408,9 +408,9 @@ impl InputStack {
     /// # Errors
     /// The levels are at the size of the input stack, once the finished lists on top have gone. The list is handed back.
     pub fn push_shared(&mut self, lists: &mut Lists, list: ListRef) -> Result<(), (Full, ListRef)>
-        requires stands { Stands lists.old self.old }
+        requires stands { IsStack lists.old self.old }
         requires held { Covers lists.old (λ h. holds (id_of list) h + held self.old h) }
-        ensures stands { Stands lists.new self.new }
+        ensures stands { IsStack lists.new self.new }
         ensures ok { OnOk result (pending lists.new self.new ≡ put (shared_put (id_of list) (tokens_at lists.old (id_of list))) (pending lists.old self.old)) }
         ensures err { OnErr result (pending lists.new self.new ≡ end_token_lists (pending lists.old self.old)) }
         ensures refused { MatchResult result (λ _. refusal self.old.size (map Text (tokens_at lists.old (id_of list))) (pending lists.old self.old) ≡ None) (λ e. (refusal self.old.size (map Text (tokens_at lists.old (id_of list))) (pending lists.old self.old) ≡ Some e.0) × (e.1 ≡ list)) }
@@ -431,9 +431,9 @@ impl InputStack {
         list: ListRef,
         shared: bool,
     ) -> Result<(), (Full, ListRef)>
-        requires stands { Stands lists.old self.old }
+        requires stands { IsStack lists.old self.old }
         requires held { Covers lists.old (λ h. holds (id_of list) h + held self.old h) }
-        ensures stands { Stands lists.new self.new }
+        ensures stands { IsStack lists.new self.new }
         ensures ok { OnOk result (pending lists.new self.new ≡ put (listed_put shared (id_of list) (tokens_at lists.old (id_of list))) (pending lists.old self.old)) }
         ensures err { OnErr result (pending lists.new self.new ≡ end_token_lists (pending lists.old self.old)) }
         ensures refused { MatchResult result (λ _. refusal self.old.size (map Text (tokens_at lists.old (id_of list))) (pending lists.old self.old) ≡ None) (λ e. (refusal self.old.size (map Text (tokens_at lists.old (id_of list))) (pending lists.old self.old) ≡ Some e.0) × (e.1 ≡ list)) }
@@ -487,10 +487,10 @@ impl InputStack {
         body: ListRef,
         args: Args,
     ) -> Result<(), (Full, ListRef, Args)>
-        requires stands { Stands lists.old self.old }
+        requires stands { IsStack lists.old self.old }
         requires filled { IsFilled args }
         requires held { Covers lists.old (λ h. pushed_holds body args h + held self.old h) }
-        ensures stands { Stands lists.new self.new }
+        ensures stands { IsStack lists.new self.new }
         ensures ok { OnOk result (pending lists.new self.new ≡ put (call_put (id_of body) (tokens_at lists.old (id_of body)) (arguments_in lists.old args)) (pending lists.old self.old)) }
         ensures err { OnErr result (pending lists.new self.new ≡ end_token_lists (pending lists.old self.old)) }
         ensures refused { MatchResult result (λ _. call_refused self.old lists.old body args ≡ None) (λ e. (call_refused self.old lists.old body args ≡ Some e.0) × (e.1 ≡ body) × (e.2 ≡ args)) }
@@ -520,8 +520,8 @@ impl InputStack {
     /// The main memory is full, or the levels are at the size of the input stack, once the finished lists on top have
     /// gone. What was made of the list is handed back.
     pub fn back(&mut self, lists: &mut Lists, token: Token) -> Result<(), (Full, Begun)>
-        requires stands { Stands lists.old self.old }
-        ensures stands { Stands lists.new self.new }
+        requires stands { IsStack lists.old self.old }
+        ensures stands { IsStack lists.new self.new }
         ensures ok { OnOk result (PutsBack lists.old lists.new (held self.old) (pending lists.old self.old) (pending lists.new self.new) token) }
         ensures err { OnErr result (pending lists.new self.new ≡ end_token_lists (pending lists.old self.old)) }
         ensures refused { IfErr result (λ e. Refuses lists.new self.old.size (used_levels (pending lists.old self.old)) token e.0 e.1) }
@@ -548,8 +548,8 @@ impl InputStack {
     /// # Errors
     /// The levels are at the size of the input stack, once the finished lists on top have gone.
     pub fn push_file(&mut self, lists: &mut Lists, id: Option<InId>, line: Line) -> Result<(), Full>
-        requires { Stands lists.old self.old }
-        ensures stands { Stands lists.new self.new }
+        requires { IsStack lists.old self.old }
+        ensures stands { IsStack lists.new self.new }
         ensures ok { OnOk result (pending lists.new self.new ≡ open_over id line (end_token_lists (pending lists.old self.old))) }
         ensures on_top { OnOk result (IsSourceOnTop (innermost self.new)) }
         ensures err { OnErr result (pending lists.new self.new ≡ end_token_lists (pending lists.old self.old)) }
@@ -572,7 +572,7 @@ impl InputStack {
     pub fn begin_line(&mut self, line: Line)
         requires { IsSourceOnTop (innermost self.old) }
         ensures after { (table : List (Option Entry)) → pending table self.new ≡ at_line line (pending table self.old) }
-        ensures stands { (table : List (Option Entry)) → Stands table self.old → Stands table self.new }
+        ensures stands { (table : List (Option Entry)) → IsStack table self.old → IsStack table self.new }
         ensures held { (h : ℕ) → held self.new h ≡ held self.old h }
         ensures size { self.new.size ≡ self.old.size }
         ensures parameter_size { self.new.parameter_size ≡ self.old.parameter_size }
@@ -588,7 +588,7 @@ impl InputStack {
     pub fn end_file(&mut self) -> Option<InId>
         requires { IsSourceOnTop (innermost self.old) }
         ensures after { (table : List (Option Entry)) → Ends (pending table self.old) (pending table self.new) result }
-        ensures stands { (table : List (Option Entry)) → Stands table self.old → Stands table self.new }
+        ensures stands { (table : List (Option Entry)) → IsStack table self.old → IsStack table self.new }
         ensures held { (h : ℕ) → held self.new h ≡ held self.old h }
         ensures size { self.new.size ≡ self.old.size }
         ensures parameter_size { self.new.parameter_size ≡ self.old.parameter_size }
@@ -606,10 +606,10 @@ impl InputStack {
     /// The next item, where it is a token at hand: of a list, of an open argument, or of a body, no parameter number.
     #[inline(always)]
     pub fn quick(&mut self, lists: &Lists) -> Option<Token>
-        requires { Stands lists.now self.old }
+        requires { IsStack lists.now self.old }
         ensures gives { IfSome result (λ t. PullsAtOnce (pending lists.now self.old) (pending lists.now self.new) t) }
         ensures stays { result ≡ None → pending lists.now self.new ≡ pending lists.now self.old }
-        ensures stands { Stands lists.now self.new }
+        ensures stands { IsStack lists.now self.new }
         ensures held { (h : ℕ) → held self.new h ≡ held self.old h }
         ensures size { self.new.size ≡ self.old.size }
         ensures parameter_size { self.new.parameter_size ≡ self.old.parameter_size }
@@ -632,10 +632,10 @@ impl InputStack {
         bytes: &mut [u8],
         categories: &[u8; 256],
     ) -> Result<Pulled, Full>
-        requires stands { Stands lists.old self.old }
+        requires stands { IsStack lists.old self.old }
         requires in_buffer { IsInBuffer (pending lists.old self.old).sources (length bytes.old) }
         requires countable { IsCountable lists.old (next_item (pending lists.old self.old).puts) }
-        ensures stands { Stands lists.new self.new }
+        ensures stands { IsStack lists.new self.new }
         ensures in_buffer { IsInBuffer (pending lists.new self.new).sources (length bytes.new) }
         ensures line_end { IsTrue (is_line_end result) → IsSourceOnTop (innermost self.new) }
         ensures pulls { Pulls self.old.size categories.now bytes.old bytes.new (pending lists.old self.old) (pending lists.new self.new) result }
@@ -658,10 +658,10 @@ impl InputStack {
         bytes: &mut [u8],
         categories: &[u8; 256],
     ) -> Result<Pulled, Full>
-        requires stands { Stands lists.old self.old }
+        requires stands { IsStack lists.old self.old }
         requires in_buffer { IsInBuffer (pending lists.old self.old).sources (length bytes.old) }
         requires countable { IsCountable lists.old (next_item (pending lists.old self.old).puts) }
-        ensures stands { Stands lists.new self.new }
+        ensures stands { IsStack lists.new self.new }
         ensures in_buffer { IsInBuffer (pending lists.new self.new).sources (length bytes.new) }
         ensures line_end { IsTrue (is_line_end result) → IsSourceOnTop (innermost self.new) }
         ensures pulls { Pulls self.old.size categories.now bytes.old bytes.new (pending lists.old self.old) (pending lists.new self.new) result }
@@ -683,7 +683,7 @@ impl InputStack {
     /// Whether the list or the call on top has an item left that is no gap; it may be one that opens a level. Nothing changes.
     #[inline(always)]
     pub fn has_item(&self, lists: &Lists) -> bool
-        requires { Stands lists.now self.now }
+        requires { IsStack lists.now self.now }
         ensures is { result ≡ has_item (pending lists.now self.now).puts }
         ensures next { IsTrue result → IsSome (next_item (pending lists.now self.now).puts) }
     {
@@ -700,7 +700,7 @@ impl InputStack {
     /// Nothing changes.
     #[inline(always)]
     pub fn looks(&self, lists: &Lists, bytes: &[u8], categories: &[u8; 256]) -> Ahead
-        requires stands { Stands lists.now self.now }
+        requires stands { IsStack lists.now self.now }
         requires in_buffer { IsInBuffer (pending lists.now self.now).sources (length bytes.now) }
         ensures { result ≡ looks categories.now bytes.now (pending lists.now self.now) }
     {
@@ -719,15 +719,6 @@ impl InputStack {
         Ahead::End
     }
 
-    /// Whether the next pull gives a token of a list or of the line. Nothing changes.
-    pub fn ready(&self, lists: &Lists, bytes: &[u8], categories: &[u8; 256]) -> bool
-        requires stands { Stands lists.now self.now }
-        requires in_buffer { IsInBuffer (pending lists.now self.now).sources (length bytes.now) }
-        ensures { result ≡ is_ready categories.now bytes.now (pending lists.now self.now) }
-    {
-        is_token(self.looks(lists, bytes, categories))
-    }
-
     // What the level on top gives, of which more is left than gaps; nothing is pending where there is none.
     fn pull_top(
         &mut self,
@@ -737,13 +728,13 @@ impl InputStack {
         opening: bool,
     ) -> Pulled
         requires opening { opening ≡ is_opening (met (next_item (pending lists.old self.old).puts)) }
-        requires stands { Stands lists.old self.old }
+        requires stands { IsStack lists.old self.old }
         requires unfinished { AreUnfinished lists.old (innermost self.old) }
         requires passed { is_top_passed lists.old (innermost self.old) ≡ false }
         requires room { IsTrue opening → length self.old.levels.items + self.old.argument_levels < self.old.size }
         requires countable { IsCountable lists.old (next_item (pending lists.old self.old).puts) }
         requires in_buffer { IsInBuffer (pending lists.old self.old).sources (length bytes.old) }
-        ensures stands { Stands lists.new self.new }
+        ensures stands { IsStack lists.new self.new }
         ensures bytes { length bytes.new ≡ length bytes.old }
         ensures pulls { PullsTop categories.now bytes.old bytes.new (pending lists.old self.old) (pending lists.new self.new) (next_item (pending lists.old self.old).puts) result }
         ensures shares { Shares lists.old lists.new (opened (next_item (pending lists.old self.old).puts)) }
@@ -780,7 +771,7 @@ impl InputStack {
 
     /// Lets all lists go, and with them the stack.
     pub fn close(self, lists: &mut Lists)
-        requires { Stands lists.old self }
+        requires { IsStack lists.old self }
         ensures account { Moves lists.old lists.new (held self) none }
         ensures kept { Keeps lists.old lists.new (held self) }
     {

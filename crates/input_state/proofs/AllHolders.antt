@@ -17,7 +17,7 @@ use Rattle.input_stack.specs.Calls.{Argument, substituted}
 use Rattle.input_stack.specs.CallViews.{IsSettled, cells_in, open_items, open_number, put_of_call}
 use Rattle.input_stack.specs.Rest.{rest}
 use Rattle.input_stack.specs.View.{pending, pending_in, innermost, put_of}
-use Rattle.input_stack.specs.Standing.{AreUnfinished, AreUnfinishedBelow, IsUnfinished}
+use Rattle.input_stack.specs.Stacks.{AreUnfinished, AreUnfinishedBelow, IsUnfinished}
 use Rattle.input_stack.specs.WholeLevel.{WholeLevel}
 use Rattle.input_stack.specs.WholeLevel as level
 use Rattle.input_stack.specs.declared.reader.Reader.{Reader}

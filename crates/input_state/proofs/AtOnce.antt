@@ -16,7 +16,7 @@ use Rattle.input_stack.specs.CallViews.{met_of, opens}
 use Rattle.input_stack.specs.Pending.{Pending, Below}
 use Rattle.input_stack.specs.Pulls.{refused_at}
 use Rattle.input_stack.specs.View.{innermost, pending, held}
-use Rattle.input_stack.specs.Standing.{Stands}
+use Rattle.input_stack.specs.Stacks.{IsStack}
 use Rattle.input_stack.specs.Lasting.{LastsBut}
 use Rattle.input_stack.specs.AtOnce.{PullsAtOnce}
 use Rattle.input_stack.specs.declared.level.Pulled.TheVariants as given_as
@@ -48,7 +48,7 @@ closed_room size (Later n t) p is = refl
 closed_room size Gap p is = refl
 
 -- The levels have handed a token on at once, or nothing has changed.
-module _ (table : List (Option Entry)) (s s' : InputStack) (making : Option Build) (gathered : List Build) (m : Named) (sizes : Sizes) (capacity : ℕ) (sound : IsSound table s making gathered m sizes capacity) (stands : Stands table s') (same : (k : ℕ) → held s' k ≡ held s k) (size : s'.size ≡ s.size) (parameters : s'.parameter_size ≡ s.parameter_size) where
+module _ (table : List (Option Entry)) (s s' : InputStack) (making : Option Build) (gathered : List Build) (m : Named) (sizes : Sizes) (capacity : ℕ) (sound : IsSound table s making gathered m sizes capacity) (stands : IsStack table s') (same : (k : ℕ) → held s' k ≡ held s k) (size : s'.size ≡ s.size) (parameters : s'.parameter_size ≡ s.parameter_size) where
   abbrev before : HeldLists
   before = lists_of table (pending table s) making gathered m sizes
 

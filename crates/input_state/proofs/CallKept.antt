@@ -17,7 +17,7 @@ use Rattle.macro_args.specs.declared.args.Args.{Args}
 use Rattle.macro_args.specs.Args.{args_hold}
 use Rattle.eqtb_save.specs.Holding as eqtb
 use Rattle.equivalents.specs.Holding.{list_of, lists_held}
-use Rattle.input_stack.specs.Puts.{Put, Item, Text, used_arguments, standing_arguments, when_some}
+use Rattle.input_stack.specs.Puts.{Put, Item, Text, used_arguments, open_arguments, when_some}
 use Rattle.input_stack.specs.Calls.{Argument, call_put, substituted, body_of}
 use Rattle.input_stack.specs.CallViews.{argument_in, arguments_in, Shares}
 use Rattle.input_stack.specs.Pushes.{pushed_holds, call_refused}
@@ -26,7 +26,7 @@ use Rattle.input_stack.specs.Pending.{Pending, Below, end_token_lists, put, list
 use Rattle.input_stack.specs.View.{pending, held, innermost}
 use Rattle.input_stack.proofs.ListsEnded.{arguments_are}
 use Rattle.input_stack.proofs.Wholes.{arguments_count}
-use Rattle.input_stack.specs.Standing.{Stands}
+use Rattle.input_stack.specs.Stacks.{IsStack}
 use Rattle.input_stack.specs.Lasting.{Lasts}
 use Rattle.input_stack.specs.declared.stack.InputStack.{InputStack}
 use Rattle.input_stack.proofs.Helds.{others}
@@ -58,22 +58,22 @@ used_one : (xs : List Item) (n : ℕ) → when_some xs n ≤ n
 used_one [] n = omega arith
 used_one (x ∷ xs) n = omega arith
 
-front_within : (ps : List Put) → used_arguments ps ≤ standing_arguments ps
+front_within : (ps : List Put) → used_arguments ps ≤ open_arguments ps
 front_within [] = omega arith
 front_within (p ∷ ps) = omega (arith, front_within ps, used_one p.items (length p.arguments), sum_by-cons (λ (x : Put). when_some x.items (length x.arguments)) p ps, sum_by-cons (λ (x : Put). length x.arguments) p ps)
 
-below_within : (bs : List Below) → sum_by (λ (b : Below). used_arguments b.puts) bs ≤ sum_by (λ (b : Below). standing_arguments b.puts) bs
+below_within : (bs : List Below) → sum_by (λ (b : Below). used_arguments b.puts) bs ≤ sum_by (λ (b : Below). open_arguments b.puts) bs
 below_within [] = omega arith
-below_within (b ∷ bs) = omega (arith, below_within bs, front_within b.puts, sum_by-cons (λ (x : Below). used_arguments x.puts) b bs, sum_by-cons (λ (x : Below). standing_arguments x.puts) b bs)
+below_within (b ∷ bs) = omega (arith, below_within bs, front_within b.puts, sum_by-cons (λ (x : Below). used_arguments x.puts) b bs, sum_by-cons (λ (x : Below). open_arguments x.puts) b bs)
 
-pub parameters_within : (table : List (Option Entry)) (s : InputStack) → Stands table s → used_parameters (pending table s) ≤ s.parameter_size
+pub parameters_within : (table : List (Option Entry)) (s : InputStack) → IsStack table s → used_parameters (pending table s) ≤ s.parameter_size
 parameters_within table s stands =
     omega (arith, front_within (pending table s).puts, below_within (pending table s).sources, arguments_are table (innermost s), arguments_count s stands.fits, stands.fits.few)
 
 -- THE SHARE
 
 module _ (old mid : List (Option Entry)) (s : InputStack) (bs : List Build) (m : Named) (k : ℕ) (shared : IsShared old s bs m) (shares : Shares old mid (holds k)) where
-  pub shared_stands : Stands mid s × (pending mid s ≡ pending old s)
+  pub shared_stands : IsStack mid s × (pending mid s ≡ pending old s)
   shared_stands =
       others s old mid none (holds k) shared.stands (λ h. omega (arith, shared.counted h)) (λ h. omega (arith, shares.holders h))
       (record { tokens = λ h l. shares.tokens h; places = λ h l. shares.places h })
@@ -117,7 +117,7 @@ module _ (old mid : List (Option Entry)) (s : InputStack) (making : Option Build
 
 -- THE BODY IS PUT
 
-module _ (old mid new : List (Option Entry)) (s t : InputStack) (making : Option Build) (gathered : List Build) (m : Named) (sizes : Sizes) (capacity : ℕ) (sound : IsSound old s making gathered m sizes capacity) (body : ListRef) (is_meant : 0 < eqtb.held m.table (id_of body)) (shares : Shares old mid (holds (id_of body))) (args : Args) (few : args.count ≡ 0) (free : (h : ℕ) → args_hold args h ≡ 0) (stands : Stands new t) (after : pending new t ≡ put (call_put (id_of body) (tokens_at mid (id_of body)) (arguments_in mid args)) (pending mid s)) (moves : Moves mid new (λ h. pushed_holds body args h + held s h) (held t)) (keeps : Keeps mid new (λ h. pushed_holds body args h + held s h)) (lasts : Lasts mid new) (size : t.size ≡ s.size) (parameters : t.parameter_size ≡ s.parameter_size) where
+module _ (old mid new : List (Option Entry)) (s t : InputStack) (making : Option Build) (gathered : List Build) (m : Named) (sizes : Sizes) (capacity : ℕ) (sound : IsSound old s making gathered m sizes capacity) (body : ListRef) (is_meant : 0 < eqtb.held m.table (id_of body)) (shares : Shares old mid (holds (id_of body))) (args : Args) (few : args.count ≡ 0) (free : (h : ℕ) → args_hold args h ≡ 0) (stands : IsStack new t) (after : pending new t ≡ put (call_put (id_of body) (tokens_at mid (id_of body)) (arguments_in mid args)) (pending mid s)) (moves : Moves mid new (λ h. pushed_holds body args h + held s h) (held t)) (keeps : Keeps mid new (λ h. pushed_holds body args h + held s h)) (lasts : Lasts mid new) (size : t.size ≡ s.size) (parameters : t.parameter_size ≡ s.parameter_size) where
   body_tokens : List Token
   body_tokens = body_of (tokens_at old (id_of body))
 
@@ -158,11 +158,11 @@ back_held old mid new s t bs m body back shared shares same moves =
     let here : 0 < holders_at new k = omega (arith, moves k, shares.holders k, shared.counted k, holds_itself k) in
     subst (λ (r : ListRef). IsHeld new (id_of r)) (sym same) here
 
-module _ (old mid new last : List (Option Entry)) (s t : InputStack) (making : Option Build) (gathered : List Build) (m : Named) (sizes : Sizes) (capacity : ℕ) (sound : IsSound old s making gathered m sizes capacity) (body back : ListRef) (shares : Shares old mid (holds (id_of body))) (same : back ≡ body) (stands : Stands new t) (after : pending new t ≡ end_token_lists (pending mid s)) (moves : Moves mid new (held s) (held t)) (keeps : Keeps mid new (held s)) (lasts : Lasts mid new) (gives : Moves new last (holds (id_of back)) none) (leaves : Keeps new last (holds (id_of back))) (lets : Lasts new last) (size : t.size ≡ s.size) (parameters : t.parameter_size ≡ s.parameter_size) where
+module _ (old mid new last : List (Option Entry)) (s t : InputStack) (making : Option Build) (gathered : List Build) (m : Named) (sizes : Sizes) (capacity : ℕ) (sound : IsSound old s making gathered m sizes capacity) (body back : ListRef) (shares : Shares old mid (holds (id_of body))) (same : back ≡ body) (stands : IsStack new t) (after : pending new t ≡ end_token_lists (pending mid s)) (moves : Moves mid new (held s) (held t)) (keeps : Keeps mid new (held s)) (lasts : Lasts mid new) (gives : Moves new last (holds (id_of back)) none) (leaves : Keeps new last (holds (id_of back))) (lets : Lasts new last) (size : t.size ≡ s.size) (parameters : t.parameter_size ≡ s.parameter_size) where
   own : (h : ℕ) → holds (id_of back) h ≡ holds (id_of body) h
   own h = ap (λ (r : ListRef). holds (id_of r) h) same
 
-  last_stands : Stands last t × (pending last t ≡ pending new t)
+  last_stands : IsStack last t × (pending last t ≡ pending new t)
   last_stands = others t new last (holds (id_of back)) none stands (λ h. omega (arith, own h, moves h, shares.holders h, sound.shared.counted h)) gives leaves
 
   moves_now : Moves old last (held s) (held t)

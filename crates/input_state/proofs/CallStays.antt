@@ -23,7 +23,7 @@ use Rattle.macro_call.specs.Listed.{AreListed}
 use Rattle.macro_call.specs.Modes.{par_mode}
 use Rattle.macro_call.specs.PlainScans.{Scan}
 use Rattle.macro_call.specs.Scans as scans
-use Rattle.macro_call.specs.Stages.{Stage, Stands, stage_of}
+use Rattle.macro_call.specs.Stages.{Stage, IsStage, stage_of}
 use Rattle.tex_defs.specs.declared.Meaning.{Meaning}
 use Rattle.plain_tokens.specs.Meanings.{name_meaning}
 use Rattle.equivalents.specs.Holding.{list_of}
@@ -114,7 +114,7 @@ module _ (old new : List (Option Entry)) (scan : ArgScan) (s : Stay old new (sca
     in_place_stays None is h = (h.0, h.1, subst (λ (ts : List Token). 0 < length ts) (sym same_delimiter) h.2)
     in_place_stays (Some p) is h = (
       building_stays p is h.0,
-      subst (λ (ds : List Token). Stands ds (stage_of new p)) (sym same_delimiter) (subst (λ (st : Stage). Stands (delimiter_at old id scan.cursor) st) (sym (same_text p is)) h.1),
+      subst (λ (ds : List Token). IsStage ds (stage_of new p)) (sym same_delimiter) (subst (λ (st : Stage). IsStage (delimiter_at old id scan.cursor) st) (sym (same_text p is)) h.1),
       h.2,
       (on_stays p.next h.3.0, h.3.1),
     )

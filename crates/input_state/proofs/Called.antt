@@ -24,7 +24,7 @@ use Rattle.macro_call.specs.declared.ask.CallAsk.TheVariants as ask
 use Rattle.macro_call.specs.Stages.{stage_of}
 use Rattle.macro_call.specs.Modes.{par_mode}
 use Rattle.macro_call.specs.PlainScans.{Scan, first_scan, resume_scan, with_work, places_left}
-use Rattle.macro_call.specs.Scans.{Answers, asks_brace, IsCutShort, IsSound as IsStanding, IsInPlace, scan_of, scan_holds}
+use Rattle.macro_call.specs.Scans.{Answers, asks_brace, IsCutShort, IsSound as IsSoundScan, IsInPlace, scan_of, scan_holds}
 use Rattle.macro_call.proofs.Resumed.{has_lists}
 use Rattle.eqtb_save.specs.Table.{Table}
 use Rattle.equivalents.specs.Groups.{Groups}
@@ -35,7 +35,7 @@ use Rattle.input_state.specs.HeldLists.{HeldLists, words_held}
 use Rattle.input_state.specs.Macros.{list_at}
 use Rattle.input_state.specs.Calls.{macro_text, text_of, begun_lists}
 use Rattle.input_state.specs.Callings.{Calling, NotCalling, Gathering, Stopped, Gathered, asks_where, scan_asks, call_lists, scan_lists}
-use Rattle.input_state.specs.CallFeeds.{Says, Stands, Comes, Feeds, CutTo, CutShort, InGrowth, Between, growth, scan_growth, IsTaking}
+use Rattle.input_state.specs.CallFeeds.{Says, IsAnswer, Comes, Feeds, CutTo, CutShort, InGrowth, Between, growth, scan_growth, IsTaking}
 use Rattle.input_state.specs.declared.answer.CallEnd.TheVariants as end
 use Rattle.input_state.specs.Recalls.{Recalls}
 use Rattle.input_state.specs.declared.gathering.Gathering as code
@@ -82,15 +82,15 @@ begun_full v text f is full = ap (λ (n : ℕ). refused v.sizes (memory n (words
 -- WHAT A SCANNER ANSWERS
 
 -- The scanner stands over the list of this macro, which stays.
-module _ (table after : List (Option Entry)) (id : ℕ) (name : Name) (scan next : ArgScan) (t : Token) (sound : IsStanding table id scan) where
+module _ (table after : List (Option Entry)) (id : ℕ) (name : Name) (scan next : ArgScan) (t : Token) (sound : IsSoundScan table id scan) where
   -- it asks for what it answers
   asking : (asks : CallAsk) → Answers table after id scan next t asks → scan_asks (scan_of after next) ≡ asks_where (asks_brace asks)
   asking asks a = ap asks_where a.braced
 
   -- and stands so
   standing_so : (asks : CallAsk) → asks_where (asks_brace asks) ≡ asks → Answers table after id scan next t asks → Says asks (scan_of after next) (resume_scan (tokens_at table id) (scan_of table scan) (Tok t ∷ [])) →
-      Stands (tokens_at table id) t (scan_asks (scan_of after next)) (scan_of table scan) (scan_of after next)
-  standing_so asks is a says = subst (λ (b : CallAsk). Stands (tokens_at table id) t b (scan_of table scan) (scan_of after next)) (sym (asking asks a ∙ is)) (record { says = says; args = a.args; work = a.work })
+      IsAnswer (tokens_at table id) t (scan_asks (scan_of after next)) (scan_of table scan) (scan_of after next)
+  standing_so asks is a says = subst (λ (b : CallAsk). IsAnswer (tokens_at table id) t b (scan_of table scan) (scan_of after next)) (sym (asking asks a ∙ is)) (record { says = says; args = a.args; work = a.work })
 
   more_comes : Answers table after id scan next t ask.More → Comes (tokens_at table id) t name (scan_of table scan) (Gathering name (scan_of after next))
   more_comes a = (
@@ -128,7 +128,7 @@ module _ (table after : List (Option Entry)) (id : ℕ) (name : Name) (scan next
       | inr b ↦ Between (record {
         none = ap (λ (p : Option Present). option_map (λ q. stage_of after q) p) b.none;
         mode = ap par_mode b.mode;
-        settled = b.settled;
+        unbraced = b.unbraced;
         args = b.args;
         due = b.due;
         same = λ fed. b.same fed ∙ ap (λ (ts : List Token). arguments (par_mode next.mode) (args_in after next.args) (places_left (args_in after next.args) (drop next.cursor.index ts)) fed) (c.kept.tokens id sound.outside);
@@ -148,12 +148,12 @@ growth_is : (text : Name → List Token) (here : List Token) (t : Token) (name :
 growth_is text here t name scan old was same = ap (growth text t) was ∙ ap (λ (ts : List Token). scan_growth ts t scan) (sym same)
 
 -- over the list of its name
-pub same_sound : (table : List (Option Entry)) (m : Table) (name : Name) (id : ℕ) (scan : ArgScan) → list_of (name_meaning m.groups.now.meanings name) ≡ Some id → IsCall table m (call.Gathers name scan) → IsStanding table id scan
-same_sound table m name id scan list is = subst (λ (k : ℕ). IsStanding table k scan) (same_Some is.id id (sym is.list ∙ list)) is.sound
+pub same_sound : (table : List (Option Entry)) (m : Table) (name : Name) (id : ℕ) (scan : ArgScan) → list_of (name_meaning m.groups.now.meanings name) ≡ Some id → IsCall table m (call.Gathers name scan) → IsSoundScan table id scan
+same_sound table m name id scan list is = subst (λ (k : ℕ). IsSoundScan table k scan) (same_Some is.id id (sym is.list ∙ list)) is.sound
 
 -- What the scanner of a call answers is what the call comes to.
 module _ (table after : List (Option Entry)) (m : Table) (k : code.Gathering) (id : ℕ) (name : Name) (scan next : ArgScan) (t : Token) (is : IsCall table m k) (was : k ≡ call.Gathers name scan) (list : list_of (name_meaning m.groups.now.meanings name) ≡ Some id) where
-  standing : IsStanding table id scan
+  standing : IsSoundScan table id scan
   standing = same_sound table m name id scan list (subst (IsCall table m) was is)
 
   said : (a b : CallAsk) → a ≡ b → Answers table after id scan next t a → Answers table after id scan next t b
@@ -194,7 +194,7 @@ no_present : (table : List (Option Entry)) (o : Option Present) → option_map (
 no_present table None is = refl
 no_present table (Some p) is = absurd (none-some (stage_of table p) (sym is))
 
-in_front : (table : List (Option Entry)) (id : ℕ) (scan : ArgScan) → IsStanding table id scan → (scan_of table scan).present ≡ None → ((scan_of table scan).args ≡ []) × (0 < length (start_of (drop (scan_of table scan).at (tokens_at table id))))
+in_front : (table : List (Option Entry)) (id : ℕ) (scan : ArgScan) → IsSoundScan table id scan → (scan_of table scan).present ≡ None → ((scan_of table scan).args ≡ []) × (0 < length (start_of (drop (scan_of table scan).at (tokens_at table id))))
 in_front table id scan sound none =
     let h = subst (IsInPlace table id scan) (no_present table scan.present none) sound.in_place in
     (ap (λ (n : ℕ). map (λ cell. cell_tokens table cell) (take n scan.args.lists)) h.0, h.2)
@@ -203,7 +203,7 @@ in_front table id scan sound none =
 split_words : (v : HeldLists) → words_held v ≡ words_held (record v { call = NotCalling }) + lists_words (call_lists v.call)
 split_words v = omega (arith, sum_by-append list_words (call_lists v.call) v.builds, sum_by-append list_words (call_lists NotCalling) v.builds)
 
-module _ (table : List (Option Entry)) (id : ℕ) (scan : ArgScan) (sound : IsStanding table id scan) (name : Name) (v : HeldLists) (was : v.call ≡ Gathering name (scan_of table scan)) (t : Token) (new : Calling) (used size : ℕ) (all : used + lists_words (call_lists v.call) ≡ words_held v + lists_words (call_lists new)) (before : words_held v ≤ size) (within : used ≤ size) where
+module _ (table : List (Option Entry)) (id : ℕ) (scan : ArgScan) (sound : IsSoundScan table id scan) (name : Name) (v : HeldLists) (was : v.call ≡ Gathering name (scan_of table scan)) (t : Token) (new : Calling) (used size : ℕ) (all : used + lists_words (call_lists v.call) ≡ words_held v + lists_words (call_lists new)) (before : words_held v ≤ size) (within : used ≤ size) where
   fits_one : Comes (tokens_at table id) t name (scan_of table scan) new → words_held v + length (scan_growth (tokens_at table id) t (scan_of table scan)) ≤ size
   fits_one comes =
       let w = words_held (record v { call = NotCalling }) in
@@ -236,7 +236,7 @@ fed_full (Err f) table s making gathered m sizes capacity sound is = full_now ta
 
 -- THE SCANNER STANDS OTHERWISE
 
-pub stands_recalls : (table : List (Option Entry)) (m : Table) (name : Name) (scan next : ArgScan) → IsCall table m (call.Gathers name scan) → ((t : List (Option Entry)) (macro : ℕ) → IsStanding t macro scan → IsStanding t macro next) → scan_holds next ≡ scan_holds scan → Recalls table table m (call.Gathers name scan) (call.Gathers name next)
+pub stands_recalls : (table : List (Option Entry)) (m : Table) (name : Name) (scan next : ArgScan) → IsCall table m (call.Gathers name scan) → ((t : List (Option Entry)) (macro : ℕ) → IsSoundScan t macro scan → IsSoundScan t macro next) → scan_holds next ≡ scan_holds scan → Recalls table table m (call.Gathers name scan) (call.Gathers name next)
 stands_recalls table m name scan next is sound same =
     let here : (h : ℕ) → scan_holds next h ≡ scan_holds scan h = λ h. ap (λ (f : ℕ → ℕ). f h) same in
     record {

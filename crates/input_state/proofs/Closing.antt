@@ -13,13 +13,13 @@ use Rattle.save_stack.specs.Groups.{below}
 use Rattle.save_stack.specs.Closing.{kind_last}
 use Rattle.equivalents.specs.Locations.{V}
 use Rattle.equivalents.specs.Tables.{Tables}
-use Rattle.equivalents.specs.Groups.{Groups, depth, closed, uncovered, tokens_after, kind_of}
+use Rattle.equivalents.specs.Groups.{Groups, depth, closed, uncovered, tokens_after, current_group}
 use Rattle.equivalents.specs.Holding.{lists_of_table, lists_of_saved, lists_of_entries, lists_held, lists_outside}
 use Rattle.eqtb_save.specs.Table.{Table, begun_by}
 use Rattle.eqtb_save.specs.Holding as eqtb
 use Rattle.input_stack.specs.Pending.{Pending, times}
 use Rattle.input_stack.specs.View.{pending}
-use Rattle.input_stack.specs.Standing.{Stands}
+use Rattle.input_stack.specs.Stacks.{IsStack}
 use Rattle.input_stack.specs.declared.stack.InputStack.{InputStack}
 use Rattle.input_stack.proofs.Helds.{others}
 use Rattle.input_state.specs.HeldLists.{HeldLists}
@@ -83,7 +83,7 @@ has_last (k ∷ []) more = λ e. cc
 has_last (k ∷ l ∷ ks) more = has_last (l ∷ ks) (omega arith)
 
 abbrev group_gone : Table → Table
-group_gone m = record m { groups = closed m.groups; closing = tokens_after m.groups; ending = kind_of m.groups }
+group_gone m = record m { groups = closed m.groups; closing = tokens_after m.groups; ending = current_group m.groups }
 
 by_kind : (m : Table) (o : Option GroupKind) → (o ≡ None → ⊥) → begun_by o m ≡ record m { groups = closed m.groups; closing = tokens_after m.groups; ending = o }
 by_kind m None not = absurd (not refl)
@@ -93,10 +93,10 @@ module _ (old new : List (Option Entry)) (s : InputStack) (making : Option Build
     (sound : IsSound old s making items (named m k) sizes capacity) (v : HeldLists) (is : lists_of old (pending old s) making items (named m k) sizes ≡ v)
     (deep : 0 < depth v.groups) (calls : v.call ≡ NotCalling)
     (outside : (h : ℕ) → is_listed (lists_outside m.groups.outer) h ≡ true → is_listed (lists_held m.groups) h ≡ true)
-    (after : n ≡ begun_by (kind_of m.groups) m) (moves : Moves old new (eqtb.held m) (eqtb.held n)) (keeps : Keeps old new (eqtb.held m))
+    (after : n ≡ begun_by (current_group m.groups) m) (moves : Moves old new (eqtb.held m) (eqtb.held n)) (keeps : Keeps old new (eqtb.held m))
     (lasting : Lasts old new) (size : length new ≡ length old) where
   gone : n ≡ group_gone m
-  gone = after ∙ by_kind m (kind_of m.groups) (has_last m.groups.kinds (subst (λ (w : HeldLists). 0 < depth w.groups) (sym is) deep))
+  gone = after ∙ by_kind m (current_group m.groups) (has_last m.groups.kinds (subst (λ (w : HeldLists). 0 < depth w.groups) (sym is) deep))
 
   held_before : (h : ℕ) → 0 < eqtb.held n h → 0 < eqtb.held m h
   held_before h more = was_held m.groups outside h (subst (λ (t : Table). 0 < eqtb.held t h) gone more)
@@ -104,7 +104,7 @@ module _ (old new : List (Option Entry)) (s : InputStack) (making : Option Build
   still_none : (h : ℕ) → eqtb.held m h ≡ 0 → eqtb.held n h ≡ 0
   still_none h none = none_then (eqtb.held m h) (eqtb.held n h) (held_before h) none
 
-  stand : Stands new s × (pending new s ≡ pending old s)
+  stand : IsStack new s × (pending new s ≡ pending old s)
   stand = others s old new (eqtb.held m) (eqtb.held n) sound.shared.stands (λ h. omega (arith, sound.shared.counted h)) moves keeps
 
   apart_now : IsApart (puts_in (pending old s)) (all_builds making items) (named n k)
@@ -142,13 +142,13 @@ module _ (old new : List (Option Entry)) (s : InputStack) (making : Option Build
   }
 
   pub closed_view : lists_of new (pending new s) making items (named n k) sizes ≡
-      record v { groups = closed v.groups; closing = tokens_after v.groups; ending = kind_of v.groups; lists = texts new }
+      record v { groups = closed v.groups; closing = tokens_after v.groups; ending = current_group v.groups; lists = texts new }
   closed_view =
       let p = pending old s in
       moved_view old new s (named n k) sizes making items moved_now
       ∙ ap (λ (q : Pending). record (lists_of old q making items (named n k) sizes) { lists = texts new }) stand.1
       ∙ ap (λ (t : Table). record (lists_of old p making items (named t k) sizes) { lists = texts new }) gone
-      ∙ ap (λ (w : HeldLists). record w { groups = closed w.groups; closing = tokens_after w.groups; ending = kind_of w.groups; lists = texts new }) is
+      ∙ ap (λ (w : HeldLists). record w { groups = closed w.groups; closing = tokens_after w.groups; ending = current_group w.groups; lists = texts new }) is
 
   pub closed_macros : KeepsLists (lists_held n.groups) (all_fronts new (pending new s)) v.lists (texts new)
   closed_macros = macros_moved old new s (named n k) sizes (all_builds making items) v.lists moved_now (ap (λ (w : HeldLists). w.lists) is)

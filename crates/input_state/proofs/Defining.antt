@@ -25,13 +25,13 @@ use Rattle.eqtb_save.specs.Holding as eqtb
 use Rattle.eqtb_save.specs.Holding.{val_holds}
 use Rattle.input_stack.specs.Pending.{Pending, times}
 use Rattle.input_stack.specs.View.{pending, held}
-use Rattle.input_stack.specs.Standing.{Stands}
+use Rattle.input_stack.specs.Stacks.{IsStack}
 use Rattle.input_stack.specs.declared.stack.InputStack.{InputStack}
 use Rattle.input_stack.proofs.Helds.{others}
 use Rattle.input_stack.proofs.Kept.{holds_itself}
 use Rattle.input_state.specs.HeldLists.{HeldLists, puts_held, first_list}
 use Rattle.input_state.specs.Macros.{list_at, is_shared, KeepsLists}
-use Rattle.input_state.specs.Standing.{SetsList}
+use Rattle.input_state.specs.AtLocations.{SetsList}
 use Rattle.input_state.specs.Calls.{Defines}
 use Rattle.input_state.specs.HeldViews.{Named, named, call_holds, calling_of, IsCall, text, made_text, texts, fronts, covers, lists_of, all_builds, built, bodies, cells_of, puts_in, AreFronts, IsApart, IsDefined, IsShared, IsSound}
 use Rattle.input_state.specs.Callings.{NotCalling}
@@ -86,7 +86,7 @@ module _ (old new : List (Option Entry)) (s : InputStack) (m n : Named) (b : Bui
   has_it : 0 < eqtb.held n.table (build_id b)
   has_it = omega (arith, stored (build_id b), value_holds (build_id b), holds_itself (build_id b))
 
-  stand : Stands new s × (pending new s ≡ pending old s)
+  stand : IsStack new s × (pending new s ≡ pending old s)
   stand = others s old new (λ h. val_holds value h + eqtb.held m.table h) (eqtb.held n.table) shared.stands (λ h. omega (arith, shared.counted h, value_holds h, built_cons b bs h)) assigned.moves assigned.keeps
 
   apart_now : IsApart (puts_in (pending old s)) bs n

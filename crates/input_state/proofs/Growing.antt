@@ -19,7 +19,7 @@ use Rattle.input_state.specs.Macros.{list_at, is_shared, KeepsLists}
 use Rattle.input_state.specs.Calls.{begun_lists}
 use Rattle.input_state.specs.Callings.{Calling, NotCalling, Gathering, Stopped, Gathered, scan_asks, ended_asks, last_first, scan_lists, call_lists}
 use Rattle.macro_call.specs.declared.ask.CallAsk.{CallAsk}
-use Rattle.input_state.specs.CallFeeds.{Comes, Stands, scan_growth}
+use Rattle.input_state.specs.CallFeeds.{Comes, IsAnswer, scan_growth}
 
 -- MACROS THAT KEEP THEIR LISTS
 
@@ -120,7 +120,7 @@ work_words : (o : Option (List Token)) (ts : List Token) → o ≡ Some ts → l
 work_words o ts is = ap (λ (p : Option (List Token)). lists_words (option_to_list p)) is ∙ omega (arith, sum_by-cons list_words ts [])
 
 -- what the lists of a call take then
-pub stood_words : (text : List Token) (t : Token) (answer : CallAsk) (scan next : Scan) → Stands text t answer scan next →
+pub stood_words : (text : List Token) (t : Token) (answer : CallAsk) (scan next : Scan) → IsAnswer text t answer scan next →
     lists_words (scan_lists next) ≡ lists_words (option_to_list (work_in (resume_scan text scan (Tok t ∷ [])))) + lists_words (last_first (arguments_in (resume_scan text scan (Tok t ∷ []))) [])
 stood_words text t answer scan next is =
     omega (arith, scan_words next, ap (λ (o : Option (List Token)). lists_words (option_to_list o)) is.work, ap (λ (us : List (List Token)). lists_words (last_first us [])) is.args)

@@ -21,7 +21,7 @@ use Rattle.input_state.specs.Counted.{HaveHolders, AreCounted}
 use Rattle.input_state.specs.Macros.{KeepsLists}
 use Rattle.input_state.specs.Calls.{Defines, when_called, when_put}
 use Rattle.input_state.specs.HeldAppends.{HeldShort}
-use Rattle.input_state.specs.Standing.{SetsList, AppendsShort}
+use Rattle.input_state.specs.AtLocations.{SetsList, AppendsShort}
 use Rattle.input_state.proofs.Files.{keeps_twice}
 use Rattle.input_state.proofs.Rooms.{all_puts_are, level_is, rooms_length}
 

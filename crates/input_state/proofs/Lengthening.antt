@@ -29,7 +29,7 @@ use Rattle.input_state.specs.HeldAppends.{HeldShort, held_appended, held_appende
 use Rattle.input_state.specs.HeldLists.{HeldLists, words_held, first_list}
 use Rattle.input_state.specs.HeldViews.{Named, calling_of, fronts, covers, text, made_text, texts, lists_of, all_builds, built, IsShared, IsSound}
 use Rattle.input_state.specs.Macros.{KeepsLists}
-use Rattle.input_state.specs.Standing.{list_number, numbered_tokens, standing_tokens, appended, appended_made}
+use Rattle.input_state.specs.AtLocations.{list_number, numbered_tokens, location_tokens, appended, appended_made}
 use Rattle.input_state.proofs.ListViews.{held_lists, first_view, made_view, macros_view, reverse_push}
 use Rattle.input_state.proofs.Sharing.{Changed, built_cons, built_append, text_at}
 use Rattle.input_state.proofs.Copying.{change_nothing}
@@ -50,15 +50,15 @@ build_apart table stack xs ys a b m shared is =
     omega (arith, shared.apart.sole (build_id b), built_cons a (xs ++ b ∷ ys) (build_id b), built_append xs (b ∷ ys) (build_id b), built_cons b ys (build_id b), holds_itself (build_id b), ap (λ (k : ℕ). built (a ∷ []) k) is, built_cons a [] (build_id b), built_cons a [] (build_id a), holds_itself (build_id a))
 
 -- the tokens of the list that stands at a location
-pub standing_text : (table : List (Option Entry)) (t : Table) (l : Loc) (id : ℕ) (v : HeldLists) → list_number t.groups l ≡ Some id → texts table ≡ v.lists → t.groups ≡ v.groups → tokens_at table id ≡ standing_tokens v.lists v.groups l
+pub standing_text : (table : List (Option Entry)) (t : Table) (l : Loc) (id : ℕ) (v : HeldLists) → list_number t.groups l ≡ Some id → texts table ≡ v.lists → t.groups ≡ v.groups → tokens_at table id ≡ location_tokens v.lists v.groups l
 standing_text table t l id v is lists groups =
     sym (text_at table id)
     ∙ ap (numbered_tokens (texts table)) (sym is)
-    ∙ ap (λ (g : Groups). standing_tokens (texts table) g l) groups
-    ∙ ap (λ (ls : List (List Token)). standing_tokens ls v.groups l) lists
+    ∙ ap (λ (g : Groups). location_tokens (texts table) g l) groups
+    ∙ ap (λ (ls : List (List Token)). location_tokens ls v.groups l) lists
 
 -- they are copied as they stand
-pub copied_text : (table : List (Option Entry)) (t : Table) (l : Loc) (id : ℕ) (from : Cursor) (v : HeldLists) → list_number t.groups l ≡ Some id → from.index ≡ 0 → texts table ≡ v.lists → t.groups ≡ v.groups → map (changed change.Nothing t.groups.now) (rest_at table id from) ≡ standing_tokens v.lists v.groups l
+pub copied_text : (table : List (Option Entry)) (t : Table) (l : Loc) (id : ℕ) (from : Cursor) (v : HeldLists) → list_number t.groups l ≡ Some id → from.index ≡ 0 → texts table ≡ v.lists → t.groups ≡ v.groups → map (changed change.Nothing t.groups.now) (rest_at table id from) ≡ location_tokens v.lists v.groups l
 copied_text table t l id from v is first lists groups =
     change_nothing t.groups.now (rest_at table id from) ∙ ap (λ (n : ℕ). drop n (tokens_at table id)) first ∙ standing_text table t l id v is lists groups
 
@@ -74,11 +74,11 @@ none_appended : (lists : List (List Token)) → appended [] lists ≡ lists
 none_appended [] = refl
 none_appended (ts ∷ lists) = ap (λ (us : List Token). us ∷ lists) (append-nil ts)
 
-pub adds_nothing : (v : HeldLists) (l : Loc) → list_number v.groups l ≡ None → v ≡ record v { builds = appended (standing_tokens v.lists v.groups l) v.builds }
+pub adds_nothing : (v : HeldLists) (l : Loc) → list_number v.groups l ≡ None → v ≡ record v { builds = appended (location_tokens v.lists v.groups l) v.builds }
 adds_nothing v l none =
     ap (λ (us : List (List Token)). let x : HeldLists = record v { builds = us } in x) (sym (ap (λ (o : Option ℕ). appended (numbered_tokens v.lists o) v.builds) none ∙ none_appended v.builds))
 
-pub adds_none : (v : HeldLists) (l : Loc) → list_number v.groups l ≡ None → length (standing_tokens v.lists v.groups l) ≡ 0
+pub adds_none : (v : HeldLists) (l : Loc) → list_number v.groups l ≡ None → length (location_tokens v.lists v.groups l) ≡ 0
 adds_none v l none = ap (λ (o : Option ℕ). length (numbered_tokens v.lists o)) none
 
 -- REFUSALS

@@ -21,7 +21,7 @@ use Rattle.eqtb_save.specs.Holding as eqtb
 use Rattle.eqtb_save.specs.Holding.{val_holds}
 use Rattle.input_stack.specs.Pending.{Pending, times}
 use Rattle.input_stack.specs.View.{pending}
-use Rattle.input_stack.specs.Standing.{Stands}
+use Rattle.input_stack.specs.Stacks.{IsStack}
 use Rattle.input_stack.specs.declared.stack.InputStack.{InputStack}
 use Rattle.input_stack.proofs.Helds.{others}
 use Rattle.input_state.specs.HeldLists.{HeldLists}
@@ -96,7 +96,7 @@ module _ (old mid new : List (Option Entry)) (s : InputStack) (m n : Named) (mak
   lasts_all : (h : ℕ) → 0 < holders_at new h → tokens_at new h ≡ tokens_at old h
   lasts_all h some = assigned.lasting.tokens h some ∙ still_kept.tokens h (was_held h some)
 
-  stand : Stands new s × (pending new s ≡ pending old s)
+  stand : IsStack new s × (pending new s ≡ pending old s)
   stand = others s old new (eqtb.held m.table) (eqtb.held n.table) sound.shared.stands (λ h. omega (arith, sound.shared.counted h)) moves_all keeps_all
 
   apart_now : IsApart (puts_in (pending old s)) bs n

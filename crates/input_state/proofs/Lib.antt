@@ -26,7 +26,7 @@ pub mod Opening
 pub mod Calling
 pub mod SharedPut
 pub mod CallKept
-pub mod StandingPut
+pub mod LocationPut
 pub mod PutItems
 pub mod PutKept
 pub mod Assigning

@@ -13,7 +13,7 @@ use Rattle.equivalents.specs.Holding.{lists_held}
 use Rattle.input_stack.specs.Puts.{Put, without_ended}
 use Rattle.input_stack.specs.Pending.{Pending, end_token_lists, open_over}
 use Rattle.input_stack.specs.View.{pending, held}
-use Rattle.input_stack.specs.Standing.{Stands}
+use Rattle.input_stack.specs.Stacks.{IsStack}
 use Rattle.input_stack.specs.Lasting.{Lasts}
 use Rattle.input_stack.specs.declared.stack.InputStack.{InputStack}
 use Rattle.input_state.specs.HeldLists.{HeldLists, Covered, opened_over}
@@ -27,7 +27,7 @@ use Rattle.input_state.proofs.Sharing.{Moved}
 use Rattle.input_state.proofs.ListViews.{moved_view, macros_moved}
 use Rattle.input_state.proofs.Sounds.{levels_moved, levels_sound, lasts_none}
 
-module _ (old new : List (Option Entry)) (s t : InputStack) (making : Option Build) (gathered : List Build) (m : Named) (sizes : Sizes) (capacity : ℕ) (sound : IsSound old s making gathered m sizes capacity) (stands : Stands new t) (moves : Moves old new (held s) (held t)) (keeps : Keeps old new (held s)) (lasts : Lasts old new) (size : t.size ≡ s.size) (parameters : t.parameter_size ≡ s.parameter_size) (v : HeldLists) (is : lists_of old (pending old s) making gathered m sizes ≡ v) (settled_already : plain.without_ended v.puts ≡ v.puts) (id : Option InId) (line : Line) (r : Result Unit Full) (ok : OnOk r (pending new t ≡ open_over id line (end_token_lists (pending old s)))) (err : OnErr r (pending new t ≡ end_token_lists (pending old s))) where
+module _ (old new : List (Option Entry)) (s t : InputStack) (making : Option Build) (gathered : List Build) (m : Named) (sizes : Sizes) (capacity : ℕ) (sound : IsSound old s making gathered m sizes capacity) (stands : IsStack new t) (moves : Moves old new (held s) (held t)) (keeps : Keeps old new (held s)) (lasts : Lasts old new) (size : t.size ≡ s.size) (parameters : t.parameter_size ≡ s.parameter_size) (v : HeldLists) (is : lists_of old (pending old s) making gathered m sizes ≡ v) (settled_already : plain.without_ended v.puts ≡ v.puts) (id : Option InId) (line : Line) (r : Result Unit Full) (ok : OnOk r (pending new t ≡ open_over id line (end_token_lists (pending old s)))) (err : OnErr r (pending new t ≡ end_token_lists (pending old s))) where
   -- the lists in front of all lines are those that were
   same_puts : (x : Result Unit Full) → OnOk x (pending new t ≡ open_over id line (end_token_lists (pending old s))) → OnErr x (pending new t ≡ end_token_lists (pending old s)) → puts_in (pending new t) ≡ puts_in (end_token_lists (pending old s))
   same_puts (Ok u) after refused = ap puts_in after

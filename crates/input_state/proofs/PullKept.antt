@@ -13,7 +13,7 @@ use Rattle.input_state.proofs.Fronts.{fronts_settled}
 use Rattle.input_stack.specs.Pulls.{Pulls}
 use Rattle.input_stack.specs.CallViews.{opened}
 use Rattle.input_stack.specs.View.{pending, held}
-use Rattle.input_stack.specs.Standing.{Stands}
+use Rattle.input_stack.specs.Stacks.{IsStack}
 use Rattle.input_stack.specs.Lasting.{LastsBut}
 use Rattle.input_stack.specs.declared.level.Pulled.{Pulled as Given}
 use Rattle.input_stack.specs.declared.stack.InputStack.{InputStack}
@@ -28,7 +28,7 @@ use Rattle.input_state.proofs.ListViews.{held_lists, moved_view, macros_moved}
 use Rattle.input_state.proofs.Sounds.{levels_moved, levels_sound}
 use Rattle.input_state.proofs.Pulling.{pull_fronts, pull_fewer, pull_further, pull_outer}
 
-module _ (old new : List (Option Entry)) (s t : InputStack) (making : Option Build) (gathered : List Build) (m : Named) (sizes : Sizes) (capacity : ℕ) (sound : IsSound old s making gathered m sizes capacity) (stands : Stands new t) (moves : Moves old new (held s) (held t)) (keeps : Keeps old new (held s)) (lasting : LastsBut old new (opened (next_item (pending old s).puts))) (size : t.size ≡ s.size) (parameters : t.parameter_size ≡ s.parameter_size) (n : ℕ) (c b d : List ℕ) (r : Result Given Full) (pulls : Pulls n c b d (pending old s) (pending new t) r) where
+module _ (old new : List (Option Entry)) (s t : InputStack) (making : Option Build) (gathered : List Build) (m : Named) (sizes : Sizes) (capacity : ℕ) (sound : IsSound old s making gathered m sizes capacity) (stands : IsStack new t) (moves : Moves old new (held s) (held t)) (keeps : Keeps old new (held s)) (lasting : LastsBut old new (opened (next_item (pending old s).puts))) (size : t.size ≡ s.size) (parameters : t.parameter_size ≡ s.parameter_size) (n : ℕ) (c b d : List ℕ) (r : Result Given Full) (pulls : Pulls n c b d (pending old s) (pending new t) r) where
   simple : AreFronts (puts_in (pending new t))
   simple = pull_fronts n c b d (pending old s) (pending new t) r pulls sound.shared.fronts
 

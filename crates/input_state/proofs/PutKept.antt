@@ -28,7 +28,7 @@ use Rattle.input_stack.specs.Pushes.{pushed_holds, call_refused}
 use Rattle.input_stack.specs.Pending as stack
 use Rattle.input_stack.specs.Pending.{Pending, Below, put, times, used_parameters, used_levels, parameters_full, parameter_room, either, room}
 use Rattle.input_stack.specs.View.{pending, held}
-use Rattle.input_stack.specs.Standing.{Stands}
+use Rattle.input_stack.specs.Stacks.{IsStack}
 use Rattle.input_stack.specs.Lasting.{Lasts}
 use Rattle.input_stack.specs.declared.stack.InputStack.{InputStack}
 use Rattle.input_state.specs.HeldLists.{HeldLists, covered_puts, put_refusal, parameters_held, level_held}
@@ -138,7 +138,7 @@ module _ (old mid : List (Option Entry)) (s : InputStack) (making : Option Build
 
 -- THE CALL IS PUT
 
-module _ (old mid new : List (Option Entry)) (s t : InputStack) (making : Option Build) (gathered : List Build) (m : Table) (k l : code.Gathering) (sizes : Sizes) (capacity : ℕ) (sound : IsSound old s making gathered (named m k) sizes capacity) (name : Name) (body : ListRef) (args : Args) (is_call : k ≡ call.Gathered name args) (is_none : l ≡ call.None) (is_meant : 0 < eqtb.held m (id_of body)) (shares : Shares old mid (holds (id_of body))) (stands : Stands new t) (after : pending new t ≡ put (call_put (id_of body) (tokens_at mid (id_of body)) (arguments_in mid args)) (pending mid s)) (moves : Moves mid new (λ h. pushed_holds body args h + held s h) (held t)) (keeps : Keeps mid new (λ h. pushed_holds body args h + held s h)) (lasts : Lasts mid new) (size : t.size ≡ s.size) (parameters : t.parameter_size ≡ s.parameter_size) (v : HeldLists) (is : lists_of old (pending old s) making gathered (named m k) sizes ≡ v) (list_is : list_of (name_meaning m.groups.now.meanings name) ≡ Some (id_of body)) where
+module _ (old mid new : List (Option Entry)) (s t : InputStack) (making : Option Build) (gathered : List Build) (m : Table) (k l : code.Gathering) (sizes : Sizes) (capacity : ℕ) (sound : IsSound old s making gathered (named m k) sizes capacity) (name : Name) (body : ListRef) (args : Args) (is_call : k ≡ call.Gathered name args) (is_none : l ≡ call.None) (is_meant : 0 < eqtb.held m (id_of body)) (shares : Shares old mid (holds (id_of body))) (stands : IsStack new t) (after : pending new t ≡ put (call_put (id_of body) (tokens_at mid (id_of body)) (arguments_in mid args)) (pending mid s)) (moves : Moves mid new (λ h. pushed_holds body args h + held s h) (held t)) (keeps : Keeps mid new (λ h. pushed_holds body args h + held s h)) (lasts : Lasts mid new) (size : t.size ≡ s.size) (parameters : t.parameter_size ≡ s.parameter_size) (v : HeldLists) (is : lists_of old (pending old s) making gathered (named m k) sizes ≡ v) (list_is : list_of (name_meaning m.groups.now.meanings name) ≡ Some (id_of body)) where
   its_call : IsCall old m (call.Gathered name args)
   its_call = subst (IsCall old m) is_call sound.call
 

@@ -15,7 +15,7 @@ use Rattle.eqtb_save.specs.Holding as eqtb
 use Rattle.input_stack.specs.Puts.{Text}
 use Rattle.input_stack.specs.Pending.{Pending, times, put, plain_put, refusal, room, used_levels}
 use Rattle.input_stack.specs.View.{pending, held}
-use Rattle.input_stack.specs.Standing.{Stands}
+use Rattle.input_stack.specs.Stacks.{IsStack}
 use Rattle.input_stack.specs.Lasting.{Lasts}
 use Rattle.input_stack.specs.declared.stack.InputStack.{InputStack}
 use Rattle.input_state.specs.HeldLists.{HeldLists, made, level_held}
@@ -40,7 +40,7 @@ module _ (old new : List (Option Entry)) (s t : InputStack) (a : Build) (gathere
   pub put_held : (h : ℕ) → holds n h + held s h ≤ holders_at old h
   put_held h = omega (arith, shared_now.counted h, built_cons a (reverse gathered) h, ap (λ (k : ℕ). holds k h) same)
 
-  module _ (stands : Stands new t) (after : pending new t ≡ put (plain_put n (tokens_at old n)) (pending old s)) (moves : Moves old new (λ h. holds n h + held s h) (held t)) (keeps : Keeps old new (λ h. holds n h + held s h)) (lasts : Lasts old new) (size : t.size ≡ s.size) (parameters : t.parameter_size ≡ s.parameter_size) where
+  module _ (stands : IsStack new t) (after : pending new t ≡ put (plain_put n (tokens_at old n)) (pending old s)) (moves : Moves old new (λ h. holds n h + held s h) (held t)) (keeps : Keeps old new (λ h. holds n h + held s h)) (lasts : Lasts old new) (size : t.size ≡ s.size) (parameters : t.parameter_size ≡ s.parameter_size) where
     own_now : (h : ℕ) → built (a ∷ []) h ≡ holds n h
     own_now h = omega (arith, built_cons a [] h, ap (λ (k : ℕ). holds k h) same)
 

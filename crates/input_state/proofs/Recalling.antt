@@ -22,7 +22,7 @@ use Rattle.eqtb_save.specs.Table.{Table, name_entered}
 use Rattle.eqtb_save.specs.Holding as eqtb
 use Rattle.input_stack.specs.Pending.{Pending, times}
 use Rattle.input_stack.specs.View.{pending, held}
-use Rattle.input_stack.specs.Standing.{Stands}
+use Rattle.input_stack.specs.Stacks.{IsStack}
 use Rattle.input_stack.specs.declared.stack.InputStack.{InputStack}
 use Rattle.input_stack.proofs.Helds.{others}
 use Rattle.std.proofs.lemmas.List.{length-map}
@@ -49,7 +49,7 @@ module _ (old new : List (Option Entry)) (s : InputStack) (making : Option Build
   shared : IsShared old s (all_builds making gathered) (named m k)
   shared = sound.shared
 
-  pub recalled_stand : Stands new s × (pending new s ≡ pending old s)
+  pub recalled_stand : IsStack new s × (pending new s ≡ pending old s)
   recalled_stand = others s old new (call_holds k) (call_holds l) sound.shared.stands (λ h. omega (arith, sound.shared.counted h)) moves keeps
 
   -- no other part holds a list that is new

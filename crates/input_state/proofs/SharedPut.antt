@@ -14,7 +14,7 @@ use Rattle.input_stack.specs.Puts.{Put, Text, put_in_front}
 use Rattle.input_stack.specs.CallViews.{Shares}
 use Rattle.input_stack.specs.Pending.{Pending, put, listed_put, times, refusal, room, used_levels}
 use Rattle.input_stack.specs.View.{pending, held}
-use Rattle.input_stack.specs.Standing.{Stands}
+use Rattle.input_stack.specs.Stacks.{IsStack}
 use Rattle.input_stack.specs.Lasting.{Lasts}
 use Rattle.input_stack.specs.declared.stack.InputStack.{InputStack}
 use Rattle.input_state.specs.HeldLists.{HeldLists, covered_puts, call_refusal, level_held}
@@ -60,7 +60,7 @@ fronts_called : (table : List (Option Entry)) (n : ℕ) (us : List Token) (ps : 
 fronts_called table n [] ps = refl
 fronts_called table n (u ∷ us) ps = ap (λ (qs : List plain.Put). front table (listed_put true n (u ∷ us)) ∷ qs) (fronts_settled table ps)
 
-module _ (old mid new : List (Option Entry)) (s t : InputStack) (making : Option Build) (gathered : List Build) (m : Named) (sizes : Sizes) (capacity : ℕ) (sound : IsSound old s making gathered m sizes capacity) (k : ℕ) (us : List Token) (is_held : 0 < eqtb.held m.table k) (shares : Shares old mid (holds k)) (stands : Stands new t) (now : pending new t ≡ put (listed_put true k us) (pending old s)) (moves : Moves mid new (λ h. holds k h + held s h) (held t)) (keeps : Keeps mid new (λ h. holds k h + held s h)) (lasts : Lasts mid new) (size : t.size ≡ s.size) (parameters : t.parameter_size ≡ s.parameter_size) where
+module _ (old mid new : List (Option Entry)) (s t : InputStack) (making : Option Build) (gathered : List Build) (m : Named) (sizes : Sizes) (capacity : ℕ) (sound : IsSound old s making gathered m sizes capacity) (k : ℕ) (us : List Token) (is_held : 0 < eqtb.held m.table k) (shares : Shares old mid (holds k)) (stands : IsStack new t) (now : pending new t ≡ put (listed_put true k us) (pending old s)) (moves : Moves mid new (λ h. holds k h + held s h) (held t)) (keeps : Keeps mid new (λ h. holds k h + held s h)) (lasts : Lasts mid new) (size : t.size ≡ s.size) (parameters : t.parameter_size ≡ s.parameter_size) where
   bs : List Build
   bs = all_builds making gathered
 

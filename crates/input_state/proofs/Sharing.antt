@@ -17,7 +17,7 @@ use Rattle.eqtb_save.specs.Table.{Table}
 use Rattle.eqtb_save.specs.Holding as eqtb
 use Rattle.input_stack.specs.Pending.{Pending, times}
 use Rattle.input_stack.specs.View.{pending, held}
-use Rattle.input_stack.specs.Standing.{Stands}
+use Rattle.input_stack.specs.Stacks.{IsStack}
 use Rattle.input_stack.specs.declared.stack.InputStack.{InputStack}
 use Rattle.input_stack.proofs.Helds.{others}
 use Rattle.input_stack.proofs.Kept.{holds_itself}
@@ -159,7 +159,7 @@ module _ (old new : List (Option Entry)) (stack : InputStack) (m : Named) (xs zs
   stays : Stay old new rest
   stays = only_stays old new id rest only apart
 
-  stand : Stands new stack × (pending new stack ≡ pending old stack)
+  stand : IsStack new stack × (pending new stack ≡ pending old stack)
   stand = others stack old new (built zs) (built us) shared.stands (λ h. omega (arith, shared.counted h, parts zs h)) moves (only_keeps old new id (built zs) only mine)
 
   before_stays : Stay old new (built xs)
@@ -245,7 +245,7 @@ module _ (old new : List (Option Entry)) (s t : InputStack) (m n : Named) (zs bs
   pub counted_now : (h : ℕ) → holders_at new h ≡ held t h + (built bs h + names_hold n h)
   counted_now h = omega (arith, shared.counted h, moves h, built_append zs bs h)
 
-  module _ (stands : Stands new t) (simple : AreFronts (puts_in (pending new t))) (apart : IsApart (puts_in (pending new t)) bs n) where
+  module _ (stands : IsStack new t) (simple : AreFronts (puts_in (pending new t))) (apart : IsApart (puts_in (pending new t)) bs n) where
     -- a list that is being built has that one holder, before and now
     alone : (h : ℕ) → 0 < built bs h → (holders_at old h ≡ 1) × (holders_at new h ≡ 1) × (built zs h + (held s h + names_hold m h) ≡ 0)
     alone h some =
@@ -285,7 +285,7 @@ module _ (old new : List (Option Entry)) (s t : InputStack) (m n : Named) (zs bs
         kept = lasts;
       }
 
-module _ (old new : List (Option Entry)) (s t : InputStack) (m n : Named) (zs bs : List Build) (shared : IsShared old s (zs ++ bs) m) (stands : Stands new t) (simple : AreFronts (puts_in (pending new t))) (apart : IsApart (puts_in (pending new t)) bs n) (listed : (h : ℕ) → 0 < times h (cells_of (puts_in (pending new t))) → 0 < length (tokens_at old h)) (moves : (h : ℕ) → holders_at new h + (built zs h + (held s h + eqtb.held m.table h)) ≡ holders_at old h + (held t h + eqtb.held n.table h)) (keeps : Keeps old new (λ h. built zs h + (held s h + eqtb.held m.table h))) (lasts : (h : ℕ) → 0 < holders_at new h → tokens_at new h ≡ tokens_at old h) (all_lists : (h : ℕ) → 0 < eqtb.held n.table h → IsDefined (tokens_at new h)) (same : (h : ℕ) → call_holds n.call h ≡ call_holds m.call h) where
+module _ (old new : List (Option Entry)) (s t : InputStack) (m n : Named) (zs bs : List Build) (shared : IsShared old s (zs ++ bs) m) (stands : IsStack new t) (simple : AreFronts (puts_in (pending new t))) (apart : IsApart (puts_in (pending new t)) bs n) (listed : (h : ℕ) → 0 < times h (cells_of (puts_in (pending new t))) → 0 < length (tokens_at old h)) (moves : (h : ℕ) → holders_at new h + (built zs h + (held s h + eqtb.held m.table h)) ≡ holders_at old h + (held t h + eqtb.held n.table h)) (keeps : Keeps old new (λ h. built zs h + (held s h + eqtb.held m.table h))) (lasts : (h : ℕ) → 0 < holders_at new h → tokens_at new h ≡ tokens_at old h) (all_lists : (h : ℕ) → 0 < eqtb.held n.table h → IsDefined (tokens_at new h)) (same : (h : ℕ) → call_holds n.call h ≡ call_holds m.call h) where
   moves_all : (h : ℕ) → holders_at new h + (built zs h + (held s h + names_hold m h)) ≡ holders_at old h + (held t h + names_hold n h)
   moves_all h = omega (arith, moves h, same h)
 

@@ -23,7 +23,7 @@ use Rattle.eqtb_save.specs.Holding as eqtb
 use Rattle.input_stack.specs.Puts.{Put}
 use Rattle.input_stack.specs.Pending.{Pending, Below, times, end_token_lists, sources_at, at_line, Ends, EndsIn}
 use Rattle.input_stack.specs.View.{pending, pending_in, held, held_in, innermost}
-use Rattle.input_stack.specs.Standing.{Stands}
+use Rattle.input_stack.specs.Stacks.{IsStack}
 use Rattle.input_stack.specs.Lasting.{Lasts, LastsBut}
 use Rattle.input_stack.specs.declared.stack.InputStack.{InputStack}
 use Rattle.input_stack.specs.WholeLevel.{WholeLevel}
@@ -125,7 +125,7 @@ err_of (Err e) A P a f = f a
 
 -- THE LEVELS
 
-module _ (old new : List (Option Entry)) (s t : InputStack) (making : Option Build) (gathered : List Build) (m : Named) (sizes : Sizes) (capacity : ℕ) (more : ℕ → ℕ) (sound : IsSound old s making gathered m sizes capacity) (stands : Stands new t) (moves : Moves old new (held s) (held t)) (keeps : Keeps old new (held s)) (lasts : LastsBut old new more) (size : t.size ≡ s.size) (parameters : t.parameter_size ≡ s.parameter_size) (simple : AreFronts (puts_in (pending new t))) (fewer : Fewer (puts_in (pending new t)) (puts_in (pending old s))) where
+module _ (old new : List (Option Entry)) (s t : InputStack) (making : Option Build) (gathered : List Build) (m : Named) (sizes : Sizes) (capacity : ℕ) (more : ℕ → ℕ) (sound : IsSound old s making gathered m sizes capacity) (stands : IsStack new t) (moves : Moves old new (held s) (held t)) (keeps : Keeps old new (held s)) (lasts : LastsBut old new more) (size : t.size ≡ s.size) (parameters : t.parameter_size ≡ s.parameter_size) (simple : AreFronts (puts_in (pending new t))) (fewer : Fewer (puts_in (pending new t)) (puts_in (pending old s))) where
   keeps_none : Keeps old new (λ h. built [] h + (held s h + eqtb.held m.table h))
   keeps_none = record { tokens = λ h l. keeps.tokens h (omega (arith, l)); places = λ h l. keeps.places h (omega (arith, l)) }
 
@@ -155,7 +155,7 @@ module _ (old new : List (Option Entry)) (s t : InputStack) (making : Option Bui
 pub lasts_none : (old new : List (Option Entry)) → Lasts old new → LastsBut old new none
 lasts_none old new lasts = record { size = lasts.size; fewer = λ h. omega (arith, lasts.fewer h); tokens = lasts.tokens }
 
-module _ (old new : List (Option Entry)) (s t : InputStack) (making : Option Build) (gathered : List Build) (m : Named) (sizes : Sizes) (capacity : ℕ) (sound : IsSound old s making gathered m sizes capacity) (stands : Stands new t) (moves : Moves old new (held s) (held t)) (keeps : Keeps old new (held s)) (lasts : Lasts old new) (size : t.size ≡ s.size) (parameters : t.parameter_size ≡ s.parameter_size) where
+module _ (old new : List (Option Entry)) (s t : InputStack) (making : Option Build) (gathered : List Build) (m : Named) (sizes : Sizes) (capacity : ℕ) (sound : IsSound old s making gathered m sizes capacity) (stands : IsStack new t) (moves : Moves old new (held s) (held t)) (keeps : Keeps old new (held s)) (lasts : Lasts old new) (size : t.size ≡ s.size) (parameters : t.parameter_size ≡ s.parameter_size) where
   module _ (after : pending new t ≡ end_token_lists (pending old s)) where
     settled_simple : AreFronts (puts_in (pending new t))
     settled_simple = subst (λ (p : Pending). AreFronts (puts_in p)) (sym after) (simple_settled (pending old s) sound.shared.fronts)
@@ -181,7 +181,7 @@ module _ (old new : List (Option Entry)) (s t : InputStack) (making : Option Bui
 
 -- THE LEVELS ALONE
 
-module _ (table : List (Option Entry)) (s t : InputStack) (making : Option Build) (gathered : List Build) (m : Named) (sizes : Sizes) (capacity : ℕ) (sound : IsSound table s making gathered m sizes capacity) (stands : Stands table t) (held_same : (h : ℕ) → held t h ≡ held s h) (size : t.size ≡ s.size) (parameters : t.parameter_size ≡ s.parameter_size) where
+module _ (table : List (Option Entry)) (s t : InputStack) (making : Option Build) (gathered : List Build) (m : Named) (sizes : Sizes) (capacity : ℕ) (sound : IsSound table s making gathered m sizes capacity) (stands : IsStack table t) (held_same : (h : ℕ) → held t h ≡ held s h) (size : t.size ≡ s.size) (parameters : t.parameter_size ≡ s.parameter_size) where
   pub line_sound : puts_in (pending table t) ≡ puts_in (pending table s) → IsSound table t making gathered m sizes capacity
   line_sound same = record {
     shared = record {
@@ -228,7 +228,7 @@ length_new : (n : ℕ) → length (replicate {A = Option Entry} n None) ≡ n
 length_new zero = refl
 length_new (suc n) = omega (arith, length_new n)
 
-pub new_sound : (knows : ℕ → Bool) (table : List (Option Entry)) (stack : InputStack) (items : List Build) (m : Table) (sizes : Sizes) (capacity : ℕ) → table ≡ replicate sizes.main_memory_size None → innermost stack ≡ [] → Stands table stack → stack.size ≡ sizes.input_stack_size → stack.parameter_size ≡ sizes.parameter_stack_size → items ≡ [] → sizes.main_memory_size ≤ capacity → first_out_of_range sizes ≡ None → m ≡ first_table knows sizes → ((h : ℕ) → eqtb.held m h ≡ 0) → IsSound table stack None items (named m call.None) sizes capacity
+pub new_sound : (knows : ℕ → Bool) (table : List (Option Entry)) (stack : InputStack) (items : List Build) (m : Table) (sizes : Sizes) (capacity : ℕ) → table ≡ replicate sizes.main_memory_size None → innermost stack ≡ [] → IsStack table stack → stack.size ≡ sizes.input_stack_size → stack.parameter_size ≡ sizes.parameter_stack_size → items ≡ [] → sizes.main_memory_size ≤ capacity → first_out_of_range sizes ≡ None → m ≡ first_table knows sizes → ((h : ℕ) → eqtb.held m h ≡ 0) → IsSound table stack None items (named m call.None) sizes capacity
 new_sound knows table stack items m sizes capacity is empty stands size parameters none room ranges first free =
     let zero_at : (h : ℕ) → holders_at table h ≡ 0 = λ h. ap (λ (t : List (Option Entry)). holders_at t h) is ∙ ap holders_of (none_at sizes.main_memory_size h) in
     let s : IsShared table stack [] (named m call.None) = record {

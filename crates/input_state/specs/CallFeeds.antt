@@ -36,18 +36,18 @@ goes_on ask.Mismatch = false
 goes_on (ask.ParEnded silent) = false
 
 -- The arguments and the list in work are those of the definition's answer.
-pub record Stands (text : List Token) (t : Token) (answer : CallAsk) (scan next : Scan) : Type 0 where
+pub record IsAnswer (text : List Token) (t : Token) (answer : CallAsk) (scan next : Scan) : Type 0 where
   pub says : Says answer next (resume_scan text scan (Tok t ∷ []))
   pub args : next.args ≡ arguments_in (resume_scan text scan (Tok t ∷ []))
   pub work : scan_work next ≡ work_in (resume_scan text scan (Tok t ∷ []))
 
 -- Where more is taken, all that follows comes to what the definition says.
 pub record GoesOn (text : List Token) (t : Token) (scan next : Scan) : Type 0 where
-  pub stands : Stands text t (scan_asks next) scan next
+  pub stands : IsAnswer text t (scan_asks next) scan next
   pub same : (fed : List Fed) → resume_scan text scan (Tok t ∷ fed) ≡ resume_scan text next fed
 
 pub record Ends (text : List Token) (t : Token) (answer : CallAsk) (scan next : Scan) : Type 0 where
-  pub stands : Stands text t answer scan next
+  pub stands : IsAnswer text t answer scan next
   pub closed : goes_on answer ≡ false
 
 -- the call of this name, whose scanner stood so
@@ -90,7 +90,7 @@ pub record IsCutInGrowth (text : List Token) (t : Token) (scan next : Scan) : Ty
 pub record IsCutBetween (text : List Token) (t : Token) (scan next : Scan) : Type 0 where
   pub none : next.present ≡ None
   pub mode : next.mode ≡ scan.mode
-  pub settled : next.braced ≡ false
+  pub unbraced : next.braced ≡ false
   pub args : next.args ≡ args_with scan.present scan.args (target_of (resume_scan text scan []) (resume_scan text scan (Tok t ∷ [])))
   pub due : resume_scan text scan (Tok t ∷ []) ≡ More next.args (Some [])
   pub same : (fed : List Fed) → resume_scan text scan (Tok t ∷ fed) ≡ arguments next.mode next.args (places_left next.args (drop next.at text)) fed

@@ -4,7 +4,7 @@ use Rattle.tex_defs.specs.declared.Full.{Full}
 use Rattle.tex_defs.specs.declared.Token.{Token}
 use Rattle.plain_tokens.specs.Tables.{memory, refused}
 use Rattle.input_state.specs.HeldLists.{HeldLists, words_held}
-use Rattle.input_state.specs.Standing.{appended, appended_made}
+use Rattle.input_state.specs.AtLocations.{appended, appended_made}
 
 -- Of these tokens some, from the first on, are there, and the next one has no room: `grown` is all with the ones that are there.
 pub record HeldShort (grown : List Token → HeldLists → HeldLists) (ts : List Token) (old new : HeldLists) (full : Full) : Type 0 where

@@ -14,7 +14,7 @@ use Rattle.token_lists.specs.Accounts.{holds}
 use Rattle.input_stack.specs.Puts.{Put, Item, Text, First, Later, Gap, argument_of, numbers}
 use Rattle.input_stack.specs.Pending.{Pending, Below, times}
 use Rattle.input_stack.specs.View.{pending, held}
-use Rattle.input_stack.specs.Standing.{Stands}
+use Rattle.input_stack.specs.Stacks.{IsStack}
 use Rattle.input_stack.specs.declared.stack.InputStack.{InputStack}
 use Rattle.macro_args.specs.Args.{args_in, args_hold, IsFilled}
 use Rattle.macro_call.specs.Scans as scans
@@ -198,7 +198,7 @@ pub record IsDefined (ts : List Token) : Type 0 where
 
 -- Each list is held by levels, builds, locations, saved values and the call.
 pub record IsShared (table : List (Option Entry)) (stack : InputStack) (bs : List Build) (m : Named) : Type 0 where
-  pub stands : Stands table stack
+  pub stands : IsStack table stack
   pub fronts : AreFronts (puts_in (pending table stack))
   pub building : All (IsBuilding table) bs
   pub counted : (h : ℕ) → holders_at table h ≡ held stack h + (built bs h + names_hold m h)

@@ -1,4 +1,4 @@
-pub mod Standing
+pub mod AtLocations
 pub mod HeldAppends
 pub mod Appends
 pub mod Stored

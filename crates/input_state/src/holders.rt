@@ -8,7 +8,7 @@ ghost use Rattle.token_lists.specs.Accounts.{Moves, Keeps, holds, none};
 ghost use Rattle.macro_args.specs.Args.{args_hold};
 ghost use Rattle.input_stack.specs.CallViews.{Shares};
 ghost use Rattle.input_stack.specs.Lasting.{Lasts};
-ghost use Rattle.input_state.specs.Standing.{list_number};
+ghost use Rattle.input_state.specs.AtLocations.{list_number};
 ghost use Rattle.equivalents.specs.Groups.{IsLocation};
 ghost use Rattle.equivalents.specs.Holding.{list_of};
 ghost use Rattle.equivalents.specs.Locations.{tokens_of};
@@ -75,7 +75,7 @@ fn list_of(value: &Value) -> Option<&ListRef>
 }
 
 /// The list that stands at a location, if one does.
-pub fn standing(table: &Eqtb, loc: Loc) -> Option<&ListRef>
+pub fn list_at(table: &Eqtb, loc: Loc) -> Option<&ListRef>
     requires { IsLocation table.now.groups loc }
     ensures list { MatchOption result (list_number table.now.groups loc ≡ None) (λ r. list_number table.now.groups loc ≡ Some (id_of r.now)) }
     ensures held { IfSome result (λ r. 0 < held table.now (id_of r.now)) }

@@ -5,7 +5,7 @@ ghost use Rattle.plain_tokens.specs.Meanings.{is_listed, location, name_meaning,
 ghost use Rattle.equivalents.specs.declared.values.Val.TheVariants as val;
 ghost use Rattle.equivalents.specs.Locations.{Suits, IsTokens, value_seen};
 ghost use Rattle.equivalents.specs.Tables.{get};
-ghost use Rattle.equivalents.specs.Groups.{first_groups, entered, set, set_name, set_demands, name_demands, group_demands, token_demands, opened, with_token, closed, tokens_after, kind_of, depth, IsLocation};
+ghost use Rattle.equivalents.specs.Groups.{first_groups, entered, set, set_name, set_demands, name_demands, group_demands, token_demands, opened, with_token, closed, tokens_after, current_group, depth, IsLocation};
 ghost use Rattle.equivalents.specs.Parameters.{integer_in};
 ghost use Rattle.equivalents.specs.Holding.{lists_held, lists_outside};
 ghost use Rattle.equivalents.specs.Laws.{AreAlike};
@@ -13,7 +13,7 @@ ghost use Rattle.equivalents.specs.Cases.{case_codes, case_changed};
 ghost use Rattle.eqtb_save.specs.Values.{numbered_value};
 ghost use Rattle.eqtb_save.specs.Holding.{val_holds, held};
 ghost use Rattle.meanings.specs.Holding.{Lasts};
-ghost use Rattle.plain_tokens.specs.Arguments.{are_same};
+ghost use Rattle.plain_tokens.specs.Arguments.{are_same, mode_of};
 ghost use Rattle.plain_tokens.specs.Puts.{without_ended, passed, with_put, token_put, grow_first, grown_by};
 ghost use Rattle.plain_tokens.specs.Pending.{pulled};
 ghost use Rattle.plain_tokens.specs.Tables.{lists_words, memory, refused};
@@ -31,12 +31,11 @@ ghost use Rattle.input_state.specs.HeldViews.{IsDefined};
 ghost use Rattle.input_state.specs.Macros.{HasNameRoom, IsPlaceOf, list_at};
 ghost use Rattle.input_state.specs.Calls.{call_kind, called_put, called, put_of, text_of, list_to_let, begun_lists, Defines};
 ghost use Rattle.input_state.specs.declared.answer.CallKind.TheVariants.{AtOnce, Gathers};
-ghost use Rattle.input_state.specs.Standing.{SetsList, standing_put, standing_tokens, appended, appended_made};
+ghost use Rattle.input_state.specs.AtLocations.{SetsList, location_put, location_tokens, appended, appended_made};
 ghost use Rattle.input_state.specs.Callings.{NotCalling, IsComplete, call_in};
 ghost use Rattle.input_state.specs.Callings as calls;
 ghost use Rattle.input_state.specs.CallFeeds.{IsTaking, Feeds, CutShort, growth, with_scan, call_work};
-ghost use Rattle.macro_call.specs.PlainScans.{first_scan, cut_scan, settled_scan};
-ghost use Rattle.macro_call.specs.Modes.{mode_of};
+ghost use Rattle.macro_call.specs.PlainScans.{first_scan, cut_scan, noted_scan};
 ghost use Rattle.std.specs.Option.{option_map};
 ghost use Rattle.input_state.specs.Changes.{IsOnly};
 ghost use Rattle.input_state.specs.Reads.{GivesTo, step_demands};
@@ -45,7 +44,7 @@ ghost use Rattle.input_state.specs.Given.{GivesMore, GivesOrRefuses, answer_of, 
 
 use crate::appending::{Change, append, append_from};
 use crate::gathering::{Gathering, begin as begin_call, feed};
-use crate::holders::{give_back, has_parameters, let_go, list_to_let, share, standing};
+use crate::holders::{give_back, has_parameters, let_go, list_at, list_to_let, share};
 use crate::places::behind;
 use crate::{Call, CallKind, Pulled};
 use eqtb_save::{Closed, Eqtb, Glue, GroupKind, Loc, Val, Value, name_loc};
@@ -269,13 +268,13 @@ impl Held {
     pub fn copy_list(&mut self, loc: Loc) -> Result<(), Full>
         requires some { self.old.builds ≢ [] }
         requires within { IsLocation self.old.groups loc }
-        ensures ok { OnOk result (self.new ≡ record self.old { builds = appended (standing_tokens self.old.lists self.old.groups loc) self.old.builds; lists = self.new.lists }) }
-        ensures fits { OnOk result (words_held self.old + length (standing_tokens self.old.lists self.old.groups loc) ≤ self.old.sizes.main_memory_size) }
-        ensures err { IfErr result (λ full. HeldShort held_appended (standing_tokens self.old.lists self.old.groups loc) self.old self.new full) }
+        ensures ok { OnOk result (self.new ≡ record self.old { builds = appended (location_tokens self.old.lists self.old.groups loc) self.old.builds; lists = self.new.lists }) }
+        ensures fits { OnOk result (words_held self.old + length (location_tokens self.old.lists self.old.groups loc) ≤ self.old.sizes.main_memory_size) }
+        ensures err { IfErr result (λ full. HeldShort held_appended (location_tokens self.old.lists self.old.groups loc) self.old self.new full) }
         ensures keeps { KeepsHeld self.old self.new }
     {
         let _old_words = self.lists.used();
-        let Some(list) = standing(&self.table, loc) else {
+        let Some(list) = list_at(&self.table, loc) else {
             return Ok(());
         };
         let from = at_first(&self.lists, list);
@@ -663,7 +662,7 @@ impl Held {
     pub fn close_group(&mut self)
         requires open { 0 < depth self.old.groups }
         requires calls { self.old.call ≡ NotCalling }
-        ensures after { self.new ≡ record self.old { groups = closed self.old.groups; closing = tokens_after self.old.groups; ending = kind_of self.old.groups; lists = self.new.lists } }
+        ensures after { self.new ≡ record self.old { groups = closed self.old.groups; closing = tokens_after self.old.groups; ending = current_group self.old.groups; lists = self.new.lists } }
         ensures keeps { KeepsHeld self.old self.new }
     {
         self.table.recall();
@@ -686,7 +685,7 @@ impl Held {
 
     /// The kind of the innermost open group, if one is open.
     pub fn group_kind(&self) -> Option<GroupKind>
-        ensures { result ≡ kind_of self.now.groups }
+        ensures { result ≡ current_group self.now.groups }
     {
         self.table.kind()
     }
@@ -961,19 +960,12 @@ impl Held {
     }
 
     /// The list of tokens that stands at a location, if one does, and the memory in which all lists stand.
-    pub fn standing_list(&self, loc: Loc) -> (&Lists, Option<&ListRef>)
+    pub fn list_at_location(&self, loc: Loc) -> (&Lists, Option<&ListRef>)
         requires { IsLocation self.now.groups loc }
         ensures held { IfSome result.1 (λ r. IsHeld result.0.now (id_of r.now)) }
-        ensures tokens { MatchOption result.1 (standing_tokens self.now.lists self.now.groups loc ≡ []) (λ r. tokens_at result.0.now (id_of r.now) ≡ standing_tokens self.now.lists self.now.groups loc) }
+        ensures tokens { MatchOption result.1 (location_tokens self.now.lists self.now.groups loc ≡ []) (λ r. tokens_at result.0.now (id_of r.now) ≡ location_tokens self.now.lists self.now.groups loc) }
     {
-        (&self.lists, standing(&self.table, loc))
-    }
-
-    /// Each list that a location or a saved value has, has a token. The call does nothing.
-    pub fn macros_are_lists(&self)
-        ensures { (id : ℕ) → is_listed (lists_held self.now.groups) id ≡ true → IsDefined (list_at self.now.lists id) }
-    {
-        let _lists = &self.lists;
+        (&self.lists, list_at(&self.table, loc))
     }
 
     /// Each list that holds again behind the innermost group, or one around it, is held now, and the names have as many locations there. The call
@@ -1021,12 +1013,12 @@ impl Held {
     /// The input stack is full, once the finished lists in front have gone; nothing else has changed.
     pub fn put_list(&mut self, loc: Loc) -> Result<(), Full>
         requires { IsLocation self.old.groups loc }
-        ensures refused { MatchResult result (λ _. call_refusal (standing_put self.old.lists self.old.groups loc) self.old ≡ None) (λ full. call_refusal (standing_put self.old.lists self.old.groups loc) self.old ≡ Some full) }
-        ensures ok { OnOk result (self.new ≡ record self.old { puts = called (standing_put self.old.lists self.old.groups loc) self.old.puts; lists = self.new.lists }) }
+        ensures refused { MatchResult result (λ _. call_refusal (location_put self.old.lists self.old.groups loc) self.old ≡ None) (λ full. call_refusal (location_put self.old.lists self.old.groups loc) self.old ≡ Some full) }
+        ensures ok { OnOk result (self.new ≡ record self.old { puts = called (location_put self.old.lists self.old.groups loc) self.old.puts; lists = self.new.lists }) }
         ensures err { OnErr result (self.new ≡ record self.old { puts = without_ended self.old.puts; lists = self.new.lists }) }
         ensures keeps { KeepsHeld self.old self.new }
     {
-        let Some(list) = standing(&self.table, loc) else {
+        let Some(list) = list_at(&self.table, loc) else {
             return Ok(());
         };
         self.table.recall();
@@ -1117,18 +1109,6 @@ impl Held {
         }
     }
 
-    /// Whether all arguments of a call are there.
-    pub fn is_complete(&self) -> bool
-        ensures { MatchBool result (IsComplete self.now.call) (IsComplete self.now.call → ⊥) }
-    {
-        match &self.call {
-            Gathering::Gathered(_name, _args) => true,
-            Gathering::None => false,
-            Gathering::Gathers(_name, _scan) => false,
-            Gathering::Stopped(_name, _end, _scan) => false,
-        }
-    }
-
     /// Feeds a token to the call, which then asks for what the definition of arguments asks for behind all that was fed.
     ///
     /// # Errors
@@ -1162,12 +1142,12 @@ impl Held {
     }
 
     /// The extra brace that the call answered was put back and reported.
-    pub fn settle_call(&mut self)
+    pub fn note_call(&mut self)
         requires { IsTaking self.old.call }
-        ensures after { self.new ≡ record self.old { call = with_scan settled_scan self.old.call } }
+        ensures after { self.new ≡ record self.old { call = with_scan noted_scan self.old.call } }
     {
         let (name, mut scan) = mem::replace(&mut self.call, Gathering::None).into_scan();
-        scan.settle();
+        scan.noted();
         mem::replace(&mut self.call, Gathering::Gathers(name, scan)).end();
     }
 

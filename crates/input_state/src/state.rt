@@ -8,10 +8,10 @@ ghost use Rattle.plain_tokens.specs.Meanings.{is_listed, location, name_meaning,
 ghost use Rattle.equivalents.specs.declared.values.Val.TheVariants as val;
 ghost use Rattle.equivalents.specs.Locations.{Suits, IsTokens, value_seen};
 ghost use Rattle.equivalents.specs.Tables.{get};
-ghost use Rattle.equivalents.specs.Groups.{first_groups, entered, set, set_name, set_demands, name_demands, group_demands, token_demands, opened, with_token, closed as group_closed, tokens_after, kind_of, depth, IsLocation};
+ghost use Rattle.equivalents.specs.Groups.{first_groups, entered, set, set_name, set_demands, name_demands, group_demands, token_demands, opened, with_token, closed as group_closed, tokens_after, current_group, depth, IsLocation};
 ghost use Rattle.equivalents.specs.Holding.{lists_held, lists_outside};
 ghost use Rattle.equivalents.specs.Laws.{AreAlike};
-ghost use Rattle.plain_tokens.specs.Arguments.{are_same};
+ghost use Rattle.plain_tokens.specs.Arguments.{are_same, mode_of};
 ghost use Rattle.plain_tokens.specs.Puts.{without_ended, passed, token_put, grow_first, grown_by};
 ghost use Rattle.plain_tokens.specs.Pending.{Begun, Closed, bottom, beneath, ending, pulled, end_token_lists, all_puts, put_front, line_taken, from_file, with_begun, with_end, with_next};
 ghost use Rattle.plain_tokens.specs.Tables.{is_put, lists_words, memory, level, buffer, open_files, open_lines, lines_beneath, next_line, next_file, text_level, spelt_name, refused};
@@ -30,13 +30,12 @@ ghost use Rattle.input_state.specs.Calls.{call_kind, called_put, after_call, put
 ghost use Rattle.input_state.specs.Callings.{NotCalling, IsComplete, call_in};
 ghost use Rattle.input_state.specs.Callings as calls;
 ghost use Rattle.input_state.specs.CallFeeds.{IsTaking, Feeds, CutShort, growth, with_scan, call_work};
-ghost use Rattle.macro_call.specs.PlainScans.{first_scan, cut_scan, settled_scan};
-ghost use Rattle.macro_call.specs.Modes.{mode_of};
+ghost use Rattle.macro_call.specs.PlainScans.{first_scan, cut_scan, noted_scan};
 ghost use Rattle.input_state.specs.NextBytes.{KnowsNext, NeedsBytes, KnowsFirst, NeedsFirst, with_bytes, with_first_bytes};
 ghost use Rattle.input_state.specs.Counted.{AreCounted};
 ghost use Rattle.input_state.specs.Stored.{KeepsShared, call_refusal, put_refusal, words, spelt};
 ghost use Rattle.input_state.specs.Walks.{to_come};
-ghost use Rattle.input_state.specs.Standing.{SetsList, AppendsShort, standing_put, standing_tokens, appended, appended_made, with_appended, with_appended_made};
+ghost use Rattle.input_state.specs.AtLocations.{SetsList, AppendsShort, location_put, location_tokens, appended, appended_made, with_appended, with_appended_made};
 ghost use Rattle.equivalents.specs.Cases.{case_codes, case_changed};
 ghost use Rattle.equivalents.specs.Parameters.{integer_in, end_of_line};
 ghost use Rattle.input_state.specs.declared.answer.Pulled.TheVariants as answer;
@@ -189,9 +188,9 @@ impl Input {
     pub fn copy_list(&mut self, loc: Loc) -> Result<(), Full>
         requires some { self.old.builds ≢ [] }
         requires within { IsLocation self.old.groups loc }
-        ensures ok { OnOk result (self.new ≡ record self.old { builds = appended (standing_tokens self.old.lists self.old.groups loc) self.old.builds; lists = self.new.lists }) }
-        ensures fits { OnOk result (words self.old + length (standing_tokens self.old.lists self.old.groups loc) ≤ self.old.sizes.main_memory_size) }
-        ensures err { IfErr result (λ full. AppendsShort with_appended (standing_tokens self.old.lists self.old.groups loc) self.old self.new full) }
+        ensures ok { OnOk result (self.new ≡ record self.old { builds = appended (location_tokens self.old.lists self.old.groups loc) self.old.builds; lists = self.new.lists }) }
+        ensures fits { OnOk result (words self.old + length (location_tokens self.old.lists self.old.groups loc) ≤ self.old.sizes.main_memory_size) }
+        ensures err { IfErr result (λ full. AppendsShort with_appended (location_tokens self.old.lists self.old.groups loc) self.old self.new full) }
         ensures keeps { KeepsShared self.old self.new }
     {
         self.held.copy_list(loc)
@@ -877,7 +876,7 @@ impl Input {
     pub fn close_group(&mut self)
         requires open { 0 < depth self.old.groups }
         requires calls { self.old.call ≡ NotCalling }
-        ensures after { self.new ≡ record self.old { groups = group_closed self.old.groups; closing = tokens_after self.old.groups; ending = kind_of self.old.groups; lists = self.new.lists } }
+        ensures after { self.new ≡ record self.old { groups = group_closed self.old.groups; closing = tokens_after self.old.groups; ending = current_group self.old.groups; lists = self.new.lists } }
         ensures keeps { KeepsShared self.old self.new }
     {
         self.held.close_group();
@@ -896,7 +895,7 @@ impl Input {
 
     /// The kind of the innermost open group, if one is open.
     pub fn group_kind(&self) -> Option<GroupKind>
-        ensures { result ≡ kind_of self.now.groups }
+        ensures { result ≡ current_group self.now.groups }
     {
         self.held.group_kind()
     }
@@ -965,19 +964,12 @@ impl Input {
     }
 
     /// The list of tokens that stands at a location, if one does, and the memory in which all lists stand.
-    pub fn standing_list(&self, loc: Loc) -> (&Lists, Option<&ListRef>)
+    pub fn list_at_location(&self, loc: Loc) -> (&Lists, Option<&ListRef>)
         requires { IsLocation self.now.groups loc }
         ensures held { IfSome result.1 (λ r. IsHeld result.0.now (id_of r.now)) }
-        ensures tokens { MatchOption result.1 (standing_tokens self.now.lists self.now.groups loc ≡ []) (λ r. tokens_at result.0.now (id_of r.now) ≡ standing_tokens self.now.lists self.now.groups loc) }
+        ensures tokens { MatchOption result.1 (location_tokens self.now.lists self.now.groups loc ≡ []) (λ r. tokens_at result.0.now (id_of r.now) ≡ location_tokens self.now.lists self.now.groups loc) }
     {
-        self.held.standing_list(loc)
-    }
-
-    /// Each list that a location or a saved value has, has a token. The call does nothing.
-    pub fn macros_are_lists(&self)
-        ensures { (id : ℕ) → is_listed (lists_held self.now.groups) id ≡ true → IsDefined (list_at self.now.lists id) }
-    {
-        self.held.macros_are_lists();
+        self.held.list_at_location(loc)
     }
 
     /// Each list that holds again behind the innermost group, or one around it, is held now, and the names have as many locations there. The call
@@ -1014,8 +1006,8 @@ impl Input {
     /// The input stack is full, once the finished lists in front have gone; nothing else has changed.
     pub fn put_list(&mut self, loc: Loc) -> Result<(), Full>
         requires { IsLocation self.old.groups loc }
-        ensures refused { MatchResult result (λ _. call_refusal (standing_put self.old.lists self.old.groups loc) self.old ≡ None) (λ full. call_refusal (standing_put self.old.lists self.old.groups loc) self.old ≡ Some full) }
-        ensures ok { OnOk result (self.new ≡ record self.old { pending = after_call (standing_put self.old.lists self.old.groups loc) self.old.pending; lists = self.new.lists }) }
+        ensures refused { MatchResult result (λ _. call_refusal (location_put self.old.lists self.old.groups loc) self.old ≡ None) (λ full. call_refusal (location_put self.old.lists self.old.groups loc) self.old ≡ Some full) }
+        ensures ok { OnOk result (self.new ≡ record self.old { pending = after_call (location_put self.old.lists self.old.groups loc) self.old.pending; lists = self.new.lists }) }
         ensures err { OnErr result (self.new ≡ record self.old { pending = end_token_lists self.old.pending; lists = self.new.lists }) }
         ensures keeps { KeepsShared self.old self.new }
     {
@@ -1061,13 +1053,6 @@ impl Input {
         self.held.is_taking()
     }
 
-    /// Whether all arguments of a call are there.
-    pub fn is_complete(&self) -> bool
-        ensures { MatchBool result (IsComplete self.now.call) (IsComplete self.now.call → ⊥) }
-    {
-        self.held.is_complete()
-    }
-
     /// Feeds a token to the call, which then asks for what the definition of arguments asks for behind all that was fed.
     ///
     /// # Errors
@@ -1096,11 +1081,11 @@ impl Input {
     }
 
     /// The extra brace that the call answered was put back and reported.
-    pub fn settle_call(&mut self)
+    pub fn note_call(&mut self)
         requires { IsTaking self.old.call }
-        ensures after { self.new ≡ record self.old { call = with_scan settled_scan self.old.call } }
+        ensures after { self.new ≡ record self.old { call = with_scan noted_scan self.old.call } }
     {
-        self.held.settle_call();
+        self.held.note_call();
     }
 
     /// The list in work of the call, if there is one, and the memory in which it stands.

@@ -2,7 +2,7 @@
 use Rattle.std.proofs.Common.{◌≡◌, ◌≢◌, ℕ, zero, suc, ◌<◌, Bool, true, false, List, [], ◌∷◌, ◌++◌, length, get_or, refl, sym, ap, ◌∙◌, arith}
 use Rattle.std.specs.Prelude.{nat_eq, if◌then◌else◌}
 use Rattle.std.proofs.lemmas.Grind.{common_steps}
-use Rattle.line_reader.specs.Ahead.{Ahead, StandsAt, is_begun, ahead_of, with_ahead}
+use Rattle.line_reader.specs.Ahead.{Ahead, IsWindowAt, is_begun, ahead_of, with_ahead}
 
 pub is_same : (a b : ℕ) → a ≡ b → nat_eq a b ≡ true
 is_same a b e = grind (arith, common_steps)
@@ -10,7 +10,7 @@ is_same a b e = grind (arith, common_steps)
 pub is_other : (a b : ℕ) → a ≢ b → nat_eq a b ≡ false
 is_other a b e = grind (arith, common_steps)
 
-found : (id : ℕ) (a : Ahead) (others : List Ahead) → a.reader ≡ id → StandsAt id (a ∷ others) 0
+found : (id : ℕ) (a : Ahead) (others : List Ahead) → a.reader ≡ id → IsWindowAt id (a ∷ others) 0
 found id a others e =
     let t : nat_eq a.reader id ≡ true = is_same a.reader id e in
     record {
@@ -21,7 +21,7 @@ found id a others e =
       changed = λ bytes. ap (λ (b : Bool). if b then (record { reader = id; bytes = bytes }) ∷ others else a ∷ with_ahead id bytes others) (sym t);
     }
 
-later : (id : ℕ) (a : Ahead) (others : List Ahead) (place : ℕ) → a.reader ≢ id → StandsAt id others place → StandsAt id (a ∷ others) (suc place)
+later : (id : ℕ) (a : Ahead) (others : List Ahead) (place : ℕ) → a.reader ≢ id → IsWindowAt id others place → IsWindowAt id (a ∷ others) (suc place)
 later id a others place ne s =
     let f : nat_eq a.reader id ≡ false = is_other a.reader id ne in
     record {
@@ -33,7 +33,7 @@ later id a others place ne s =
     }
 
 -- the first at which a reader stands
-pub stands : (id : ℕ) (ahead : List Ahead) (place : ℕ) (d : Ahead) → place < length ahead → (get_or ahead place d).reader ≡ id → ((k : ℕ) → k < place → (get_or ahead k d).reader ≢ id) → StandsAt id ahead place
+pub stands : (id : ℕ) (ahead : List Ahead) (place : ℕ) (d : Ahead) → place < length ahead → (get_or ahead place d).reader ≡ id → ((k : ℕ) → k < place → (get_or ahead k d).reader ≢ id) → IsWindowAt id ahead place
 stands id [] place d below here before = absurd (omega arith)
 stands id (a ∷ others) zero d below here before = found id a others here
 stands id (a ∷ others) (suc place) d below here before =

@@ -6,7 +6,7 @@ use Rattle.std.proofs.lemmas.Grind.{common_steps}
 use Rattle.plain_tokens.specs.Lines.{has_feed, before_feed, behind_feed, without_last}
 use Rattle.world_io.specs.declared.traits.Fault.{Fault}
 use Rattle.world_io.specs.Contents.{FilesTold, IsAtEnd}
-use Rattle.line_reader.specs.Ahead.{Ahead, StandsAt, is_begun, ahead_of, with_ahead}
+use Rattle.line_reader.specs.Ahead.{Ahead, IsWindowAt, is_begun, ahead_of, with_ahead}
 use Rattle.line_reader.specs.OpenLines.{OpenLines, used, part_read}
 use Rattle.line_reader.specs.Cuts.{lines_of, HasNoFeed, IsSound}
 use Rattle.line_reader.specs.Reading.{CameIn}
@@ -27,7 +27,7 @@ pub none_more : (xs ys : List ℕ) → has_feed xs ≡ false → has_feed (xs ++
 none_more [] ys h = before_none ys
 none_more (x ∷ xs) ys h = grind (arith, common_steps, none_more xs ys)
 
-module _ (id : ℕ) (ahead : List Ahead) (place : ℕ) (s : StandsAt id ahead place) where
+module _ (id : ℕ) (ahead : List Ahead) (place : ℕ) (s : IsWindowAt id ahead place) where
   pub bytes_at : (w : Ahead) → w ≡ get_or ahead place w → w.bytes ≡ ahead_of id ahead
   bytes_at w e = ap (λ (a : Ahead). a.bytes) e ∙ s.bytes w
 
@@ -98,13 +98,13 @@ module _ (b : OpenLines) (bytes starts : List ℕ) (behind : ℕ) (part_of : Opt
   pub ahead_same : (id : ℕ) → ahead_of id b.ahead ≡ ahead_of id ahead
   ahead_same id = ap (ahead_of id) ahead_view
 
-  pub read_is : (id place : ℕ) (w : Ahead) → StandsAt id ahead place → w.reader ≡ id → lines_of bytes starts behind part_of (set ahead place w) size levels ≡ record b { ahead = with_ahead id (ahead_of id (set ahead place w)) b.ahead }
+  pub read_is : (id place : ℕ) (w : Ahead) → IsWindowAt id ahead place → w.reader ≡ id → lines_of bytes starts behind part_of (set ahead place w) size levels ≡ record b { ahead = with_ahead id (ahead_of id (set ahead place w)) b.ahead }
   read_is id place w at e =
       let here : (record b { ahead = set ahead place w }) ≡ record b { ahead = with_ahead id (ahead_of id (set ahead place w)) ahead } = ap (λ (a : List Ahead). record b { ahead = a }) (set_at id ahead place at w e ∙ ap (λ (xs : List ℕ). with_ahead id xs ahead) (sym (ahead_set id ahead place at w e))) in
       ap (λ (x : OpenLines). record x { ahead = set ahead place w }) view ∙ here ∙ ap (λ (a : List Ahead). record b { ahead = with_ahead id (ahead_of id (set ahead place w)) a }) (sym ahead_view)
 
   -- a window that stays empty
-  pub read_none : (id place : ℕ) (w : Ahead) → StandsAt id ahead place → w.reader ≡ id → is_begun id b.ahead ≡ true → ahead_of id b.ahead ≡ [] → w.bytes ≡ [] → lines_of bytes starts behind part_of (set ahead place w) size levels ≡ b
+  pub read_none : (id place : ℕ) (w : Ahead) → IsWindowAt id ahead place → w.reader ≡ id → is_begun id b.ahead ≡ true → ahead_of id b.ahead ≡ [] → w.bytes ≡ [] → lines_of bytes starts behind part_of (set ahead place w) size levels ≡ b
   read_none id place w at e begun none empty =
       let same : with_ahead id [] b.ahead ≡ b.ahead = ap (λ (xs : List ℕ). with_ahead id xs b.ahead) (sym none) ∙ with-same id b.ahead begun in
       read_is id place w at e ∙ ap (λ (xs : List ℕ). record b { ahead = with_ahead id xs b.ahead }) (ahead_set id ahead place at w e ∙ empty) ∙ ap (λ (a : List Ahead). record b { ahead = a }) same

@@ -26,7 +26,7 @@ abbrev pub forgotten : ℕ → List Ahead → List Ahead
 forgotten id ahead = filter (λ a. not (a.reader == id)) ahead
 
 -- this reader's window stands at this place
-pub record StandsAt (id : ℕ) (ahead : List Ahead) (place : ℕ) : Type 0 where
+pub record IsWindowAt (id : ℕ) (ahead : List Ahead) (place : ℕ) : Type 0 where
   pub below : place < length ahead
   pub begun : is_begun id ahead ≡ true
   pub reader : (d : Ahead) → (slice_index_or ahead place d).reader ≡ id

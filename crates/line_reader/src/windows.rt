@@ -1,12 +1,12 @@
 // The windows of the readers that are begun.
 ghost use Rattle.std.specs.Prelude.{◌≡◌, ◌≤◌, ◌<◌, [], ◌∷◌, ◌++◌, length, true, false, MatchOption, vec_capacity};
-ghost use Rattle.line_reader.specs.Ahead.{StandsAt, is_begun, ahead_of, with_ahead, forgotten};
+ghost use Rattle.line_reader.specs.Ahead.{IsWindowAt, is_begun, ahead_of, with_ahead, forgotten};
 
 use crate::window::Window;
 
 /// Where the window of a reader stands.
 pub fn find(windows: &[Window], reader: u32) -> Option<usize>
-    ensures { MatchOption result (is_begun reader windows.now ≡ false) (λ at. StandsAt reader windows.now at) }
+    ensures { MatchOption result (is_begun reader windows.now ≡ false) (λ at. IsWindowAt reader windows.now at) }
 {
     let mut k = 0;
     while k < windows.len() {

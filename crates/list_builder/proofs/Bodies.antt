@@ -12,7 +12,7 @@ use Rattle.plain_tokens.specs.Categories.{begin_group, end_group, parameter}
 use Rattle.plain_tokens.specs.Tokens.{has_category, means_category}
 use Rattle.list_builder.specs.declared.stage.Stage.{Stage}
 use Rattle.list_builder.specs.declared.stage.Stage.TheVariants.{InBody, Reference, Illegal}
-use Rattle.plain_state.specs.Definitions.{Fed, Tok, Told, Given, Answer, Done, is_parameter, is_number, place_digit, is_reference, count_of, with_cell}
+use Rattle.plain_state.specs.Definitions.{Fed, Tok, Noted, Given, Answer, Done, is_parameter, is_number, place_digit, is_reference, count_of, with_cell}
 use Rattle.list_builder.specs.Plain.{body_of}
 use Rattle.list_builder.specs.Stages.{resume}
 use Rattle.list_builder.specs.Forms.{closes, is_plain, are_plain, is_in_body, are_in_body, IsSeen, IsClean}
@@ -143,7 +143,7 @@ ended front count d brace list ts s z e = record {
 
 pub completed : (front : List Token) (m : Manner) (s : Stage) (list : List Token) (fed : List Fed) (ts : List Token) → Holds front s list → IsClean fed → resume m s list fed ≡ Done ts → Completed front (count_in s) (brace_in s) ts
 completed front m (InBody b d) list [] ts h clean e = absurd (cc)
-completed front m (InBody b d) list (Told ∷ fed) ts h clean e = completed front m (InBody b d) list fed ts h clean e
+completed front m (InBody b d) list (Noted ∷ fed) ts h clean e = completed front m (InBody b d) list fed ts h clean e
 completed front m (InBody b d) list (Given us ∷ fed) ts h clean e =
     completed front m (InBody b d) (list ++ us) fed ts (stood_on front _ d d list us h (plain_all _ us clean.0.plain) (closes_inside d us clean.0.balanced)) clean.1 e
 completed front m (InBody b d) list (Tok x ∷ fed) ts h clean e =
@@ -158,7 +158,7 @@ completed front m (InBody b d) list (Tok x ∷ fed) ts h clean e =
     chosen (is_reference (body_of b) x) _ _ ts (λ r j. completed front m (Reference b d x.token) list fed ts (h, p, n) clean.1 j)
     (λ r j. completed front m (InBody b d) (list ++ x.token ∷ []) fed ts (stood_on front _ d d list _ h one (closes_other d x.token n)) clean.1 j) i) g) e
 completed front m (Reference b d c) list [] ts h clean e = absurd (cc)
-completed front m (Reference b d c) list (Told ∷ fed) ts h clean e = completed front m (Reference b d c) list fed ts h clean e
+completed front m (Reference b d c) list (Noted ∷ fed) ts h clean e = completed front m (Reference b d c) list fed ts h clean e
 completed front m (Reference b d c) list (Given us ∷ fed) ts h clean e = completed front m (Reference b d c) list fed ts h clean.1 e
 completed front m (Reference b d c) list (Tok y ∷ fed) ts h clean e =
     chosen (is_parameter y) _ _ ts
@@ -168,7 +168,7 @@ completed front m (Reference b d c) list (Tok y ∷ fed) ts h clean e =
     (λ o i. completed front m (InBody b d) (list ++ Number (place_digit y.token) ∷ []) fed ts (stood_on front _ d d list _ h.0 (one_in _ (Number (place_digit y.token)) (number_in _ y.token o)) refl) clean.1 i)
     (λ o i. completed front m (Illegal b d c) list fed ts h clean.1 i) g) e
 completed front m (Illegal b d c) list [] ts h clean e = absurd (cc)
-completed front m (Illegal b d c) list (Told ∷ fed) ts h clean e = completed front m (InBody b d) (list ++ c ∷ []) fed ts (stood_on front _ d d list _ h.0 (one_in _ c (plain_in _ c h.1)) (closes_other d c h.2)) clean e
+completed front m (Illegal b d c) list (Noted ∷ fed) ts h clean e = completed front m (InBody b d) (list ++ c ∷ []) fed ts (stood_on front _ d d list _ h.0 (one_in _ c (plain_in _ c h.1)) (closes_other d c h.2)) clean e
 completed front m (Illegal b d c) list (Given us ∷ fed) ts h clean e = completed front m (Illegal b d c) list fed ts h clean.1 e
 completed front m (Illegal b d c) list (Tok y ∷ fed) ts h clean e = completed front m (Illegal b d c) list fed ts h clean.1 e
 completed front m s list fed ts h clean e = absurd h

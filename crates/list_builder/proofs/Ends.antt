@@ -10,7 +10,7 @@ use Rattle.list_builder.specs.declared.stage.Body.{Body}
 use Rattle.list_builder.specs.declared.stage.Stage.{Stage}
 use Rattle.list_builder.specs.declared.stage.Stage.TheVariants.{First, FirstMissing, Parameters, Misnumbered, Tenth, BodyMissing, InBody, Reference, Illegal}
 use Rattle.list_builder.specs.declared.stage.Stage.TheVariants as stage
-use Rattle.plain_state.specs.Definitions.{Fed, Tok, Told, Given, Answer, Done, is_parameter, character_of, is_digit, is_number, place_digit, is_reference, count_of}
+use Rattle.plain_state.specs.Definitions.{Fed, Tok, Noted, Given, Answer, Done, is_parameter, character_of, is_digit, is_number, place_digit, is_reference, count_of}
 use Rattle.list_builder.specs.Plain.{body_of}
 use Rattle.list_builder.specs.Stages.{resume}
 
@@ -27,55 +27,55 @@ split false p q p2 q2 ts f g e = g e
 
 pub ends : (m : Manner) (s : Stage) (list : List Token) (fed more : List Fed) (ts : List Token) → resume m s list fed ≡ Done ts → resume m s list (fed ++ more) ≡ Done ts
 ends m First list [] more ts e = cc
-ends m First list (Told ∷ fed) more ts e = ends m First list fed more ts e
+ends m First list (Noted ∷ fed) more ts e = ends m First list fed more ts e
 ends m First list (Given us ∷ fed) more ts e = ends m First list fed more ts e
 ends m First list (Tok x ∷ fed) more ts e =
     split (means_category begin_group x.meaning) _ _ _ _ ts (λ h. ends m (InBody text_inside 0) list fed more ts h)
     (λ h. ends m FirstMissing list fed more ts h) e
 ends m FirstMissing list [] more ts e = cc
-ends m FirstMissing list (Told ∷ fed) more ts e = ends m (InBody text_inside 0) list fed more ts e
+ends m FirstMissing list (Noted ∷ fed) more ts e = ends m (InBody text_inside 0) list fed more ts e
 ends m FirstMissing list (Given us ∷ fed) more ts e = ends m FirstMissing list fed more ts e
 ends m FirstMissing list (Tok x ∷ fed) more ts e = ends m FirstMissing list fed more ts e
 ends m (Parameters n) list [] more ts e = cc
-ends m (Parameters n) list (Told ∷ fed) more ts e = ends m (Parameters n) list fed more ts e
+ends m (Parameters n) list (Noted ∷ fed) more ts e = ends m (Parameters n) list fed more ts e
 ends m (Parameters n) list (Given us ∷ fed) more ts e = ends m (Parameters n) list fed more ts e
 ends m (Parameters n) list (Tok x ∷ fed) more ts e =
     split (has_category begin_group x.token) _ _ _ _ ts (λ h. ends m (InBody (macro_inside n None) 0) (list ++ EndPlaces ∷ []) fed more ts h)
     (λ g. split (has_category end_group x.token) _ _ _ _ ts (λ h. ends m BodyMissing (list ++ EndPlaces ∷ []) fed more ts h)
     (λ h. split (is_parameter x) _ _ _ _ ts (λ i. ends m (stage.Place n (character_of x.meaning)) list fed more ts i) (λ i. ends m (Parameters n) (list ++ x.token ∷ []) fed more ts i) h) g) e
 ends m (stage.Place n c) list [] more ts e = cc
-ends m (stage.Place n c) list (Told ∷ fed) more ts e = ends m (stage.Place n c) list fed more ts e
+ends m (stage.Place n c) list (Noted ∷ fed) more ts e = ends m (stage.Place n c) list fed more ts e
 ends m (stage.Place n c) list (Given us ∷ fed) more ts e = ends m (stage.Place n c) list fed more ts e
 ends m (stage.Place n c) list (Tok y ∷ fed) more ts e =
     split (has_category begin_group y.token) _ _ _ _ ts (λ h. ends m (InBody (macro_inside n (Some y.token)) 0) ((list ++ y.token ∷ []) ++ EndPlaces ∷ []) fed more ts h)
     (λ g. split (nat_le 9 n) _ _ _ _ ts (λ h. ends m (Tenth n) list fed more ts h)
     (λ h. split (is_digit (n + 1) y.token) _ _ _ _ ts (λ i. ends m (Parameters (n + 1)) (list ++ Place c ∷ []) fed more ts i) (λ i. ends m (Misnumbered (n + 1) c) list fed more ts i) h) g) e
 ends m (Misnumbered n c) list [] more ts e = cc
-ends m (Misnumbered n c) list (Told ∷ fed) more ts e = ends m (Parameters n) (list ++ Place c ∷ []) fed more ts e
+ends m (Misnumbered n c) list (Noted ∷ fed) more ts e = ends m (Parameters n) (list ++ Place c ∷ []) fed more ts e
 ends m (Misnumbered n c) list (Given us ∷ fed) more ts e = ends m (Misnumbered n c) list fed more ts e
 ends m (Misnumbered n c) list (Tok y ∷ fed) more ts e = ends m (Misnumbered n c) list fed more ts e
 ends m (Tenth n) list [] more ts e = cc
-ends m (Tenth n) list (Told ∷ fed) more ts e = ends m (Parameters n) list fed more ts e
+ends m (Tenth n) list (Noted ∷ fed) more ts e = ends m (Parameters n) list fed more ts e
 ends m (Tenth n) list (Given us ∷ fed) more ts e = ends m (Tenth n) list fed more ts e
 ends m (Tenth n) list (Tok y ∷ fed) more ts e = ends m (Tenth n) list fed more ts e
 ends m BodyMissing list [] more ts e = cc
-ends m BodyMissing list (Told ∷ fed) more ts e = e
+ends m BodyMissing list (Noted ∷ fed) more ts e = e
 ends m BodyMissing list (Given us ∷ fed) more ts e = ends m BodyMissing list fed more ts e
 ends m BodyMissing list (Tok y ∷ fed) more ts e = ends m BodyMissing list fed more ts e
 ends m (InBody b d) list [] more ts e = cc
-ends m (InBody b d) list (Told ∷ fed) more ts e = ends m (InBody b d) list fed more ts e
+ends m (InBody b d) list (Noted ∷ fed) more ts e = ends m (InBody b d) list fed more ts e
 ends m (InBody b d) list (Given us ∷ fed) more ts e = ends m (InBody b d) (list ++ us) fed more ts e
 ends m (InBody b d) list (Tok x ∷ fed) more ts e =
     split (has_category begin_group x.token) _ _ _ _ ts (λ h. ends m (InBody b (d + 1)) (list ++ x.token ∷ []) fed more ts h)
     (λ g. split (has_category end_group x.token) _ _ _ _ ts (λ h. split (d == 0) _ _ _ _ ts (λ i. i) (λ i. ends m (InBody b (d - 1)) (list ++ x.token ∷ []) fed more ts i) h)
     (λ h. split (is_reference (body_of b) x) _ _ _ _ ts (λ i. ends m (Reference b d x.token) list fed more ts i) (λ i. ends m (InBody b d) (list ++ x.token ∷ []) fed more ts i) h) g) e
 ends m (Reference b d c) list [] more ts e = cc
-ends m (Reference b d c) list (Told ∷ fed) more ts e = ends m (Reference b d c) list fed more ts e
+ends m (Reference b d c) list (Noted ∷ fed) more ts e = ends m (Reference b d c) list fed more ts e
 ends m (Reference b d c) list (Given us ∷ fed) more ts e = ends m (Reference b d c) list fed more ts e
 ends m (Reference b d c) list (Tok y ∷ fed) more ts e =
     split (is_parameter y) _ _ _ _ ts (λ h. ends m (InBody b d) (list ++ y.token ∷ []) fed more ts h)
     (λ g. split (is_number (count_of b.places) y.token) _ _ _ _ ts (λ h. ends m (InBody b d) (list ++ Number (place_digit y.token) ∷ []) fed more ts h) (λ h. ends m (Illegal b d c) list fed more ts h) g) e
 ends m (Illegal b d c) list [] more ts e = cc
-ends m (Illegal b d c) list (Told ∷ fed) more ts e = ends m (InBody b d) (list ++ c ∷ []) fed more ts e
+ends m (Illegal b d c) list (Noted ∷ fed) more ts e = ends m (InBody b d) (list ++ c ∷ []) fed more ts e
 ends m (Illegal b d c) list (Given us ∷ fed) more ts e = ends m (Illegal b d c) list fed more ts e
 ends m (Illegal b d c) list (Tok y ∷ fed) more ts e = ends m (Illegal b d c) list fed more ts e

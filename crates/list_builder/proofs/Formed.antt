@@ -12,7 +12,7 @@ use Rattle.plain_tokens.specs.Tokens.{has_category, means_category}
 use Rattle.list_builder.specs.declared.stage.Stage.{Stage}
 use Rattle.list_builder.specs.declared.stage.Stage.TheVariants.{First, FirstMissing, Parameters, Misnumbered, Tenth, BodyMissing, InBody}
 use Rattle.list_builder.specs.declared.stage.Stage.TheVariants as stage
-use Rattle.plain_state.specs.Definitions.{Fed, Tok, Told, Given, Done, is_parameter, character_of, is_digit, with_cell}
+use Rattle.plain_state.specs.Definitions.{Fed, Tok, Noted, Given, Done, is_parameter, character_of, is_digit, with_cell}
 use Rattle.list_builder.specs.Stages.{resume}
 use Rattle.list_builder.specs.Forms.{closes, is_plain, are_plain, are_in_front, is_place, places, is_in_body, are_in_body, IsBegin, IsMacro, IsText, IsSeen, IsClean}
 use Rattle.list_builder.proofs.Groups.{both, both_left, both_right}
@@ -52,14 +52,14 @@ Waits s = ⊥
 
 pub texts : (m : Manner) (s : Stage) (fed : List Fed) (ts : List Token) → Waits s → IsClean fed → resume m s [] fed ≡ Done ts → IsText ts
 texts m First [] ts w clean e = absurd (cc)
-texts m First (Told ∷ fed) ts w clean e = texts m First fed ts tt clean e
+texts m First (Noted ∷ fed) ts w clean e = texts m First fed ts tt clean e
 texts m First (Given us ∷ fed) ts w clean e = texts m First fed ts tt clean.1 e
 texts m First (Tok x ∷ fed) ts w clean e =
     chosen (means_category begin_group x.meaning) _ _ ts
     (λ a i. text_of ts (completed [] m (InBody text_inside 0) [] fed ts (stood_begun [] 0) clean.1 i))
     (λ a i. texts m FirstMissing fed ts tt clean.1 i) e
 texts m FirstMissing [] ts w clean e = absurd (cc)
-texts m FirstMissing (Told ∷ fed) ts w clean e = text_of ts (completed [] m (InBody text_inside 0) [] fed ts (stood_begun [] 0) clean e)
+texts m FirstMissing (Noted ∷ fed) ts w clean e = text_of ts (completed [] m (InBody text_inside 0) [] fed ts (stood_begun [] 0) clean e)
 texts m FirstMissing (Given us ∷ fed) ts w clean e = texts m FirstMissing fed ts tt clean.1 e
 texts m FirstMissing (Tok x ∷ fed) ts w clean e = texts m FirstMissing fed ts tt clean.1 e
 texts m s fed ts w clean e = absurd w
@@ -138,7 +138,7 @@ empty_body f list ts is front e = macro_of (places f) f None ts front tt (record
 
 pub definitions : (m : Manner) (s : Stage) (list : List Token) (fed : List Fed) (ts : List Token) → Leads s list → IsClean fed → resume m s list fed ≡ Done ts → IsMacro ts
 definitions m (Parameters n) list [] ts l clean e = absurd (cc)
-definitions m (Parameters n) list (Told ∷ fed) ts l clean e = definitions m (Parameters n) list fed ts l clean e
+definitions m (Parameters n) list (Noted ∷ fed) ts l clean e = definitions m (Parameters n) list fed ts l clean e
 definitions m (Parameters n) list (Given us ∷ fed) ts l clean e = definitions m (Parameters n) list fed ts l clean.1 e
 definitions m (Parameters n) list (Tok x ∷ fed) ts l clean e =
     chosen (has_category begin_group x.token) _ _ ts
@@ -148,7 +148,7 @@ definitions m (Parameters n) list (Tok x ∷ fed) ts l clean e =
     (λ o i. chosen (is_parameter x) _ _ ts (λ p j. definitions m (stage.Place n (character_of x.meaning)) list fed ts l clean.1 j)
     (λ p j. definitions m (Parameters n) (list ++ x.token ∷ []) fed ts (front_on n list x.token x.meaning l clean.0 (record { begins = a; ends = o })) clean.1 j) i) g) e
 definitions m (stage.Place n c) list [] ts l clean e = absurd (cc)
-definitions m (stage.Place n c) list (Told ∷ fed) ts l clean e = definitions m (stage.Place n c) list fed ts l clean e
+definitions m (stage.Place n c) list (Noted ∷ fed) ts l clean e = definitions m (stage.Place n c) list fed ts l clean e
 definitions m (stage.Place n c) list (Given us ∷ fed) ts l clean e = definitions m (stage.Place n c) list fed ts l clean.1 e
 definitions m (stage.Place n c) list (Tok y ∷ fed) ts l clean e =
     chosen (has_category begin_group y.token) _ _ ts
@@ -158,15 +158,15 @@ definitions m (stage.Place n c) list (Tok y ∷ fed) ts l clean e =
     (λ p j. definitions m (Parameters (n + 1)) (list ++ Place c ∷ []) fed ts (front_place n c list l (below_nine n o)) clean.1 j)
     (λ p j. definitions m (Misnumbered (n + 1) c) list fed ts (front_place n c list l (below_nine n o)) clean.1 j) i) g) e
 definitions m (Misnumbered n c) list [] ts l clean e = absurd (cc)
-definitions m (Misnumbered n c) list (Told ∷ fed) ts l clean e = definitions m (Parameters n) (list ++ Place c ∷ []) fed ts l clean e
+definitions m (Misnumbered n c) list (Noted ∷ fed) ts l clean e = definitions m (Parameters n) (list ++ Place c ∷ []) fed ts l clean e
 definitions m (Misnumbered n c) list (Given us ∷ fed) ts l clean e = definitions m (Misnumbered n c) list fed ts l clean.1 e
 definitions m (Misnumbered n c) list (Tok y ∷ fed) ts l clean e = definitions m (Misnumbered n c) list fed ts l clean.1 e
 definitions m (Tenth n) list [] ts l clean e = absurd (cc)
-definitions m (Tenth n) list (Told ∷ fed) ts l clean e = definitions m (Parameters n) list fed ts l clean e
+definitions m (Tenth n) list (Noted ∷ fed) ts l clean e = definitions m (Parameters n) list fed ts l clean e
 definitions m (Tenth n) list (Given us ∷ fed) ts l clean e = definitions m (Tenth n) list fed ts l clean.1 e
 definitions m (Tenth n) list (Tok y ∷ fed) ts l clean e = definitions m (Tenth n) list fed ts l clean.1 e
 definitions m BodyMissing list [] ts l clean e = absurd (cc)
-definitions m BodyMissing list (Told ∷ fed) ts l clean e = empty_body l.0 list ts l.1 l.2 e
+definitions m BodyMissing list (Noted ∷ fed) ts l clean e = empty_body l.0 list ts l.1 l.2 e
 definitions m BodyMissing list (Given us ∷ fed) ts l clean e = definitions m BodyMissing list fed ts l clean.1 e
 definitions m BodyMissing list (Tok y ∷ fed) ts l clean e = definitions m BodyMissing list fed ts l clean.1 e
 definitions m s list fed ts l clean e = absurd l

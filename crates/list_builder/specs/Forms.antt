@@ -8,7 +8,7 @@ use Rattle.tex_defs.specs.declared.Meaning.TheVariants as means
 use Rattle.tex_defs.specs.declared.Seen.{Seen}
 use Rattle.plain_tokens.specs.Categories.{begin_group, end_group, is_between}
 use Rattle.plain_tokens.specs.Tokens.{has_category, means_category}
-use Rattle.plain_state.specs.Definitions.{Fed, Tok, Told, Given, Done, is_parameter, with_cell, definition, text}
+use Rattle.plain_state.specs.Definitions.{Fed, Tok, Noted, Given, Done, is_parameter, with_cell, definition, text}
 
 -- GROUPS
 
@@ -103,7 +103,7 @@ IsSeen x m = ⊥
 abbrev pub IsClean : List Fed → Type 0
 IsClean [] = Unit {0}
 IsClean (Tok x ∷ fed) = IsSeen x.token x.meaning × IsClean fed
-IsClean (Told ∷ fed) = IsClean fed
+IsClean (Noted ∷ fed) = IsClean fed
 IsClean (Given ts ∷ fed) = IsText ts × IsClean fed
 
 -- THE LAWS

@@ -7,7 +7,7 @@ use Rattle.tex_defs.specs.declared.Token.{Token}
 use Rattle.tex_defs.specs.declared.Token.TheVariants.{Char, Named, Place, Number, EndPlaces}
 use Rattle.tex_defs.specs.declared.Name.TheVariants.{Single}
 use Rattle.tex_defs.specs.declared.Meaning.TheVariants as means
-use Rattle.plain_state.specs.Definitions.{Fed, Tok, Told, Given, More, Tells, Done, definition, text}
+use Rattle.plain_state.specs.Definitions.{Fed, Tok, Noted, Given, More, Tells, Done, definition, text}
 
 -- a character that is read with this category
 abbrev pub read : (category code : ℕ) → Fed
@@ -76,22 +76,22 @@ pub record WorkedDefinitions : Type 0 where
 pub record WorkedReports : Type 0 where
   -- \def\a#2.. : the place counts, and the 2 is read again
   pub number : definition raw (mark ∷ digit 2 ∷ []) ≡ Tells NotConsecutive true []
-  pub behind_number : definition raw (mark ∷ digit 2 ∷ Told ∷ digit 2 ∷ left ∷ right ∷ []) ≡ Done (Place 35 ∷ Char 12 50 ∷ EndPlaces ∷ [])
+  pub behind_number : definition raw (mark ∷ digit 2 ∷ Noted ∷ digit 2 ∷ left ∷ right ∷ []) ≡ Done (Place 35 ∷ Char 12 50 ∷ EndPlaces ∷ [])
   -- `#` and an implicit brace
   pub brace : definition raw (mark ∷ implicit 1 ∷ []) ≡ Tells NotConsecutive true []
   -- a tenth place
   pub tenth : definition raw (nine ++ mark ∷ digit 1 ∷ []) ≡ Tells AlreadyNine false nine_places
-  pub behind_tenth : definition raw (nine ++ mark ∷ digit 1 ∷ Told ∷ left ∷ right ∷ []) ≡ Done (nine_places ++ EndPlaces ∷ [])
+  pub behind_tenth : definition raw (nine ++ mark ∷ digit 1 ∷ Noted ∷ left ∷ right ∷ []) ≡ Done (nine_places ++ EndPlaces ∷ [])
   -- behind nine places `#{` is none
   pub no_tenth : definition raw (nine ++ mark ∷ left ∷ right ∷ []) ≡ Done (nine_places ++ Char 1 123 ∷ EndPlaces ∷ Char 1 123 ∷ [])
   -- \def\a x}: the body is empty
   pub missing : definition raw (letter 120 ∷ right ∷ []) ≡ Tells MissingBrace false (Char 11 120 ∷ EndPlaces ∷ [])
-  pub behind_missing : definition raw (letter 120 ∷ right ∷ Told ∷ []) ≡ Done (Char 11 120 ∷ EndPlaces ∷ [])
+  pub behind_missing : definition raw (letter 120 ∷ right ∷ Noted ∷ []) ≡ Done (Char 11 120 ∷ EndPlaces ∷ [])
   -- \def\a{#1}: the 1 is read again, and the `#` is kept
   pub illegal : definition raw (left ∷ mark ∷ digit 1 ∷ []) ≡ Tells (IllegalNumber (Single 97)) true (EndPlaces ∷ [])
-  pub behind_illegal : definition raw (left ∷ mark ∷ digit 1 ∷ Told ∷ digit 1 ∷ right ∷ []) ≡ Done (EndPlaces ∷ Char 6 35 ∷ Char 12 49 ∷ [])
+  pub behind_illegal : definition raw (left ∷ mark ∷ digit 1 ∷ Noted ∷ digit 1 ∷ right ∷ []) ≡ Done (EndPlaces ∷ Char 6 35 ∷ Char 12 49 ∷ [])
   -- \def\a{#}: the brace is read again
-  pub alone : definition raw (left ∷ mark ∷ right ∷ Told ∷ right ∷ []) ≡ Done (EndPlaces ∷ Char 6 35 ∷ [])
+  pub alone : definition raw (left ∷ mark ∷ right ∷ Noted ∷ right ∷ []) ≡ Done (EndPlaces ∷ Char 6 35 ∷ [])
   -- 0 is no parameter's number
   pub zeroth : definition raw (mark ∷ digit 1 ∷ left ∷ mark ∷ digit 0 ∷ []) ≡ Tells (IllegalNumber (Single 97)) true (Place 35 ∷ EndPlaces ∷ [])
 
@@ -110,4 +110,4 @@ pub record WorkedTexts : Type 0 where
   -- what is skipped before it is fed is no brace either
   pub relax_missing : text raw (relax ∷ []) ≡ Tells MissingBrace true []
   pub space_missing : text raw (read 10 32 ∷ []) ≡ Tells MissingBrace true []
-  pub behind_missing : text raw (letter 97 ∷ Told ∷ letter 97 ∷ right ∷ []) ≡ Done (Char 11 97 ∷ [])
+  pub behind_missing : text raw (letter 97 ∷ Noted ∷ letter 97 ∷ right ∷ []) ≡ Done (Char 11 97 ∷ [])

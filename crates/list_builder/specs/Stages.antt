@@ -64,11 +64,6 @@ abbrev pub IsReport : Due → Type 0
 IsReport (due.More want) = ⊥
 IsReport (due.Tells report give_back) = Unit {0}
 
--- a token list may be handed over: the body is being read
-abbrev pub IsInBody : Stage → Type 0
-IsInBody (stage.InBody b depth) = Unit {0}
-IsInBody s = ⊥
-
 -- the list that a step leaves, and what is answered then
 abbrev pub grown : Step → List Token → List Token
 grown s list = with_cell (with_cell list s.first) s.second

@@ -5,7 +5,7 @@ ghost use Rattle.token_lists.specs.Table.{Entry, tokens_at, holders_at, IsHeld};
 ghost use Rattle.token_lists.specs.Accounts.{Moves, Keeps, none};
 ghost use Rattle.token_lists.specs.Ids.{id_of, build_id};
 ghost use Rattle.token_lists.specs.Refusals.{IsFull};
-ghost use Rattle.plain_state.specs.Definitions.{Fed, Tok, Told, Given};
+ghost use Rattle.plain_state.specs.Definitions.{Fed, Tok, Noted, Given};
 ghost use Rattle.list_builder.specs.Stages.{depth_of, depth_after, growth, grown};
 ghost use Rattle.list_builder.specs.Stages as stages;
 ghost use Rattle.list_builder.specs.Scans.{resume, work_in, scan_holds, Owns, IsSound, Goes, Answers, IsCutShort, IsCutInCopy, list_of, answer_of, IsOpen};
@@ -101,13 +101,13 @@ impl ListScan {
     ///
     /// # Errors
     /// All words are used.
-    pub fn feed_told(&mut self, lists: &mut Lists) -> Result<Ask, Full>
+    pub fn feed_noted(&mut self, lists: &mut Lists) -> Result<Ask, Full>
         requires { IsSound lists.old self.old }
-        ensures answers { IfOk result (λ answer. Answers lists.old lists.new self.old self.new Told answer) }
-        ensures cut_short { OnErr result (IsCutShort lists.old lists.new self.old self.new (list_of (resume lists.old self.old (Told ∷ [])))) }
+        ensures answers { IfOk result (λ answer. Answers lists.old lists.new self.old self.new Noted answer) }
+        ensures cut_short { OnErr result (IsCutShort lists.old lists.new self.old self.new (list_of (resume lists.old self.old (Noted ∷ [])))) }
         ensures full { IfErr result (λ f. IsFull f lists.new) }
     {
-        let step = self.stage.told();
+        let step = self.stage.noted();
         self.go(lists, step)
     }
 

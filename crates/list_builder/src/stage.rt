@@ -5,7 +5,7 @@ ghost use Rattle.list_builder.specs.declared.stage.Next.TheVariants.{On};
 ghost use Rattle.tex_defs.specs.declared.Token.{Token};
 ghost use Rattle.token_lists.specs.Table.{Entry};
 ghost use Rattle.plain_tokens.specs.Tokens.{has_category, is_other, means_category};
-ghost use Rattle.plain_state.specs.Definitions.{Fed, Tok, Told, is_parameter, character_of, is_number, place_digit, is_reference, first, parameters, place, body, reference};
+ghost use Rattle.plain_state.specs.Definitions.{Fed, Tok, Noted, is_parameter, character_of, is_number, place_digit, is_reference, first, parameters, place, body, reference};
 ghost use Rattle.list_builder.specs.Plain.{body_of};
 ghost use Rattle.list_builder.specs.Stages.{resume, depth_of, due_of, is_kept, keeps_token, IsReport, IsTelling, TellsNext, goes, depth_after, growth};
 ghost use Rattle.list_builder.specs.Scans.{answer_of, IsOpen};
@@ -353,8 +353,8 @@ impl Stage {
     }
 
     /// What the note comes to that the report was written. Where none was due it comes to nothing.
-    pub fn told(self) -> Step
-        ensures takes { (m : Manner) (list : List Token) (fed : List Fed) → resume m self list (Told ∷ fed) ≡ goes result m list fed }
+    pub fn noted(self) -> Step
+        ensures takes { (m : Manner) (list : List Token) (fed : List Fed) → resume m self list (Noted ∷ fed) ≡ goes result m list fed }
         ensures shallow { depth_after result.next ≤ depth_of self + growth result }
         ensures no_deeper { depth_after result.next ≤ depth_of self }
         ensures one { result.second ≡ None }

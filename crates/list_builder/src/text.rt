@@ -6,7 +6,7 @@ ghost use Rattle.token_lists.specs.Accounts.{Moves, Keeps, none};
 ghost use Rattle.token_lists.specs.Ids.{id_of, build_id};
 ghost use Rattle.token_lists.specs.Refusals.{IsFull};
 ghost use Rattle.tex_defs.specs.declared.Name.TheVariants.{Empty};
-ghost use Rattle.plain_state.specs.Definitions.{Fed, Tok, Told, Given, text};
+ghost use Rattle.plain_state.specs.Definitions.{Fed, Tok, Noted, Given, text};
 ghost use Rattle.list_builder.specs.Scans.{resume, work_in, scan_holds, Owns, IsSound, Answers, IsCutShort, IsCutInCopy, list_of, answer_of, IsOpen};
 
 use crate::ask::Ask;
@@ -71,13 +71,13 @@ impl TextScan {
     ///
     /// # Errors
     /// All words are used; the scanner stands where it stood.
-    pub fn feed_told(&mut self, lists: &mut Lists) -> Result<Ask, Full>
+    pub fn feed_noted(&mut self, lists: &mut Lists) -> Result<Ask, Full>
         requires { IsSound lists.old self.old.scan }
-        ensures answers { IfOk result (λ answer. Answers lists.old lists.new self.old.scan self.new.scan Told answer) }
-        ensures cut_short { OnErr result (IsCutShort lists.old lists.new self.old.scan self.new.scan (list_of (resume lists.old self.old.scan (Told ∷ [])))) }
+        ensures answers { IfOk result (λ answer. Answers lists.old lists.new self.old.scan self.new.scan Noted answer) }
+        ensures cut_short { OnErr result (IsCutShort lists.old lists.new self.old.scan self.new.scan (list_of (resume lists.old self.old.scan (Noted ∷ [])))) }
         ensures full { IfErr result (λ f. IsFull f lists.new) }
     {
-        self.scan.feed_told(lists)
+        self.scan.feed_noted(lists)
     }
 
     /// Takes the tokens of a token list behind `\the`, which somebody else holds: into the body they go as they are,

@@ -162,7 +162,7 @@ module _ (old_table table : List (Option Entry)) (macro : ℕ) (old : ArgScan) (
       stage = inr (record {
         none = done.between.none;
         mode = taken_mode;
-        settled = done.between.settled;
+        unbraced = done.between.unbraced;
         args = mid_args
             ∙ ap (λ (a : List Token). args_in old_table old.args ++ a ∷ []) (sym (target old_table table macro old x t.p t.was sound t.took.2 account (tokens_at table (build_id t.q.build)) t.took.3.met))
             ∙ sym (ap (λ (o : Option Present). args_with (option_map (λ s. stage_of old_table s) o) (args_in old_table old.args) (target_of (resume old_table macro old []) (resume old_table macro old (Tok x ∷ [])))) t.was);

@@ -2,7 +2,7 @@
 use Rattle.std.proofs.Common.{◌≡◌, List, [], ◌∷◌, ◌++◌, refl, sym, ap, subst, ◌∙◌, Bool, true, false}
 use Rattle.std.specs.Prelude.{if◌then◌else◌}
 use Rattle.tex_defs.specs.declared.Token.{Token}
-use Rattle.plain_tokens.specs.Arguments.{ParMode, Short, Checked, same, Case, Argument, ExtraBrace, ParEnded, Skipped, Going, Fed, Tok, Cut, Settled, Answer, Mismatch, Ended, Found, Sought, Gathered, Failed, case_at, search, sought, arguments, behind, call, is_checked}
+use Rattle.plain_tokens.specs.Arguments.{ParMode, Short, Checked, same, Case, Argument, ExtraBrace, ParEnded, Skipped, Going, Fed, Tok, Cut, Noted, Answer, Mismatch, Ended, Found, Sought, Gathered, Failed, case_at, search, sought, arguments, behind, call, is_checked}
 use Rattle.macro_call.specs.ArgumentLaws.{IsClosed}
 
 pub arguments_behind : (mode : ParMode) (args places : List (List Token)) (ds : List Token) (fed : List Fed) → arguments mode args (ds ∷ places) fed ≡ behind args places (search ds false mode [] [] fed)
@@ -60,7 +60,7 @@ search_grows : (fed more : List Fed) (ds : List Token) (braced : Bool) (mode : P
     Grows (search ds braced mode kept t fed) (search ds braced mode kept t (fed ++ more)) more
 search_grows [] more ds braced mode kept t = tt
 search_grows (Cut ∷ fed) more ds braced mode kept t = search_grows fed more ds false Checked kept t
-search_grows (Settled ∷ fed) more ds braced mode kept t = search_grows fed more ds false mode kept t
+search_grows (Noted ∷ fed) more ds braced mode kept t = search_grows fed more ds false mode kept t
 search_grows (Tok x ∷ fed) more ds braced mode kept t =
     grows_along _ _ _ _ more
     (search_at ds braced mode kept t x fed (case_at ds mode kept t x) refl)
@@ -90,5 +90,5 @@ pub call_stays : (fed more : List Fed) (mode : ParMode) (start : List Token) (pl
 call_stays fed more mode [] places c = arguments_stay places more mode [] fed c
 call_stays [] more mode (d ∷ ds) places c = absurd c
 call_stays (Cut ∷ fed) more mode (d ∷ ds) places c = call_stays fed more Checked (d ∷ ds) places c
-call_stays (Settled ∷ fed) more mode (d ∷ ds) places c = call_stays fed more mode (d ∷ ds) places c
+call_stays (Noted ∷ fed) more mode (d ∷ ds) places c = call_stays fed more mode (d ∷ ds) places c
 call_stays (Tok x ∷ fed) more mode (d ∷ ds) places c = test_stays (same x d) (call mode ds places fed) (call mode ds places (fed ++ more)) c (call_stays fed more mode ds places)

@@ -95,7 +95,7 @@ module _ (old_table table : List (Option Entry)) (macro : ℕ) (old : ArgScan) (
   completed = record {
     between = record {
       none = refl;
-      settled = whole.settled;
+      unbraced = whole.unbraced;
       ends = ends;
       on = on;
       owns = λ h. omega (arith, whole.owns h, holds_now h, account h, held h);

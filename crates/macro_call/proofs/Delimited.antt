@@ -6,7 +6,7 @@ use Rattle.std.proofs.lemmas.List.{take-append-drop, append-nil, length-take-le,
 use Rattle.tex_defs.specs.declared.Token.{Token}
 use Rattle.plain_tokens.specs.Arguments.{ParMode, is_end, is_par, is_short, open_behind, open_after, all_close, is_balanced, is_prefix, is_nil, partial, unmatched, front, is_delimited, is_extra, ends_par, delimited_case, without_braces, Argument, ExtraBrace, ParEnded, Going}
 use Rattle.macro_call.proofs.ArgumentMatches.{partial_on, unmatched_on, front_is_take, is_match, begins_outside, open_after_on, all_close_on, all_close_front, delimited_is, is_delimited_by, partial_of}
-use Rattle.macro_call.specs.Stages.{IsAt, Stage, StandsAt, Stands}
+use Rattle.macro_call.specs.Stages.{IsAt, Stage, IsDelimitedStage, IsStage}
 
 pub at_begin : (ds : List Token) → 0 < length ds → IsAt ds [] 0 0
 at_begin ds some = record { fits = some; rest = refl; part = refl; closes = refl; opens = refl }
@@ -135,10 +135,10 @@ module _ (ds list : List Token) (m depth : ℕ) (x : Token) (at : IsAt ds list m
             opens = ap (open_after 0) new_whole ∙ open_after_on 0 (list ++ take m ds) x ∙ ap (λ (k : ℕ). open_behind k x) at.opens;
           }
 
-pub stands_from : (ds : List Token) (s : Stage) → 0 < length ds → StandsAt ds s → Stands ds s
+pub stands_from : (ds : List Token) (s : Stage) → 0 < length ds → IsDelimitedStage ds s → IsStage ds s
 stands_from [] s h at = absurd (omega arith)
 stands_from (d ∷ ds) s h at = at
 
-pub stands_at : (ds : List Token) (s : Stage) → 0 < length ds → Stands ds s → StandsAt ds s
+pub stands_at : (ds : List Token) (s : Stage) → 0 < length ds → IsStage ds s → IsDelimitedStage ds s
 stands_at [] s h at = absurd (omega arith)
 stands_at (d ∷ ds) s h at = at

@@ -21,7 +21,7 @@ use Rattle.macro_args.specs.Args.{cell_tokens, args_in, args_hold}
 use Rattle.macro_call.specs.Cursors.{IsOn, IsAhead, rest_at, delimiter_at}
 use Rattle.macro_call.specs.Holds.{present_holds}
 use Rattle.macro_call.specs.Modes.{par_mode}
-use Rattle.macro_call.specs.Stages.{Stands, stage_of, kept_in, read_in}
+use Rattle.macro_call.specs.Stages.{IsStage, stage_of, kept_in, read_in}
 use Rattle.macro_call.specs.Tables.{IsOnly}
 use Rattle.macro_call.specs.PlainScans.{places_behind}
 use Rattle.macro_call.specs.Scans.{resume, left_at, scan_holds, IsSound, IsBetween, NextPlace, Enters}
@@ -49,14 +49,14 @@ cells_kept old new (Some r ∷ cells) same =
 pub args_kept : (old new : List (Option Entry)) (args : Args) → ((h : ℕ) → 0 < args_hold args h → entry_at new h ≡ entry_at old h) → args_in new args ≡ args_in old args
 args_kept old new args same = cells_kept old new (take args.count args.lists) (λ h l. same h (omega (arith, sum_by-take-le (λ (c : Option ListRef). cell_holds c h) args.lists args.count)))
 
-pub fresh_stands : (ds list : List Token) (from matched depth : ℕ) → list ≡ [] → from ≡ 0 → matched ≡ 0 → depth ≡ 0 → Stands ds (record { list = list; from = from; matched = matched; depth = depth })
+pub fresh_stands : (ds list : List Token) (from matched depth : ℕ) → list ≡ [] → from ≡ 0 → matched ≡ 0 → depth ≡ 0 → IsStage ds (record { list = list; from = from; matched = matched; depth = depth })
 fresh_stands ds list from matched depth l f m d =
-    subst (λ (ts : List Token). Stands ds (record { list = ts; from = from; matched = matched; depth = depth })) (sym l)
-    (subst (λ (n : ℕ). Stands ds (record { list = []; from = n; matched = matched; depth = depth })) (sym f)
-    (subst (λ (n : ℕ). Stands ds (record { list = []; from = 0; matched = n; depth = depth })) (sym m)
-    (subst (λ (n : ℕ). Stands ds (record { list = []; from = 0; matched = 0; depth = n })) (sym d) (by ds))))
+    subst (λ (ts : List Token). IsStage ds (record { list = ts; from = from; matched = matched; depth = depth })) (sym l)
+    (subst (λ (n : ℕ). IsStage ds (record { list = []; from = n; matched = matched; depth = depth })) (sym f)
+    (subst (λ (n : ℕ). IsStage ds (record { list = []; from = 0; matched = n; depth = depth })) (sym m)
+    (subst (λ (n : ℕ). IsStage ds (record { list = []; from = 0; matched = 0; depth = n })) (sym d) (by ds))))
   where
-    by : (ds : List Token) → Stands ds (record { list = []; from = 0; matched = 0; depth = 0 })
+    by : (ds : List Token) → IsStage ds (record { list = []; from = 0; matched = 0; depth = 0 })
     by [] = (refl, refl, refl)
     by (x ∷ xs) = (omega arith, at_begin (x ∷ xs) (omega arith))
 
@@ -107,7 +107,7 @@ module _ (old_table table : List (Option Entry)) (macro : ℕ) (old : ArgScan) (
   covers : Covers table (λ h. present_holds (Some p) h + args_hold old.args h)
   covers h = omega (arith, account h, between.owns h, old_holds h, new_holds h)
 
-  stands : Stands (delimiter_at table macro next) (stage_of table p)
+  stands : IsStage (delimiter_at table macro next) (stage_of table p)
   stands = fresh_stands (delimiter_at table macro next) (tokens_at table (build_id p.build)) p.from p.matched p.depth nothing zeros.0 zeros.1 zeros.2
 
   is_building : IsBuilding table p.build
@@ -143,14 +143,14 @@ module _ (old_table table : List (Option Entry)) (macro : ℕ) (old : ArgScan) (
       ∙ ap (λ (args : List (List Token)). behind args (places_behind (args_in table old.args) (rest_at table macro next)) (search (delimiter_at table macro next) false (par_mode old.mode) [] [] fed)) (sym same_args)
       ∙ ap (λ (k : List Token). behind (args_in table old.args) (places_behind (args_in table old.args) (rest_at table macro next)) (search (delimiter_at table macro next) false (par_mode old.mode) k [] fed)) (sym kept_none)
       ∙ ap (λ (t : List Token). behind (args_in table old.args) (places_behind (args_in table old.args) (rest_at table macro next)) (search (delimiter_at table macro next) false (par_mode old.mode) (kept_in (stage_of table p)) t fed)) (sym read_none)
-      ∙ ap (λ (s : Bool). behind (args_in table old.args) (places_behind (args_in table old.args) (rest_at table macro next)) (search (delimiter_at table macro next) s (par_mode old.mode) (kept_in (stage_of table p)) (read_in (delimiter_at table macro next) (stage_of table p)) fed)) (sym between.settled)
+      ∙ ap (λ (s : Bool). behind (args_in table old.args) (places_behind (args_in table old.args) (rest_at table macro next)) (search (delimiter_at table macro next) s (par_mode old.mode) (kept_in (stage_of table p)) (read_in (delimiter_at table macro next) (stage_of table p)) fed)) (sym between.unbraced)
 
   pub entered : Enters old_table table macro old (record { cursor = next; mode = old.mode; braced = old.braced; present = Some p; args = old.args }) ask.More
   entered = record {
     answers = ap₂ (λ (us : List (List Token)) (ts : List Token). More us (Some ts)) same_args nothing ∙ sym (ap (λ (ps : List (List Token)). arguments (par_mode old.mode) (args_in old_table old.args) ps []) places);
     args = same_args ∙ sym (ap (λ (ps : List (List Token)). arguments_in (arguments (par_mode old.mode) (args_in old_table old.args) ps [])) places);
     work = ap Some nothing ∙ sym (ap (λ (ps : List (List Token)). work_in (arguments (par_mode old.mode) (args_in old_table old.args) ps [])) places);
-    braced = between.settled;
+    braced = between.unbraced;
     sound = λ o. is_sound;
     same = λ o. goes_on;
     owns = record { covered = covers; building = λ q e. subst (λ (r : Present). IsBuilding table r.build) (same_Some p q e) is_building; filled = is_sound.filled; listed = is_sound.listed };

@@ -8,7 +8,7 @@ use Rattle.token_lists.specs.Ids.{build_id, IsBuilding}
 use Rattle.token_lists.specs.Table.{Entry}
 use Rattle.token_lists.specs.Accounts.{Moves, none, holds}
 use Rattle.macro_call.specs.declared.par_mode.ParMode.{ParMode}
-use Rattle.plain_tokens.specs.Arguments.{start_of, delimiters_of, unmatched, Case, Argument, Fed, Tok, Cut, Settled, Answer, search, behind, call, case_at, in_work, More, sought, arguments_in, work_in}
+use Rattle.plain_tokens.specs.Arguments.{start_of, unmatched, Case, Argument, Fed, Tok, Answer, search, behind, call, case_at, in_work, More, sought, arguments_in, work_in}
 use Rattle.plain_tokens.specs.Arguments as plain
 use Rattle.macro_call.proofs.ArgumentRuns.{search_at, found_after}
 use Rattle.macro_call.specs.declared.present.Present.{Present}
@@ -19,7 +19,7 @@ use Rattle.macro_call.specs.Cursors.{IsAhead, rest_at, delimiter_at}
 use Rattle.macro_call.specs.Holds.{present_holds}
 use Rattle.macro_call.specs.Modes.{par_mode}
 use Rattle.macro_call.specs.Growths.{target_of, growth_of}
-use Rattle.macro_call.specs.Stages.{Stage, Stands, stage_of, kept_in, read_in, target_at, gained}
+use Rattle.macro_call.specs.Stages.{Stage, IsStage, stage_of, kept_in, read_in, target_at, gained}
 use Rattle.macro_call.specs.Tables.{IsOnly}
 use Rattle.macro_call.specs.PlainScans.{resume_at, places_behind}
 use Rattle.macro_call.specs.Scans.{scan_of, resume, behind_at, scan_holds, Owns, Gains, IsSound, IsInPlace, Answers, answer_of, asks_brace, work_of, work_by, ScannersHaveLists}
@@ -33,7 +33,7 @@ abbrev pub resume_by : List (Option Entry) → (macro : ℕ) → ArgScan → Opt
 resume_by table macro scan o fed = resume_at (rest_at table macro scan.cursor) (scan_of table scan) (option_map (λ p. stage_of table p) o) fed
 
 -- the list in work is the list of the stage
-works : (ds : List Token) (s : Stage) → Stands ds s → in_work ds (kept_in s) (read_in ds s) ≡ s.list
+works : (ds : List Token) (s : Stage) → IsStage ds s → in_work ds (kept_in s) (read_in ds s) ≡ s.list
 works [] s h = ap₂ (λ (k t : List Token). k ++ unmatched [] 0 t) (plain_kept s h) (plain_read s h) ∙ unmatched_nil 0 s.list
 works (d ∷ ds) s h = ap (λ (ys : List Token). kept_in s ++ ys) h.1.rest ∙ take-append-drop s.from s.list
 
@@ -118,7 +118,7 @@ module _ (old_table table : List (Option Entry)) (macro : ℕ) (old : ArgScan) (
     pub now_moves : (mode : ParMode) (braced : Bool) → Moves old_table table (scan_holds old) (scan_holds (record { cursor = old.cursor; mode = mode; braced = braced; present = n; args = old.args }))
     now_moves mode braced = λ h. omega (arith, now_holds h, account h)
 
-    module _ (mode : ParMode) (braced : Bool) (kept t : List Token) (stands : Stands (delimiter_at old_table macro old.cursor) (stage_of table q)) (k : kept_in (stage_of table q) ≡ kept) (r : read_in (delimiter_at old_table macro old.cursor) (stage_of table q) ≡ t) (ahead : IsAhead table macro old.cursor q.matched q.next) where
+    module _ (mode : ParMode) (braced : Bool) (kept t : List Token) (stands : IsStage (delimiter_at old_table macro old.cursor) (stage_of table q)) (k : kept_in (stage_of table q) ≡ kept) (r : read_in (delimiter_at old_table macro old.cursor) (stage_of table q) ≡ t) (ahead : IsAhead table macro old.cursor q.matched q.next) where
       resumed : (fed : List Fed) → resume_by table macro (record { cursor = old.cursor; mode = mode; braced = braced; present = n; args = old.args }) n fed
           ≡ behind (args_in old_table old.args) (behind_at old_table macro old) (search (delimiter_at old_table macro old.cursor) braced (par_mode mode) kept t fed)
       resumed fed =
@@ -129,7 +129,7 @@ module _ (old_table table : List (Option Entry)) (macro : ℕ) (old : ArgScan) (
       now_in_place : IsInPlace table macro (record { cursor = old.cursor; mode = mode; braced = braced; present = n; args = old.args }) (Some q)
       now_in_place = (
         building,
-        subst (λ (rest : List Token). Stands (start_of rest) (stage_of table q)) (sym old_rest) stands,
+        subst (λ (rest : List Token). IsStage (start_of rest) (stage_of table q)) (sym old_rest) stands,
         here.2,
         ahead,
       )

@@ -5,7 +5,7 @@ use Rattle.std.proofs.lemmas.Bool.{cases_lt, true≢false}
 use Rattle.std.proofs.lemmas.List.{take-append-drop, append-nil, take-append-le, drop-append-le, take_all, drop_all, length-take-le}
 use Rattle.tex_defs.specs.declared.Token.{Token}
 use Rattle.plain_tokens.specs.Arguments.{ParMode, is_end, is_par, is_short, open_behind, open_after, partial, unmatched, in_work, delimited_case, without_braces, Case, Argument, ExtraBrace, ParEnded, Going}
-use Rattle.macro_call.specs.Stages.{IsAt, Stage, StandsAt, Took, Releases, kept_in, read_in, target_at, gained}
+use Rattle.macro_call.specs.Stages.{IsAt, Stage, IsDelimitedStage, Took, Releases, kept_in, read_in, target_at, gained}
 use Rattle.macro_call.specs.Tables.{IsGrownByPart}
 use Rattle.macro_call.specs.declared.present.Step.TheVariants as step
 use Rattle.macro_call.proofs.Fronts.{behind_bound}
@@ -17,11 +17,11 @@ open_bound [] n = omega arith
 open_bound (y ∷ ys) n = omega (arith, open_bound ys (open_behind n y), behind_bound n y)
 
 -- no more groups are open than tokens were read
-pub depth_within : (ds : List Token) (s : Stage) → StandsAt ds s → s.depth ≤ length s.list + s.matched
+pub depth_within : (ds : List Token) (s : Stage) → IsDelimitedStage ds s → s.depth ≤ length s.list + s.matched
 depth_within ds s at =
     omega (arith, open_bound (drop s.from s.list ++ take s.matched ds) 0, at.1.opens, length-append (drop s.from s.list) (take s.matched ds), length-drop s.from s.list, length-take-le s.matched ds (omega (arith, at.1.fits)))
 
-pub released_by : (ds : List Token) (s : Stage) (x : Token) (n out : ℕ) → StandsAt ds s → (0 < s.matched → n ≡ 0) → (s.matched ≡ 0 → n ≡ s.depth) → out ≤ s.matched + 1 →
+pub released_by : (ds : List Token) (s : Stage) (x : Token) (n out : ℕ) → IsDelimitedStage ds s → (0 < s.matched → n ≡ 0) → (s.matched ≡ 0 → n ≡ s.depth) → out ≤ s.matched + 1 →
     partial ds n (take s.matched ds ++ x ∷ []) ≡ drop out (take s.matched ds ++ x ∷ []) →
     unmatched ds n (take s.matched ds ++ x ∷ []) ≡ take out (take s.matched ds ++ x ∷ []) → Releases ds s x out
 released_by ds s x n out at a b within part rest = record { depth = n; before = before_is ds (drop s.from s.list) s.matched s.depth at.1 n a b; within = within; part = part; rest = rest }
@@ -38,7 +38,7 @@ list_whole s = take-append-drop s.from s.list
 all_kept : (ds : List Token) (s : Stage) → s.list ++ take s.matched ds ≡ kept_in s ++ read_in ds s
 all_kept ds s = ap (λ (ts : List Token). ts ++ take s.matched ds) (sym (list_whole s)) ∙ append_assoc (kept_in s) (drop s.from s.list) (take s.matched ds)
 
-module _ (ds : List Token) (old new : Stage) (x : Token) (mode : ParMode) (out : ℕ) (at : StandsAt ds old) (rel : Releases ds old x out) where
+module _ (ds : List Token) (old new : Stage) (x : Token) (mode : ParMode) (out : ℕ) (at : IsDelimitedStage ds old) (rel : Releases ds old x out) where
   pub took_whole : new.list ≡ without_braces old.list → out ≡ 0 → old.matched + 1 ≡ length ds → Took ds old x step.Argument new (delimited_case ds mode (kept_in old) (read_in ds old) x)
   took_whole e z l = record {
     met = ap Argument e ∙ ap (λ (ts : List Token). Argument (without_braces ts)) (sym (list_whole old))
@@ -95,7 +95,7 @@ module _ (ds : List Token) (old new : Stage) (x : Token) (mode : ParMode) (out :
           }
 
 -- Where the memory is full the list in work has some of the tokens that go into it.
-module _ (ds : List Token) (old : Stage) (x : Token) (mode : ParMode) (out : ℕ) (at : StandsAt ds old) (rel : Releases ds old x out) (open_yet : old.matched + 1 < length ds + out) (now : List Token) where
+module _ (ds : List Token) (old : Stage) (x : Token) (mode : ParMode) (out : ℕ) (at : IsDelimitedStage ds old) (rel : Releases ds old x out) (open_yet : old.matched + 1 < length ds + out) (now : List Token) where
   yet : old.matched + 1 - out < length ds
   yet = omega (arith, at.1.fits)
 

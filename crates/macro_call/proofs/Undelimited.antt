@@ -9,7 +9,7 @@ use Rattle.plain_tokens.specs.Arguments.{ParMode, Long, is_begin, is_end, is_par
 use Rattle.macro_call.proofs.ArgumentTokens.{no_par_end}
 use Rattle.macro_call.proofs.ArgumentGroups.{without_last_on, ends_in_brace_on}
 use Rattle.macro_call.proofs.ArgumentMatches.{open_after_on, all_close_on}
-use Rattle.macro_call.specs.Stages.{IsPlain, Stage, StandsPlain, kept_in, read_in, target_at, gained, Took}
+use Rattle.macro_call.specs.Stages.{IsPlain, Stage, IsPlainStage, kept_in, read_in, target_at, gained, Took}
 use Rattle.macro_call.specs.Tables.{IsGrownByPart}
 use Rattle.macro_call.proofs.Fronts.{behind_bound}
 use Rattle.macro_call.proofs.Tables.{part_last, part_to}
@@ -140,13 +140,13 @@ pub plain_begins : (x : Token) → is_begin x ≡ true → IsPlain (x ∷ []) 1
 plain_begins x g = (g, refl, refl)
 
 -- the stage
-pub plain_kept : (s : Stage) → StandsPlain s → kept_in s ≡ []
+pub plain_kept : (s : Stage) → IsPlainStage s → kept_in s ≡ []
 plain_kept s h = ap (λ (k : ℕ). take k s.list) h.0
 
-pub plain_read : (s : Stage) → StandsPlain s → read_in [] s ≡ s.list
+pub plain_read : (s : Stage) → IsPlainStage s → read_in [] s ≡ s.list
 plain_read s h = ap (λ (k : ℕ). drop k s.list ++ take s.matched []) h.0 ∙ ap (λ (k : ℕ). s.list ++ take k []) h.1 ∙ append-nil s.list
 
-module _ (old new : Stage) (x : Token) (met : Case) (stands : StandsPlain old) where
+module _ (old new : Stage) (x : Token) (met : Case) (stands : IsPlainStage old) where
   pub took_argument : (value : List Token) → new.list ≡ value → Argument value ≡ met → Took [] old x step.Argument new met
   took_argument value e c = record { met = ap Argument e ∙ c; goes_on = tt }
 
@@ -154,7 +154,7 @@ module _ (old new : Stage) (x : Token) (met : Case) (stands : StandsPlain old) w
   took_end e c = record { met = c; goes_on = e ∙ sym (plain_read old stands) ∙ sym (ap (λ (l : List Token). l ++ read_in [] old) (plain_kept old stands)) }
 
   pub took_space : new ≡ old → Skipped ≡ met → Took [] old x step.Skipped new met
-  took_space e c = record { met = c; goes_on = (ap kept_in e, ap (read_in []) e, subst StandsPlain (sym e) stands) }
+  took_space e c = record { met = c; goes_on = (ap kept_in e, ap (read_in []) e, subst IsPlainStage (sym e) stands) }
 
   pub took_extra : new ≡ old → old.list ≡ [] → ExtraBrace ≡ met → Took [] old x step.ExtraBrace new met
   took_extra e z c = record {
@@ -162,13 +162,13 @@ module _ (old new : Stage) (x : Token) (met : Case) (stands : StandsPlain old) w
     goes_on = (
       ap kept_in e ∙ plain_kept old stands ∙ sym (ap (λ (l : List Token). l ++ read_in [] old) (plain_kept old stands) ∙ plain_read old stands ∙ z),
       ap (read_in []) e ∙ plain_read old stands ∙ z,
-      subst StandsPlain (sym e) stands,
+      subst IsPlainStage (sym e) stands,
     );
   }
 
   pub took_more : new.list ≡ old.list ++ x ∷ [] → new.from ≡ old.from → new.matched ≡ old.matched → IsPlain new.list new.depth → Going ≡ met → Took [] old x step.Going new met
   took_more e f m p c =
-      let s : StandsPlain new = (f ∙ stands.0, m ∙ stands.1, p) in
+      let s : IsPlainStage new = (f ∙ stands.0, m ∙ stands.1, p) in
       record {
         met = c;
         goes_on = (
@@ -184,7 +184,7 @@ unmatched_nil n [] = refl
 unmatched_nil n (x ∷ xs) = let e : ((n == 0) && false) ≡ false = and_false (n == 0) in rw e (ap (λ (ys : List Token). x ∷ ys) (unmatched_nil (open_behind n x) xs))
 
 -- Where the memory is full the list in work is as it was, and the token should have gone into it.
-module _ (s : Stage) (x : Token) (now : List Token) (stands : StandsPlain s) (same : now ≡ s.list) where
+module _ (s : Stage) (x : Token) (now : List Token) (stands : IsPlainStage s) (same : now ≡ s.list) where
   by_token : (met : Case) → target_at [] (kept_in s) (read_in [] s) x met ≡ s.list ++ x ∷ [] → IsGrownByPart s.list now (gained [] s x met)
   by_token met e = part_to s.list now (x ∷ []) (target_at [] (kept_in s) (read_in [] s) x met) e (part_last s.list now [] x (same ∙ sym (append-nil s.list)))
 

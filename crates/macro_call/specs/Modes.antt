@@ -1,5 +1,4 @@
 -- How a call takes a `\par`, as the definition of arguments has it.
-use Rattle.std.specs.Prelude.{Bool, true, false}
 use Rattle.plain_tokens.specs.Arguments.{ParMode, Long, Short, Checked}
 use Rattle.macro_call.specs.declared.par_mode.ParMode as code
 use Rattle.macro_call.specs.declared.par_mode.ParMode.TheVariants as code_mode
@@ -8,8 +7,3 @@ abbrev pub par_mode : code.ParMode → ParMode
 par_mode code_mode.Long = Long
 par_mode code_mode.Short = Short
 par_mode code_mode.Checked = Checked
-
--- how a call begins
-abbrev pub mode_of : (long : Bool) → ParMode
-mode_of true = Long
-mode_of false = Short

@@ -1,7 +1,7 @@
 -- A scanner as plain data, and what it will answer on what is still to come.
 use Rattle.std.specs.Prelude.{◌≡◌, ℕ, ◌-◌, Bool, true, false, List, [], ◌∷◌, length, take, drop, Option, None, Some, option_map}
 use Rattle.tex_defs.specs.declared.Token.{Token}
-use Rattle.plain_tokens.specs.Arguments.{ParMode, Checked, start_of, delimiters_of, begins_with_place, is_par, Fed, Tok, Cut, Settled, Answer, search, behind, gathering, arguments_in, work_in}
+use Rattle.plain_tokens.specs.Arguments.{ParMode, Checked, start_of, delimiters_of, begins_with_place, is_par, Fed, Tok, Cut, Noted, Answer, search, behind, gathering, arguments_in, work_in}
 use Rattle.macro_call.specs.Stages.{Stage, kept_in, read_in}
 
 -- In front of the first place, the index of the token that must come next; in a place, that of its delimiter. Then how a
@@ -30,8 +30,8 @@ abbrev pub cut_scan : Scan → Scan
 cut_scan scan = record { at = scan.at; mode = Checked; braced = false; present = scan.present; args = scan.args }
 
 -- the extra brace that was answered was put back and reported
-abbrev pub settled_scan : Scan → Scan
-settled_scan scan = record { at = scan.at; mode = scan.mode; braced = false; present = scan.present; args = scan.args }
+abbrev pub noted_scan : Scan → Scan
+noted_scan scan = record { at = scan.at; mode = scan.mode; braced = false; present = scan.present; args = scan.args }
 
 -- the list in work is this one, and all else stays
 abbrev pub with_work : Scan → List Token → Scan
@@ -64,7 +64,7 @@ scan_work scan = option_map (λ s. s.list) scan.present
 pub record ScansGather : Type 0 where
   pub first : (text : List Token) (mode : ParMode) (fed : List Fed) → resume_scan text (first_scan text mode) fed ≡ gathering text mode fed
   pub cut : (text : List Token) (scan : Scan) (fed : List Fed) → resume_scan text scan (Cut ∷ fed) ≡ resume_scan text (cut_scan scan) fed
-  pub settled : (text : List Token) (scan : Scan) (fed : List Fed) → resume_scan text scan (Settled ∷ fed) ≡ resume_scan text (settled_scan scan) fed
+  pub noted : (text : List Token) (scan : Scan) (fed : List Fed) → resume_scan text scan (Noted ∷ fed) ≡ resume_scan text (noted_scan scan) fed
 
 -- A check shows only at a `\par`: the arguments and the list in work are what they were, and any other token comes to the same.
 pub record ChecksShowAtPars : Type 0 where

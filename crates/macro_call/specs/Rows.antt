@@ -5,7 +5,7 @@ use Rattle.tex_defs.specs.declared.Token.TheVariants.{Char, Named, Place, EndPla
 use Rattle.tex_defs.specs.declared.Name.TheVariants.{Word}
 use Rattle.plain_tokens.specs.Names.{par_primitive}
 use Rattle.macro_call.specs.Growths.{growth_of}
-use Rattle.plain_tokens.specs.Arguments.{Long, Short, Fed, Tok, Cut, Settled, More, ExtraBraceFound, Called, Ended, gathering}
+use Rattle.plain_tokens.specs.Arguments.{Long, Short, Fed, Tok, Cut, Noted, More, ExtraBraceFound, Called, Ended, gathering}
 
 abbrev pub letter : ℕ → Token
 letter code = Char 11 code
@@ -49,7 +49,7 @@ pub record WorkedCalls : Type 0 where
   pub alone : gathering one_place Short (Tok par ∷ []) ≡ Ended false [] []
   -- xa}: the brace isn't in the list, and the `\par` that is put behind it ends a \long macro's call too
   pub braced : gathering up_to_ab Long (Tok (letter 120) ∷ Tok (letter 97) ∷ Tok right ∷ []) ≡ ExtraBraceFound [] (letter 120 ∷ letter 97 ∷ [])
-  pub behind_brace : gathering up_to_ab Long (Tok (letter 120) ∷ Tok (letter 97) ∷ Tok right ∷ Settled ∷ Tok par ∷ []) ≡ Ended false [] (letter 120 ∷ letter 97 ∷ [])
+  pub behind_brace : gathering up_to_ab Long (Tok (letter 120) ∷ Tok (letter 97) ∷ Tok right ∷ Noted ∷ Tok par ∷ []) ≡ Ended false [] (letter 120 ∷ letter 97 ∷ [])
   -- behind the ninth argument no further place is looked for
   pub tenth : gathering ten_places Short (replicate 9 (Tok (letter 120))) ≡ Called (replicate 9 (letter 120 ∷ []))
   -- behind a check the same without a report

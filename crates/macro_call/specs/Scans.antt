@@ -19,7 +19,7 @@ use Rattle.macro_call.specs.Listed.{AreListed}
 use Rattle.macro_call.specs.Modes.{par_mode}
 use Rattle.macro_call.specs.Tables.{IsGrownByPart, IsOnly}
 use Rattle.macro_call.specs.Growths.{target_of, growth_of}
-use Rattle.macro_call.specs.Stages.{Stage, stage_of, IsSamePoint, Stands, Took, gained, kept_in, read_in}
+use Rattle.macro_call.specs.Stages.{Stage, stage_of, IsSamePoint, IsStage, Took, gained, kept_in, read_in}
 use Rattle.macro_call.specs.PlainScans.{Scan, with_work, resume_scan, scan_work, places_left, places_behind}
 
 -- the scanner as plain data
@@ -55,7 +55,7 @@ scan_holds scan h = present_holds scan.present h + args_hold scan.args h
 -- argument's cursor is in the delimiter, behind what was matched.
 abbrev pub IsInPlace : List (Option Entry) → (macro : ℕ) → ArgScan → Option Present → Type 0
 IsInPlace table macro scan None = (scan.args.count ≡ 0) × (scan.braced ≡ false) × (0 < length (delimiter_at table macro scan.cursor))
-IsInPlace table macro scan (Some p) = IsBuilding table p.build × Stands (delimiter_at table macro scan.cursor) (stage_of table p) × (scan.args.count < 9) × IsAhead table macro scan.cursor p.matched p.next
+IsInPlace table macro scan (Some p) = IsBuilding table p.build × IsStage (delimiter_at table macro scan.cursor) (stage_of table p) × (scan.args.count < 9) × IsAhead table macro scan.cursor p.matched p.next
 
 -- what the scanner holds is counted, its lists may be released, and an argument without tokens has none
 pub record Owns (table : List (Option Entry)) (scan : ArgScan) : Type 0 where
@@ -127,7 +127,7 @@ pub record Enters (old_table new_table : List (Option Entry)) (macro : ℕ) (old
 -- a scanner that may enter the next place
 pub record IsBetween (table : List (Option Entry)) (macro : ℕ) (scan : ArgScan) : Type 0 where
   pub none : scan.present ≡ None
-  pub settled : scan.braced ≡ false
+  pub unbraced : scan.braced ≡ false
   pub ends : delimiter_at table macro scan.cursor ≡ []
   pub on : IsOn table macro scan.cursor
   pub owns : Covers table (scan_holds scan)
@@ -175,7 +175,7 @@ args_with (Some s) args a = args ++ a ∷ []
 pub record IsCutBetween (old_table new_table : List (Option Entry)) (macro : ℕ) (old new : ArgScan) (x : Token) : Type 0 where
   pub none : new.present ≡ None
   pub mode : new.mode ≡ old.mode
-  pub settled : new.braced ≡ false
+  pub unbraced : new.braced ≡ false
   pub args : args_in new_table new.args ≡ args_with (scan_of old_table old).present (args_in old_table old.args) (target_of (resume old_table macro old []) (resume old_table macro old (Tok x ∷ [])))
   pub due : resume old_table macro old (Tok x ∷ []) ≡ More (args_in new_table new.args) (Some [])
   pub same : (fed : List Fed) → resume old_table macro old (Tok x ∷ fed) ≡ arguments (par_mode new.mode) (args_in new_table new.args) (left_at new_table macro new) fed
@@ -191,7 +191,7 @@ pub record IsCutShort (old_table new_table : List (Option Entry)) (macro : ℕ) 
 -- an argument is being gathered, its list isn't the macro's, and its cursor is behind what was matched
 abbrev pub IsReady : List (Option Entry) → (macro : ℕ) → Cursor → Option Present → Type 0
 IsReady table macro cursor None = ⊥
-IsReady table macro cursor (Some p) = IsBuilding table p.build × (macro ≢ build_id p.build) × Stands (delimiter_at table macro cursor) (stage_of table p) × IsAhead table macro cursor p.matched p.next
+IsReady table macro cursor (Some p) = IsBuilding table p.build × (macro ≢ build_id p.build) × IsStage (delimiter_at table macro cursor) (stage_of table p) × IsAhead table macro cursor p.matched p.next
 
 -- what a token comes to in a place
 abbrev pub TookIn : (old_table new_table : List (Option Entry)) → (macro : ℕ) → Cursor → ParMode → Token → Step → (old new : Option Present) → Type 0
@@ -218,7 +218,7 @@ IsBuildingIn table (Some p) = IsBuilding table p.build
 -- a scanner whose list in work is a whole argument
 pub record IsWhole (table : List (Option Entry)) (macro : ℕ) (scan : ArgScan) : Type 0 where
   pub building : IsBuildingIn table scan.present
-  pub settled : scan.braced ≡ false
+  pub unbraced : scan.braced ≡ false
   pub on : IsOn table macro scan.cursor
   pub owns : Covers table (scan_holds scan)
   pub outside : scan_holds scan macro < holders_at table macro

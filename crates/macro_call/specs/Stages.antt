@@ -47,15 +47,15 @@ abbrev pub IsPlain : List Token → ℕ → Type 0
 IsPlain [] depth = depth ≡ 0
 IsPlain (b ∷ us) depth = (is_begin b ≡ true) × (all_close 0 us ≡ true) × (open_after 0 us + 1 ≡ depth)
 
-abbrev pub StandsPlain : Stage → Type 0
-StandsPlain s = (s.from ≡ 0) × (s.matched ≡ 0) × IsPlain s.list s.depth
+abbrev pub IsPlainStage : Stage → Type 0
+IsPlainStage s = (s.from ≡ 0) × (s.matched ≡ 0) × IsPlain s.list s.depth
 
-abbrev pub StandsAt : List Token → Stage → Type 0
-StandsAt ds s = (s.from ≤ length s.list) × IsAt ds (drop s.from s.list) s.matched s.depth
+abbrev pub IsDelimitedStage : List Token → Stage → Type 0
+IsDelimitedStage ds s = (s.from ≤ length s.list) × IsAt ds (drop s.from s.list) s.matched s.depth
 
-abbrev pub Stands : List Token → Stage → Type 0
-Stands [] s = StandsPlain s
-Stands (d ∷ ds) s = StandsAt (d ∷ ds) s
+abbrev pub IsStage : List Token → Stage → Type 0
+IsStage [] s = IsPlainStage s
+IsStage (d ∷ ds) s = IsDelimitedStage (d ∷ ds) s
 
 -- Of the matched tokens and then x, the first `out` go out of the match, and the others are the partial match.
 pub record Releases (ds : List Token) (s : Stage) (x : Token) (out : ℕ) : Type 0 where
@@ -76,10 +76,10 @@ case_of step.Going list = Going
 -- Where `kept` and t were read, and then x: what was read now.
 abbrev pub GoesOn : List Token → Step → (kept t : List Token) → Token → Stage → Type 0
 GoesOn ds step.Argument kept t x s = Unit {0}
-GoesOn ds step.ExtraBrace kept t x s = (kept_in s ≡ kept ++ t) × (read_in ds s ≡ []) × Stands ds s
+GoesOn ds step.ExtraBrace kept t x s = (kept_in s ≡ kept ++ t) × (read_in ds s ≡ []) × IsStage ds s
 GoesOn ds step.ParEnded kept t x s = s.list ≡ kept ++ t
-GoesOn ds step.Skipped kept t x s = (kept_in s ≡ kept) × (read_in ds s ≡ t) × Stands ds s
-GoesOn ds step.Going kept t x s = (kept_in s ≡ kept) × (read_in ds s ≡ t ++ x ∷ []) × Stands ds s
+GoesOn ds step.Skipped kept t x s = (kept_in s ≡ kept) × (read_in ds s ≡ t) × IsStage ds s
+GoesOn ds step.Going kept t x s = (kept_in s ≡ kept) × (read_in ds s ≡ t ++ x ∷ []) × IsStage ds s
 
 -- What the list in work becomes by a token: the argument; all that was read in front of the token; or what isn't held back.
 abbrev pub target_at : List Token → (kept t : List Token) → Token → Case → List Token

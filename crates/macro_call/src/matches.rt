@@ -58,7 +58,7 @@ pub fn behind(depth: usize, x: Token) -> usize
     }
 }
 
-// A match that x doesn't go on with, or that began where groups were open, begins again as early as it can: what `go_on` answers then.
+// A match that x doesn't go on with, or that began where groups were open, begins again as early as it can: what `advance_match` answers then.
 fn begin_again(
     lists: &Lists,
     list: &ListRef,
@@ -94,7 +94,7 @@ fn begin_again(
 // How many of the matched tokens, and then x, no match can need any more, and the place in the delimiter behind the
 // others, which are the partial match. `next` is that behind the matched tokens: where x stands there, the match goes on.
 // Where it began, `depth` groups were open.
-pub fn go_on(
+pub fn advance_match(
     lists: &Lists,
     list: &ListRef,
     delimiter: Cursor,

@@ -10,13 +10,13 @@ ghost use Rattle.token_lists.specs.Refusals.{IsFull};
 ghost use Rattle.plain_tokens.specs.Arguments.{is_end, delimited_case, undelimited_case, case_at};
 ghost use Rattle.macro_call.specs.Cursors.{IsOn, IsAhead, delimiter_at};
 ghost use Rattle.macro_call.specs.Modes.{par_mode};
-ghost use Rattle.macro_call.specs.Stages.{stage_of, kept_in, read_in, gained, IsSamePoint, Stands, StandsAt, StandsPlain, Releases, Took};
+ghost use Rattle.macro_call.specs.Stages.{stage_of, kept_in, read_in, gained, IsSamePoint, IsStage, IsDelimitedStage, IsPlainStage, Releases, Took};
 ghost use Rattle.macro_call.specs.Tables.{IsOnly, IsGrownByPart};
 
 use crate::braces::without_braces;
 use crate::builds::{store, store_front};
 use crate::cursor::{Cursor, at_first_built};
-use crate::matches::{behind, go_on};
+use crate::matches::{advance_match, behind};
 use crate::par_mode::ParMode;
 use crate::tokens::{is_begin, is_end, is_par, is_space};
 use tex_defs::{Full, Token};
@@ -122,7 +122,7 @@ impl Present {
     // A token behind a brace that is open, where there is no delimiter.
     fn feed_group(&mut self, lists: &mut Lists, mode: ParMode, x: Token) -> Result<Step, Full>
         requires building { IsBuilding lists.old self.old.build }
-        requires stands { StandsPlain (stage_of lists.old self.old) }
+        requires stands { IsPlainStage (stage_of lists.old self.old) }
         requires inside { 0 < self.old.depth }
         ensures same { build_id self.new.build ≡ build_id self.old.build }
         ensures building { IsBuilding lists.new self.new.build }
@@ -156,7 +156,7 @@ impl Present {
     #[inline(always)]
     fn feed_undelimited(&mut self, lists: &mut Lists, mode: ParMode, x: Token) -> Result<Step, Full>
         requires building { IsBuilding lists.old self.old.build }
-        requires stands { StandsPlain (stage_of lists.old self.old) }
+        requires stands { IsPlainStage (stage_of lists.old self.old) }
         ensures same { build_id self.new.build ≡ build_id self.old.build }
         ensures building { IsBuilding lists.new self.new.build }
         ensures others { IsOnly lists.old lists.new (build_id self.old.build) }
@@ -205,7 +205,7 @@ impl Present {
         requires building { IsBuilding lists.old self.old.build }
         requires on { IsOn lists.old (id_of list.now) delimiter }
         requires apart { id_of list.now ≢ build_id self.old.build }
-        requires stands { StandsAt (delimiter_at lists.old (id_of list.now) delimiter) (stage_of lists.old self.old) }
+        requires stands { IsDelimitedStage (delimiter_at lists.old (id_of list.now) delimiter) (stage_of lists.old self.old) }
         requires follows { IsAhead lists.old (id_of list.now) delimiter self.old.matched self.old.next }
         requires releases { Releases (delimiter_at lists.old (id_of list.now) delimiter) (stage_of lists.old self.old) x out }
         requires next { IsAhead lists.old (id_of list.now) delimiter (self.old.matched + 1 - out) next }
@@ -260,7 +260,7 @@ impl Present {
         requires building { IsBuilding lists.old self.old.build }
         requires on { IsOn lists.old (id_of list.now) delimiter }
         requires apart { id_of list.now ≢ build_id self.old.build }
-        requires stands { StandsAt (delimiter_at lists.old (id_of list.now) delimiter) (stage_of lists.old self.old) }
+        requires stands { IsDelimitedStage (delimiter_at lists.old (id_of list.now) delimiter) (stage_of lists.old self.old) }
         requires follows { IsAhead lists.old (id_of list.now) delimiter self.old.matched self.old.next }
         ensures same { build_id self.new.build ≡ build_id self.old.build }
         ensures building { IsBuilding lists.new self.new.build }
@@ -275,7 +275,7 @@ impl Present {
     {
         let _used = lists.used();
         let before = if self.matched > 0 { 0 } else { self.depth };
-        let (out, next) = go_on(lists, list, delimiter, self.next, self.matched, before, x);
+        let (out, next) = advance_match(lists, list, delimiter, self.next, self.matched, before, x);
         if is_whole(lists, list, out, next) {
             without_braces(lists, &mut self.build);
             return Ok(Step::Argument);
@@ -304,7 +304,7 @@ impl Present {
         requires building { IsBuilding lists.old self.old.build }
         requires on { IsOn lists.old (id_of list.now) delimiter }
         requires apart { id_of list.now ≢ build_id self.old.build }
-        requires stands { Stands (delimiter_at lists.old (id_of list.now) delimiter) (stage_of lists.old self.old) }
+        requires stands { IsStage (delimiter_at lists.old (id_of list.now) delimiter) (stage_of lists.old self.old) }
         requires follows { IsAhead lists.old (id_of list.now) delimiter self.old.matched self.old.next }
         ensures same { build_id self.new.build ≡ build_id self.old.build }
         ensures building { IsBuilding lists.new self.new.build }

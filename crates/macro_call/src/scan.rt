@@ -5,11 +5,10 @@ ghost use Rattle.token_lists.specs.Table.{Entry, tokens_at, IsHeld};
 ghost use Rattle.token_lists.specs.Accounts.{Moves, Keeps, none};
 ghost use Rattle.token_lists.specs.Ids.{id_of, build_id};
 ghost use Rattle.token_lists.specs.Refusals.{IsFull};
-ghost use Rattle.plain_tokens.specs.Arguments.{start_of, delimiters_of, begins_with_place, gathering, Fed, Tok, Cut, Settled};
+ghost use Rattle.plain_tokens.specs.Arguments.{start_of, delimiters_of, begins_with_place, gathering, Fed, Tok, Cut, Noted, mode_of};
 ghost use Rattle.macro_args.specs.Args.{IsFilled};
 ghost use Rattle.macro_call.specs.Cursors.{IsOn, delimiter_at};
-ghost use Rattle.macro_call.specs.Modes.{mode_of};
-ghost use Rattle.macro_call.specs.PlainScans.{first_scan, cut_scan, settled_scan};
+ghost use Rattle.macro_call.specs.PlainScans.{first_scan, cut_scan, noted_scan};
 ghost use Rattle.macro_call.specs.Scans.{scan_of, resume, scan_holds, Owns, IsSound, answer_of, IsOpen, Gains, Next, IsBetween, NextPlace, left_at, Enters, Answers, IsCutShort, TookIn, CutIn, IsReady, IsWhole, Completes};
 
 use crate::ask::CallAsk;
@@ -239,16 +238,16 @@ impl ArgScan {
     }
 
     /// The extra brace that was answered was put back and reported.
-    pub fn settle(&mut self)
+    pub fn noted(&mut self)
         ensures sound { (table : List (Option Entry)) (macro : ℕ) → IsSound table macro self.old → IsSound table macro self.new }
-        ensures plain { (table : List (Option Entry)) → scan_of table self.new ≡ settled_scan (scan_of table self.old) }
-        ensures stands { (table : List (Option Entry)) (macro : ℕ) (fed : List Fed) → resume table macro self.old (Settled ∷ fed) ≡ resume table macro self.new fed }
+        ensures plain { (table : List (Option Entry)) → scan_of table self.new ≡ noted_scan (scan_of table self.old) }
+        ensures stands { (table : List (Option Entry)) (macro : ℕ) (fed : List Fed) → resume table macro self.old (Noted ∷ fed) ≡ resume table macro self.new fed }
         ensures same { scan_holds self.new ≡ scan_holds self.old }
     {
         self.braced = false;
     }
 
-    /// Whether an extra brace was answered last, and isn't settled yet.
+    /// Whether an extra brace was answered last, and isn't noted yet.
     pub fn is_braced(&self) -> bool
         ensures { result ≡ self.now.braced }
     {

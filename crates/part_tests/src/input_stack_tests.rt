@@ -1,8 +1,9 @@
 //! A token that was put back, and the end of a line: the calls that the program doesn't make.
 
-ghost use Rattle.input_stack.specs.Standing.{Stands};
+ghost use Rattle.input_stack.specs.Stacks.{IsStack};
 
 use input_stack::{InputStack, line_in};
+use line_lexer::Ahead;
 use std::alloc::Global;
 use tex_defs::{Sizes, Token};
 use token_lists::Lists;
@@ -11,8 +12,8 @@ const LETTER: Token = Token::Char { cat: 11, code: 120 };
 
 // How many levels and arguments stand where a token was put back.
 fn put_back(stack: &mut InputStack, lists: &mut Lists) -> Option<(u32, u32)>
-    requires { Stands lists.old stack.old }
-    ensures { Stands lists.new stack.new }
+    requires { IsStack lists.old stack.old }
+    ensures { IsStack lists.new stack.new }
 {
     if let Err((_, begun)) = stack.back(lists, LETTER) {
         begun.let_go(lists);
@@ -21,7 +22,7 @@ fn put_back(stack: &mut InputStack, lists: &mut Lists) -> Option<(u32, u32)>
     Some((stack.levels(), stack.arguments()))
 }
 
-// Whether a stack isn't ready until a token is put back on it, which is then a list of one token.
+// Whether nothing comes until a token is put back on it, which is then a list of one token.
 fn is_put_back(alloc: Global) -> bool {
     let Ok(mut lists) = Lists::new(alloc, 20) else {
         return false;
@@ -29,11 +30,11 @@ fn is_put_back(alloc: Global) -> bool {
     let Ok(mut stack) = InputStack::new(alloc, &Sizes::DEFAULT) else {
         return false;
     };
-    let ready = stack.ready(&lists, &[], &[12; 256]);
+    let before = stack.looks(&lists, &[], &[12; 256]);
     let told = put_back(&mut stack, &mut lists);
     let held = lists.used();
     stack.close(&mut lists);
-    !ready && told == Some((1, 0)) && held == 2
+    matches!(before, Ahead::End) && told == Some((1, 0)) && held == 2
 }
 
 #[test]

@@ -45,7 +45,7 @@ fn behind(scan: &mut DefScan, lists: &mut Lists, x: Seen) -> Result<Ask, Full>
     ensures held { IfOk result (λ a. (h : ℕ) → handed a h ≤ holders_at lists.new h) }
 {
     match scan.feed(lists, x) {
-        Ok(Ask::Tells(_, _)) => scan.feed_told(lists),
+        Ok(Ask::Tells(_, _)) => scan.feed_noted(lists),
         answer => answer,
     }
 }

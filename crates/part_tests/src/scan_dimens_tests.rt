@@ -42,11 +42,11 @@ fn is_given_back() -> bool {
     scan.feed(other(b'l'));
     scan.feed(other(b'x'));
     let first = back(&scan);
-    scan.told();
+    scan.noted();
     let second = back(&scan);
-    scan.told();
+    scan.noted();
     let third = back(&scan);
-    scan.told();
+    scan.noted();
     let ended = matches!(scan.ask(), KeywordAsk::Done(false));
     first == Some((b'x', 2)) && second == Some((b'l', 1)) && third == Some((b'p', 0)) && ended
 }
@@ -139,7 +139,7 @@ fn is_too_large() -> bool {
     scan.found(true);
     scan.feed(other(b';'));
     let told = report(&scan) == Some((Report::DimensionTooLarge, true));
-    scan.told();
+    scan.noted();
     told && value(&scan) == Some((1073741823, 0, false))
 }
 
@@ -151,7 +151,7 @@ fn is_without_unit() -> bool {
     scan.feed(other(b';'));
     refuse(&mut scan, 12);
     let told = report(&scan) == Some((Report::IllegalUnit(UnitTaken::Pt), false));
-    scan.told();
+    scan.noted();
     scan.feed(other(b';'));
     told && value(&scan) == Some((65536, 0, true))
 }
@@ -181,7 +181,7 @@ fn is_magnified() -> bool {
     refuse(&mut scan, 2);
     scan.feed_value(Value::Plain(Datum::Found(true)));
     let asked = matches!(scan.ask(), DimenAsk::Magnifies);
-    scan.told();
+    scan.noted();
     let fetched = location(&scan) == Some(Loc::Integer(17));
     scan.fetched(Val::Number(2000));
     scan.found(true);

@@ -76,7 +76,7 @@ fn is_negated() -> bool {
     let fetched = location(&scan) == Some(register);
     scan.fetched(Val::Skip(glue(2, 1, 3, 0)));
     let told = report(&scan) == Some(Report::IncompatibleUnits);
-    scan.told();
+    scan.noted();
     let negated = Glue {
         width: -65536,
         ..glue(-2, 1, -3, 0)

@@ -2,7 +2,7 @@
 
 use equivalents::{Glue, Loc, Val};
 use reading_frames::{Opening, Readings};
-use rows::{Datum, Kind, Value};
+use rows::{Datum, Phrase, Value};
 use scan_numbers::{Ask, FactorAsk, FactorScan, NumberScan};
 use std::alloc::Global;
 use tex_defs::{Meaning, Name, RegisterKind, Seen, Token};
@@ -71,7 +71,7 @@ fn fetched(mut scan: NumberScan, stored: Val<()>) -> (Option<Loc>, Option<i32>) 
 /// The same behind a report.
 fn reported(mut scan: NumberScan, stored: Val<()>) -> (Option<Report>, Option<Loc>, Option<i32>) {
     let first = report(&scan);
-    scan.told();
+    scan.noted();
     let (asked, n) = fetched(scan, stored);
     (first, asked, n)
 }
@@ -124,7 +124,7 @@ fn is_mu_reported() -> bool {
     let asked = location(&scan) == Some(Loc::Glue(15));
     scan.fetched(glue(9));
     let told = report(&scan) == Some(Report::IncompatibleUnits);
-    scan.told();
+    scan.noted();
     asked && told && value(&scan) == Some(-9)
 }
 
@@ -147,7 +147,7 @@ fn is_fetched_in_stack(alloc: Global) -> bool {
     let Ok(mut readings) = Readings::new(alloc, 1) else {
         return false;
     };
-    if readings.begin(Opening::Reads(Kind::Integer)).is_err() || !readings.has_few_groups() {
+    if readings.begin(Opening::Reads(Phrase::Integer)).is_err() || !readings.has_few_groups() {
         return false;
     }
     let _none = readings.feed(named(Meaning::Prim(86)));
@@ -209,7 +209,7 @@ fn factor_of_register() -> Option<(i32, bool)> {
     let mut scan = FactorScan::new();
     scan.feed(named(Meaning::Prim(41)));
     scan.feed_value(Value::Plain(Datum::Number(256)));
-    scan.told();
+    scan.noted();
     scan.fetched(Val::Number(7));
     ended(&scan)
 }
@@ -236,7 +236,7 @@ fn factors_are_internal_or_end(rt: HostRuntime) {
 /// What the innermost reading asks for is an inner reading of this kind of dimension, with the last token.
 fn begins_dimension(readings: &Readings, mu: bool) -> bool {
     match readings.ask() {
-        Some(reading_frames::Ask::Inner(Kind::Dimension(kind), true)) => {
+        Some(reading_frames::Ask::Inner(Phrase::Dimension(kind), true)) => {
             kind.mu == mu && !kind.infinite
         }
         _ => false,
@@ -249,7 +249,7 @@ fn is_nested(alloc: Global) -> bool {
         return false;
     };
     if readings
-        .begin_with(Opening::Reads(Kind::Glue(true)), other(b'1'))
+        .begin_with(Opening::Reads(Phrase::Glue(true)), other(b'1'))
         .is_err()
     {
         return false;
@@ -260,17 +260,17 @@ fn is_nested(alloc: Global) -> bool {
         infinite: false,
     };
     if readings
-        .begin_with(Opening::Reads(Kind::Dimension(mu)), other(b'1'))
+        .begin_with(Opening::Reads(Phrase::Dimension(mu)), other(b'1'))
         .is_err()
     {
         return false;
     }
     let dimension = matches!(
         readings.ask(),
-        Some(reading_frames::Ask::Inner(Kind::Factor, true))
+        Some(reading_frames::Ask::Inner(Phrase::Factor, true))
     );
     let factor = readings
-        .begin_with(Opening::Reads(Kind::Factor), other(b'1'))
+        .begin_with(Opening::Reads(Phrase::Factor), other(b'1'))
         .is_ok();
     glue && dimension && factor && matches!(readings.ask(), Some(reading_frames::Ask::More(_)))
 }

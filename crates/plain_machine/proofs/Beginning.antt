@@ -137,8 +137,8 @@ module _ (sizes : Sizes) (s : State) (bytes : List ℕ) (r : Rests) (is : s.pend
   abbrev demanded : List ℕ → List Demand
   demanded line = buffer (line_need line) (open_lines settled.pending) ∷ level settled.pending ∷ []
 
-  abbrev Sees : Type 0
-  Sees = FirstSight sizes.buffer_size bytes (first_left r.left)
+  abbrev HasFirstSight : Type 0
+  HasFirstSight = FirstSight sizes.buffer_size bytes (first_left r.left)
 
   fits_of : (line : List ℕ) → refusal sizes (FirstTaken line) (extended r settled) ≡ refused sizes (demanded all_bytes)
   fits_of line = ap (refused sizes) (extended_demands bytes r.left settled.pending is)
@@ -150,21 +150,21 @@ module _ (sizes : Sizes) (s : State) (bytes : List ℕ) (r : Rests) (is : s.pend
   too_long line l = long_refused sizes (line_need line) (open_lines settled.pending) (level settled.pending ∷ []) l
 
   -- a table that is full is the same one
-  same_fits : (line line' : List ℕ) → Sees → refusal sizes (FirstTaken line') (extended r settled) ≡ refusal sizes (FirstTaken line) settled
+  same_fits : (line line' : List ℕ) → HasFirstSight → refusal sizes (FirstTaken line') (extended r settled) ≡ refusal sizes (FirstTaken line) settled
   same_fits line line' (Alike e f) = fits_of line' ∙ ap (λ (first : List ℕ). refused sizes (buffer (1 + length first) (open_lines settled.pending) ∷ level settled.pending ∷ [])) e ∙ sym (own_fits line)
   same_fits line line' (Long l l') = fits_of line' ∙ too_long all_bytes l' ∙ sym (too_long bytes l) ∙ sym (own_fits line)
 
   not_both : (o : Option Full) (full : Full) → o ≡ Some full → o ≡ None → ⊥
   not_both o full e e' = absurd (cc)
 
-  makes : (line line' : List ℕ) → refusal sizes (FirstTaken line) settled ≡ None → Sees → made (FirstTaken line') (extended r settled) ≡ extended r (made (FirstTaken line) settled)
+  makes : (line line' : List ℕ) → refusal sizes (FirstTaken line) settled ≡ None → HasFirstSight → made (FirstTaken line') (extended r settled) ≡ extended r (made (FirstTaken line) settled)
   makes line line' fits (Alike e f) = ap (λ (p : Pending). record s { pending = with_end (end_of_line s.groups.now) p; files = r.files }) (begins_alike bytes r.left settled.pending is e f)
   makes line line' fits (Long l l') = absurd (not_both (refusal sizes (FirstTaken line) settled) (full_buffer (open_lines settled.pending) sizes) (own_fits line ∙ too_long bytes l) fits)
 
   wrote_as : (w w' : World) → Wrote w w' one → Wrote w w' same_one
   wrote_as w w' h = record { told = h.told; column = h.column; later = h.later }
 
-  sees : Sees
+  sees : HasFirstSight
   sees = first_sight sizes.buffer_size bytes (first_left r.left) ready
 
   pub begins_did : (s' : State) (w w' : World) → Did sizes s s' w w' (ruled s (Some bytes)) → Did sizes (extended r s) (extended r s') w w' (ruled (extended r s) (Some all_bytes))

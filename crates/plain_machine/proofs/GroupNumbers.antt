@@ -23,7 +23,7 @@ use Rattle.equivalents.specs.declared.values.Val.TheVariants as val
 use Rattle.equivalents.specs.Locations.{V, index, category_of, glue_of, tokens_of, meaning_of as meaning_in, number_value as number_in, value_seen}
 use Rattle.equivalents.specs.Tables.{Tables, put, get, longer}
 use Rattle.equivalents.specs.First.{first_tables}
-use Rattle.equivalents.specs.Groups.{Groups, level_of, depth, is_present, entry_for, put_all, set_local, set_global, set, placed, place_of, set_placed, set_name, all_longer, entered, opened, uncovered, beneath, closed, with_token, tokens_after, kind_of, saves, save, set_demands, placed_demands, name_demands, group_demands, token_demands, first_groups}
+use Rattle.equivalents.specs.Groups.{Groups, level_of, depth, is_present, entry_for, put_all, set_local, set_global, set, placed, place_of, set_placed, set_name, all_longer, entered, opened, uncovered, beneath, closed, with_token, tokens_after, current_group, saves, save, set_demands, placed_demands, name_demands, group_demands, token_demands, first_groups}
 use Rattle.plain_machine.specs.Numbers.{number_of_list, meaning_of, meanings_of, value_of, tables_of, saved_of, groups_of}
 use Rattle.plain_machine.proofs.Renumbering.{seen_as_of, meaning_to_let_of}
 
@@ -239,7 +239,7 @@ module _ (number : ℕ → ℕ) where
   pub depth_of : (g : Groups) → depth (groups_of number g) ≡ depth g
   depth_of g = refl
 
-  pub kind_same : (g : Groups) → kind_of (groups_of number g) ≡ kind_of g
+  pub kind_same : (g : Groups) → current_group (groups_of number g) ≡ current_group g
   kind_same g = refl
 
   pub tokens_after_of : (g : Groups) → tokens_after (groups_of number g) ≡ tokens_after g

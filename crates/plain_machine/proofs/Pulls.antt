@@ -26,7 +26,7 @@ use Rattle.rows.specs.Readings.{Fed, Ask}
 use Rattle.plain_readings.specs.Readings.{Kind, Skips, Reading}
 use Rattle.plain_readings.specs.Scanning.{Scanning, Builds, SkippedText}
 use Rattle.plain_machine.specs.States.{State, Files, Move, Handed, Taken, FirstTaken, ListsEnded, Skipped, FileClosed, FileOpened, Spelt, NameInProgress, Begun, BegunWith, Closed, Written, Stopped}
-use Rattle.plain_machine.specs.Plan.{Page, style_of, met, met_outer, entered, checked, check_noted, ran_away, away_text, page_behind, reported, reports_room, put_text, put_characters, is_expandable_primitive, expansion, unless_expanded, called, stomach, wanted, expanded, expanded_as, feeding_kind, given_back, acts, list_given, unless_found, input_begun, answered}
+use Rattle.plain_machine.specs.Plan.{Page, style_of, met, met_outer, entered, checked, cut_or_not, ran_away, away_text, page_behind, reported, reports_room, put_text, put_characters, is_expandable_primitive, expansion, unless_expanded, called, stomach, wanted, expanded, expanded_as, feeding_kind, given_back, acts, list_given, unless_found, input_begun, answered}
 use Rattle.plain_machine.specs.Runs.{step_of, steps}
 use Rattle.plain_machine.proofs.Tame.{Tame, Flat, flat_tame, back_flat, text_flat, entered_flat, kind_tame, called_tame, expansion_tame, stomach_tame, checked_tame, acts_tame, list_given_tame, answered_tame}
 pub use Rattle.plain_machine.proofs.Tame.{WantsNone}
@@ -141,17 +141,17 @@ pub answered_none : (s : State) (work : List Reading) (r : Reading) (a : Ask) �
 answered_none s work r a h = tame_none (answered s work r a) (answered_tame s work r a h)
 
 -- where none of those behind them pulls
-none_if : (b : Bool) (x y : List Move) → pulls x ≡ 0 → pulls y ≡ 0 → pulls (if b then x else y) ≡ 0
-none_if true x y h i = h
-none_if false x y h i = i
+no_pull_if : (b : Bool) (x y : List Move) → pulls x ≡ 0 → pulls y ≡ 0 → pulls (if b then x else y) ≡ 0
+no_pull_if true x y h i = h
+no_pull_if false x y h i = i
 
 pub reported_none : (page : Page) (report : Report) (rest : List Move) → pulls rest ≡ 0 → pulls (reported page report rest) ≡ 0
 reported_none page report rest h =
     let halted : List Move = Written Transcript (hundred_line (style_of page)) ∷ Stopped (AtFatal HundredErrors) ∷ [] in
-    omega (arith, none_if (nat_lt page.reports reports_room) rest halted h refl)
+    omega (arith, no_pull_if (nat_lt page.reports reports_room) rest halted h refl)
 
 unless_none : (page : Page) (t : Token) (n : ℕ) (moves : List Move) → pulls moves ≡ 0 → pulls (unless_expanded page t n moves) ≡ 0
-unless_none page t n moves h = none_if (is_expandable_primitive n) (expansion page t n) moves (tame_none (expansion page t n) (expansion_tame page t n)) h
+unless_none page t n moves h = no_pull_if (is_expandable_primitive n) (expansion page t n) moves (tame_none (expansion page t n) (expansion_tame page t n)) h
 
 as_none : (page : Page) (t : Token) (m : Meaning Unit) (moves : List Move) → pulls moves ≡ 0 → pulls (expanded_as page t m moves) ≡ 0
 as_none page t means.Undefined moves h = reported_none page reports.UndefinedName [] refl
@@ -164,16 +164,16 @@ wanted_none page Raw feeds x h = h
 wanted_none page Unentered feeds x h = h
 wanted_none page Expanded feeds x h = as_none page x.token x.meaning feeds h
 wanted_none page Copied feeds x h = as_none page x.token x.meaning feeds h
-wanted_none page Nonblank feeds x h = none_if (is_space x) [] (expanded page x feeds) refl (as_none page x.token x.meaning feeds h)
-wanted_none page Command feeds x h = none_if (is_space x || means_relax x.meaning) [] (expanded page x feeds) refl (as_none page x.token x.meaning feeds h)
+wanted_none page Nonblank feeds x h = no_pull_if (is_space x) [] (expanded page x feeds) refl (as_none page x.token x.meaning feeds h)
+wanted_none page Command feeds x h = no_pull_if (is_space x || means_relax x.meaning) [] (expanded page x feeds) refl (as_none page x.token x.meaning feeds h)
 
-noted_none : (what : Scanned) (rest : List Move) → pulls rest ≡ 0 → pulls (check_noted what rest) ≡ 0
+noted_none : (what : Scanned) (rest : List Move) → pulls rest ≡ 0 → pulls (cut_or_not what rest) ≡ 0
 noted_none scanned.Use rest h = omega (arith, h)
 noted_none scanned.Definition rest h = h
 noted_none scanned.Text rest h = h
 
 away_none : (page : Page) (report : Report) (what : Scanned) (list : List Token) (rest : List Move) → pulls rest ≡ 0 → pulls (ran_away page report what list rest) ≡ 0
-away_none page report what list rest h = omega (arith, reported_none (page_behind page (away_text page what list)) report (check_noted what rest) (noted_none what rest h))
+away_none page report what list rest h = omega (arith, reported_none (page_behind page (away_text page what list)) report (cut_or_not what rest) (noted_none what rest h))
 
 met_outer_none : (page : Page) (o : Option Scanning) (t : Token) (onward : Seen → List Move) → ((x : Seen) → pulls (onward x) ≡ 0) → pulls (met_outer page o t onward) ≡ 0
 met_outer_none page None t onward h = h (met_token page.now.meanings t)
@@ -185,7 +185,7 @@ met_outer_none page (Some (SkippedText line)) t onward h =
     omega (arith, reported_none page report (onward (met_token page.now.meanings space_token)) (h (met_token page.now.meanings space_token)))
 
 pub met_none : (page : Page) (o : Option Scanning) (onward : Seen → List Move) (x : Seen) → ((x : Seen) → pulls (onward x) ≡ 0) → pulls (met page o onward x) ≡ 0
-met_none page o onward x h = none_if (is_outer x.meaning) (met_outer page o x.token onward) (onward x) (met_outer_none page o x.token onward h) (h x)
+met_none page o onward x h = no_pull_if (is_outer x.meaning) (met_outer page o x.token onward) (onward x) (met_outer_none page o x.token onward h) (h x)
 
 -- A FILE THAT IS BEGUN BY ITS NAME opens it, and reads nothing.
 

@@ -63,8 +63,8 @@ use Rattle.equivalents.specs.Tables.{get}
 use Rattle.command_words.specs.Words.{file_name}
 use Rattle.plain_state.specs.Reports.{missing_file_bytes, emergency, no_file_line, report_bytes, error_message_bytes, fresh_line, string_text, message_bytes, hundred_line, token_line_bytes}
 use Rattle.rows.specs.declared.words.Value.{Value}
-use Rattle.rows.specs.declared.words.Kind.{Kind as Begins}
-use Rattle.rows.specs.declared.words.Kind.TheVariants.{Command as Row}
+use Rattle.rows.specs.declared.words.Phrase.{Phrase}
+use Rattle.rows.specs.declared.words.Phrase.TheVariants.{Command as Row}
 use Rattle.rows.specs.declared.command.Head.TheVariants.{Primitive, Register}
 use Rattle.rows.specs.declared.command.Call.{Call}
 use Rattle.rows.specs.declared.command.Effect.{Effect}
@@ -72,14 +72,14 @@ use Rattle.rows.specs.declared.command.Effect.TheVariants as effect
 use Rattle.rows.specs.Table.{has_row}
 use Rattle.rows.specs.Arithmetic.{value_computed}
 use Rattle.rows.specs.Internal.{value_text}
-use Rattle.rows.specs.Readings.{Fed, Val, Told, Cut, Verbatim as EntersText, Ask, More, Inner, Done, Acts, ActsOn, Defines, Ends as Closes, Calls, Fails, RunsAway, Tells, Inserts, Puts, Relaxes, Fetches, Magnifies}
+use Rattle.rows.specs.Readings.{Fed, Val, Noted, Cut, Verbatim as EntersText, Ask, More, Inner, Done, Acts, ActsOn, Defines, Ends as Closes, Calls, Fails, RunsAway, Tells, Inserts, Puts, Relaxes, Fetches, Magnifies}
 use Rattle.plain_readings.specs.Readings.{Kind, Reads, Spelling, FileName, Arguments, Behind, Skips, Reading, ask, lists, fed_with}
 use Rattle.plain_readings.specs.Spelling.{endcsname_primitive}
 use Rattle.plain_readings.specs.Scanning.{Scanning, Builds, SkippedText, scanning}
 use Rattle.plain_readings.specs.Laws.{IsRead}
 use Rattle.plain_readings.specs.Weights.{frame_weight, value_frame, act_frame, value_weight, act_weight, end_weight, ask_weight, weight, IsNoted, IsLast, WeightsFall}
 use Rattle.plain_machine.specs.States.{State, Files, Move, ListsEnded, Skipped, FileClosed, FileEnds, FileOpened, Spelt, NameInProgress, Entered, Kept as KeptBytes, Grows, Feeds, Completed, Opened, ListBegun, ListGrown, Put, ListDropped, Called, Set, Assigned, Defined, ListSet, GroupOpened, GroupClosed, KeptForGroup, KeptForAssignment, MagnificationSet, ConditionOpened, LimitSet, ConditionClosed, Written, Begun, Ended, Closed, Reported, Flawed, Stopped, Handed, made}
-use Rattle.plain_machine.specs.Plan.{Page, page_of, style_of, plan, ruled, planned, answered, handed, checked, at_line, check_noted, inserted_at, away_text, ran_away, incomplete, frozen_fi, page_behind, reported, behind_report, reports_room, finish, groups_left, conditionals_left, stomach, command, register, primitive, begingroup_primitive, endgroup_primitive, right_brace, put_each, group_ended, brace_met, endgroup_met, character, expansion, expanded, expanded_as, csname_primitive, jobname_primitive, input_primitive, endinput_primitive, input_met, frozen_relax, skips, limited_or_skips, chosen, conditional_begun, ender_comes, ender_met, conditional_met, passed as passed_by, reached, unless_found, input_begun, is_expandable_primitive, job_in, begun, call_of, called_meaning, put_body, body_put, token_line, wanted, enters_names, feeding, given_back, grown_to, first_list, noting, noting_kind, put_one, put_text, put_made, put_characters, put_inserted, arguments_put, called_with, failed, failed_away, inner_begun, done, value_tokens, told, and_closed, expanded_behind, marked, meaning_characters, tokens_meant, shown, is_global, behind_assignment, assigned, kept_for_group, number_or_glue, computed_to, short_meaning, value_shown, standing_shown, list_number, tokens_entered, list_given, copies, is_copying, acts_above, list_set, macro_defined, newly_spelt, spelt, relax_if_undefined, name_made, entered, acts_on, acts_in, is_magnification, magnification_set, legal_or_not, compared}
+use Rattle.plain_machine.specs.Plan.{Page, page_of, style_of, plan, ruled, planned, answered, handed, checked, at_line, cut_or_not, inserted_at, away_text, ran_away, incomplete, frozen_fi, page_behind, reported, behind_report, reports_room, finish, groups_left, conditionals_left, stomach, command, register, primitive, begingroup_primitive, endgroup_primitive, right_brace, put_each, group_ended, brace_met, endgroup_met, character, expansion, expanded, expanded_as, csname_primitive, jobname_primitive, input_primitive, endinput_primitive, input_met, frozen_relax, skips, limited_or_skips, chosen, conditional_begun, ender_comes, ender_met, conditional_met, passed as passed_by, reached, unless_found, input_begun, is_expandable_primitive, job_in, begun, call_of, called_meaning, put_body, body_put, token_line, wanted, enters_names, feeding, given_back, grown_to, first_list, noting, noting_kind, put_one, put_text, put_made, put_characters, put_inserted, arguments_put, called_with, failed, failed_away, inner_begun, done, value_tokens, report_noted, and_closed, expanded_behind, marked, meaning_characters, tokens_meant, shown, is_global, behind_assignment, assigned, kept_for_group, number_or_glue, computed_to, short_meaning, value_shown, location_shown, list_number, tokens_entered, list_given, copies, is_copying, acts_above, list_set, macro_defined, newly_spelt, spelt, relax_if_undefined, name_made, entered, acts_on, acts_in, is_magnification, magnification_set, legal_or_not, compared}
 use Rattle.plain_machine.specs.Runs.{step_of, all_made}
 use Rattle.plain_machine.proofs.Falling.{enter}
 use Rattle.plain_machine.proofs.Settling.{pulled_settled}
@@ -404,16 +404,16 @@ module _ (falls : WeightsFall) (s : State) (q : Pending) (e : s.stopped ≡ None
   checked_below : (v : State) → Kept u v → Drops (state_weight s) (Feeds Cut ∷ []) v
   checked_below v k = rw (k.stopped, k.work, a, b, e) (omega (arith, k.pending, ap pending_weight c, less, weight_checked falls s.work))
 
-  noted_below : (what : Scanned) (v : State) → Kept u v → Drops (state_weight s) (check_noted what []) v
+  noted_below : (what : Scanned) (v : State) → Kept u v → Drops (state_weight s) (cut_or_not what []) v
   noted_below scanned.Use v k = checked_below v k
   noted_below scanned.Definition v k = below v k
   noted_below scanned.Text v k = below v k
 
   away_below : (page : Page) (report : Report) (what : Scanned) (list : List Token) → Drops (state_weight s) (ran_away page report what list []) u
   away_below page report what list =
-      drops_plain (state_weight s) u (Written Transcript (away_text page what list) ∷ put_one (inserted_at what)) (reported (page_behind page (away_text page what list)) report (check_noted what []))
+      drops_plain (state_weight s) u (Written Transcript (away_text page what list) ∷ put_one (inserted_at what)) (reported (page_behind page (away_text page what list)) report (cut_or_not what []))
       (refl, plain_one (inserted_at what))
-      (λ v k. drops_report (state_weight s) v (page_behind page (away_text page what list)) report (check_noted what []) (some_weight s e) (λ x l. noted_below what x (kept_on u v x k l)))
+      (λ v k. drops_report (state_weight s) v (page_behind page (away_text page what list)) report (cut_or_not what []) (some_weight s e) (λ x l. noted_below what x (kept_on u v x k l)))
 
   incomplete_below : (page : Page) (line : ℕ) → Drops (state_weight s) (incomplete page line []) u
   incomplete_below page line =
@@ -808,7 +808,7 @@ module _ (falls : WeightsFall) (s : State) (k : Kind) (fed : List Fed) (rs : Lis
           by : (f : Effect) → ask k fed ≡ Acts c f → act_weight ≤ weight k fed → frame_weight k ≡ act_frame → Rule s (acts_above rs page c f)
           by (effect.Obey x) is h a = rule_obeyed h a page x.token x.meaning
           by (effect.Show x) is h a = rule_closed h a (shown page x) (refl, (refl, tt))
-          by (effect.ShowValue l) is h a = rule_closed h a (standing_shown page l) (refl, (refl, tt))
+          by (effect.ShowValue l) is h a = rule_closed h a (location_shown page l) (refl, (refl, tt))
           by (effect.ShowNumber n) is h a = rule_closed h a (value_shown page (whole_number n) []) (refl, (refl, tt))
           by (effect.Let n x) is h a = rule_assigned h a page (Assigned (is_global page c) n (meaning_to_let page.now.meanings x)) refl
           by (effect.FutureLet n x y) is h a =
@@ -838,7 +838,7 @@ module _ (falls : WeightsFall) (s : State) (k : Kind) (fed : List Fed) (rs : Lis
           by f is h a = rule_closed h a [] tt
 
   -- another reading begins
-  rule_inner : (j : Begins) (b : Bool) → ask k fed ≡ Inner j b → Rule s (inner_begun (Reads j) b)
+  rule_inner : (j : Phrase) (b : Bool) → ask k fed ≡ Inner j b → Rule s (inner_begun (Reads j) b)
   rule_inner j true is = Falls (rw (e, w) (omega (arith, falls.begun_with k fed j s.last is)))
   rule_inner j false is = Falls (rw (e, w) (omega (arith, falls.begun k fed j is)))
 
@@ -852,16 +852,16 @@ module _ (falls : WeightsFall) (s : State) (k : Kind) (fed : List Fed) (rs : Lis
 
   -- a report was written, or what was asked for done, and noted
   module _ (notes : IsNoted (ask k fed)) where
-    falls_noted : (u : State) → Kept s u → Drops (state_weight s) (Feeds Told ∷ []) u
+    falls_noted : (u : State) → Kept s u → Drops (state_weight s) (Feeds Noted ∷ []) u
     falls_noted u h = rw (h.stopped, h.work, e, w) (omega (arith, h.pending, falls.noted k fed notes))
 
     falls_noting : (j : Kind) (gone : List Fed) (u : State) → Kept s u → Drops (state_weight s) (noting_kind j gone) u
     falls_noting (Arguments name long number ts) gone u h = falls_noted u h
     falls_noting j gone u h =
-        drops_plain (state_weight s) u (grown_to (first_list (lists j gone)) (first_list (lists j (gone ++ Told ∷ [])))) (Feeds Told ∷ [])
-        (plain_grown_to (first_list (lists j gone)) (first_list (lists j (gone ++ Told ∷ [])))) (λ v b. falls_noted v (kept_on s u v h b))
+        drops_plain (state_weight s) u (grown_to (first_list (lists j gone)) (first_list (lists j (gone ++ Noted ∷ [])))) (Feeds Noted ∷ [])
+        (plain_grown_to (first_list (lists j gone)) (first_list (lists j (gone ++ Noted ∷ [])))) (λ v b. falls_noted v (kept_on s u v h b))
 
-    rule_told : (page : Page) (report : Report) (inserted : Option Token) (back : Bool) → Rule s (told page report inserted back reading)
+    rule_told : (page : Page) (report : Report) (inserted : Option Token) (back : Bool) → Rule s (report_noted page report inserted back reading)
     rule_told page report inserted back =
         Falls (drops_plain (state_weight s) s (given_back back page.last) (put_inserted inserted ++ reported page report (noting reading)) (plain_back back page.last)
         (λ u a. drops_plain (state_weight s) u (put_inserted inserted) (reported page report (noting reading)) (plain_inserted inserted)

@@ -62,17 +62,17 @@ use Rattle.rows.specs.declared.command.Call.{Call}
 use Rattle.rows.specs.declared.command.Effect.{Effect}
 use Rattle.rows.specs.declared.command.Effect.TheVariants as effect
 use Rattle.rows.specs.declared.words.Value.{Value}
-use Rattle.rows.specs.declared.words.Kind.{Kind as Begins}
+use Rattle.rows.specs.declared.words.Phrase.{Phrase}
 use Rattle.rows.specs.Table.{has_row}
 use Rattle.rows.specs.Arithmetic.{value_computed}
 use Rattle.rows.specs.Internal.{value_text}
-use Rattle.rows.specs.Readings.{Fed, Tok, Told, Ask, More, Inner, Done, Acts, ActsOn, Defines, Ends as Closes, Calls, Fails, RunsAway, Tells, Inserts, Puts, Relaxes, Fetches, Magnifies}
+use Rattle.rows.specs.Readings.{Fed, Tok, Noted, Ask, More, Inner, Done, Acts, ActsOn, Defines, Ends as Closes, Calls, Fails, RunsAway, Tells, Inserts, Puts, Relaxes, Fetches, Magnifies}
 use Rattle.plain_readings.specs.Calls.{gathered}
 use Rattle.plain_readings.specs.Spelling.{endcsname_primitive}
 use Rattle.plain_readings.specs.Readings.{Kind, Reads, Spelling, FileName, Skips, Arguments, Reading, lists}
 use Rattle.plain_readings.specs.Scanning.{Scanning, Builds, SkippedText, scanning}
 use Rattle.plain_machine.specs.States.{State, Move, Handed, Taken, FirstTaken, Skipped, FileClosed, FileEnds, FileOpened, NameInProgress, Grows, Feeds, Completed, ListGrown, Set, Assigned, Defined, ListSet, GroupOpened, Begun, BegunWith, Ended, Closed, Written, Stopped}
-use Rattle.plain_machine.specs.Plan.{Page, page_of, style_of, met, met_outer, entered, checked, check_noted, ran_away, incomplete, away_text, page_behind, reported, reported_as, behind_report, reports_room, told, put_inserted, put_one, put_made, put_text, put_characters, noting, noting_kind, token_line, conditionals_left, finish, command, register, primitive, call_of, begun, csname_primitive, jobname_primitive, input_primitive, endinput_primitive, input_met, frozen_relax, skips, limited_or_skips, chosen, conditional_begun, ender_comes, ender_met, conditional_met, is_expandable_primitive, job_in, expansion, begingroup_primitive, endgroup_primitive, put_each, group_ended, brace_met, endgroup_met, character, unless_expanded, called, called_meaning, called_list, put_body, body_put, stomach, wanted, expanded, expanded_as, feeding_kind, grown_and_fed, first_list, grown_to, opened, in_place, argument_fed, call_fed, inner_begun, given_back, value_tokens, done, arguments_put, called_with, failed, failed_away, is_global, behind_assignment, assigned, kept_for_group, computed_to, short_meaning, passed, ended_by, reached, acts, tokens_entered, list_given, is_copying, list_number, acts_above, list_set, acts_on, acts_in, and_closed, meaning_characters, tokens_meant, macro_defined, name_made, relax_if_undefined, spelt, newly_spelt, answered, number_or_glue, is_magnification, magnification_set, legal_or_not, compared}
+use Rattle.plain_machine.specs.Plan.{Page, page_of, style_of, met, met_outer, entered, checked, cut_or_not, ran_away, incomplete, away_text, page_behind, reported, reported_as, behind_report, reports_room, report_noted, put_inserted, put_one, put_made, put_text, put_characters, noting, noting_kind, token_line, conditionals_left, finish, command, register, primitive, call_of, begun, csname_primitive, jobname_primitive, input_primitive, endinput_primitive, input_met, frozen_relax, skips, limited_or_skips, chosen, conditional_begun, ender_comes, ender_met, conditional_met, is_expandable_primitive, job_in, expansion, begingroup_primitive, endgroup_primitive, put_each, group_ended, brace_met, endgroup_met, character, unless_expanded, called, called_meaning, called_list, put_body, body_put, stomach, wanted, expanded, expanded_as, feeding_kind, grown_and_fed, first_list, grown_to, opened, in_place, argument_fed, call_fed, inner_begun, given_back, value_tokens, done, arguments_put, called_with, failed, failed_away, is_global, behind_assignment, assigned, kept_for_group, computed_to, short_meaning, passed, ended_by, reached, acts, tokens_entered, list_given, is_copying, list_number, acts_above, list_set, acts_on, acts_in, and_closed, meaning_characters, tokens_meant, macro_defined, name_made, relax_if_undefined, spelt, newly_spelt, answered, number_or_glue, is_magnification, magnification_set, legal_or_not, compared}
 
 -- MOVES OF A RULE BEHIND ITS PULL: they pull nothing, and text begins to be skipped by their last move, if by any.
 abbrev pub Tame : List Move → Type 0
@@ -251,7 +251,7 @@ kind_tame k fed x = fed_tame k fed (Tok x)
 
 noting_kind_tame : (k : Kind) (fed : List Fed) → Tame (noting_kind k fed)
 noting_kind_tame (Arguments name long number ts) fed = tt
-noting_kind_tame k fed = fed_tame k fed Told
+noting_kind_tame k fed = fed_tame k fed Noted
 
 noting_tame : (r : Reading) → Tame (noting r)
 noting_tame r = noting_kind_tame r.kind r.fed
@@ -400,13 +400,13 @@ wanted_tame page Nonblank feeds x h = tame_if (is_space x) [] (expanded page x f
 wanted_tame page Command feeds x h = tame_if (is_space x || means_relax x.meaning) [] (expanded page x feeds) tt (expanded_tame page x feeds h)
 
 -- checks
-noted_tame : (what : Scanned) (rest : List Move) → Tame rest → Tame (check_noted what rest)
+noted_tame : (what : Scanned) (rest : List Move) → Tame rest → Tame (cut_or_not what rest)
 noted_tame scanned.Use rest h = h
 noted_tame scanned.Definition rest h = h
 noted_tame scanned.Text rest h = h
 
 away_tame : (page : Page) (report : Report) (what : Scanned) (list : List Token) (rest : List Move) → Tame rest → Tame (ran_away page report what list rest)
-away_tame page report what list rest h = reported_tame (page_behind page (away_text page what list)) report (check_noted what rest) (noted_tame what rest h)
+away_tame page report what list rest h = reported_tame (page_behind page (away_text page what list)) report (cut_or_not what rest) (noted_tame what rest h)
 
 incomplete_tame : (page : Page) (line : ℕ) (rest : List Move) → Tame rest → Tame (incomplete page line rest)
 incomplete_tame page line rest h = reported_tame page (reports.IncompleteConditional (innermost_test page.conditionals) line) rest h
@@ -434,12 +434,12 @@ lexeme_tame names page o onward x h = joined (entered names) (met page o onward 
 
 -- WHAT COMES OF AN ANSWER
 
-told_tame : (page : Page) (report : Report) (inserted : Option Token) (back : Bool) (r : Reading) → Tame (told page report inserted back r)
+told_tame : (page : Page) (report : Report) (inserted : Option Token) (back : Bool) (r : Reading) → Tame (report_noted page report inserted back r)
 told_tame page report inserted back r =
     joined (given_back back page.last) (put_inserted inserted ++ reported page report (noting r)) (back_flat back page.last)
     (joined (put_inserted inserted) (reported page report (noting r)) (inserted_flat inserted) (reported_tame page report (noting r) (noting_tame r)))
 
-inner_tame : (k : Begins) (begins : Bool) → Tame (inner_begun (Reads k) begins)
+inner_tame : (k : Phrase) (begins : Bool) → Tame (inner_begun (Reads k) begins)
 inner_tame k true = tt
 inner_tame k false = tt
 

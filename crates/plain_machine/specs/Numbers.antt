@@ -15,7 +15,7 @@ use Rattle.equivalents.specs.declared.values.Loc.{Loc}
 use Rattle.equivalents.specs.declared.values.Val.TheVariants as val
 use Rattle.equivalents.specs.Locations.{V, tokens_of, value_seen}
 use Rattle.equivalents.specs.Tables.{Tables, get}
-use Rattle.equivalents.specs.Groups.{Groups, set, set_name, entered, opened, closed, with_token, depth, kind_of, tokens_after, saves, set_demands, name_demands, group_demands, token_demands}
+use Rattle.equivalents.specs.Groups.{Groups, set, set_name, entered, opened, closed, with_token, depth, current_group, tokens_after, saves, set_demands, name_demands, group_demands, token_demands}
 use Rattle.equivalents.specs.Holding.{lists_held, shared_words}
 use Rattle.plain_tokens.specs.Printed.{Style, meaning_text, meaning_tokens}
 use Rattle.plain_machine.specs.Plan.{shared_tokens}
@@ -113,7 +113,7 @@ pub record NumbersAreFree : Type 0 where
   pub keeps : (number : ℕ → ℕ) (g : Groups) (t : Token) → with_token (groups_of number g) t ≡ groups_of number (with_token g t)
   -- what is seen of the open groups, and what they use and need
   pub depth : (number : ℕ → ℕ) (g : Groups) → depth (groups_of number g) ≡ depth g
-  pub kind_of : (number : ℕ → ℕ) (g : Groups) → kind_of (groups_of number g) ≡ kind_of g
+  pub current_group : (number : ℕ → ℕ) (g : Groups) → current_group (groups_of number g) ≡ current_group g
   pub tokens_after : (number : ℕ → ℕ) (g : Groups) → tokens_after (groups_of number g) ≡ tokens_after g
   pub saves : (number : ℕ → ℕ) (g : Groups) → saves (groups_of number g) ≡ saves g
   pub demands : (number : ℕ → ℕ) (global : Bool) (g : Groups) (l : Loc) → set_demands global (groups_of number g) l ≡ set_demands global g l

@@ -31,7 +31,7 @@ use Rattle.equivalents.specs.declared.values.Val.TheVariants as val
 use Rattle.equivalents.specs.First.{global_definitions, magnification}
 use Rattle.save_stack.specs.declared.GroupKind.{GroupKind}
 use Rattle.save_stack.specs.declared.GroupKind.TheVariants.{Simple, SemiSimple}
-use Rattle.equivalents.specs.Groups.{Groups, depth, kind_of, tokens_after}
+use Rattle.equivalents.specs.Groups.{Groups, depth, current_group, tokens_after}
 use Rattle.equivalents.specs.Locations.{V, SeenValue, zero_value, value_seen, tokens_of}
 use Rattle.equivalents.specs.Cases.{case_codes, case_changed}
 use Rattle.equivalents.specs.Tables.{Tables, get}
@@ -68,7 +68,7 @@ use Rattle.conditionals.specs.Skipping.{first_conditional, else_primitive, or_pr
 use Rattle.conditionals.specs.Same.{same_meaning}
 use Rattle.rows.specs.declared.words.Value.{Value}
 use Rattle.rows.specs.declared.words.Value.TheVariants as value
-use Rattle.rows.specs.declared.words.Kind.TheVariants.{Command as Row}
+use Rattle.rows.specs.declared.words.Phrase.TheVariants.{Command as Row}
 use Rattle.rows.specs.declared.command.Head.{Head}
 use Rattle.rows.specs.declared.command.Head.TheVariants.{Primitive, Register}
 use Rattle.rows.specs.declared.command.Shorthand.{Shorthand}
@@ -79,7 +79,7 @@ use Rattle.rows.specs.declared.command.Effect.TheVariants as effect
 use Rattle.rows.specs.Table.{has_row}
 use Rattle.rows.specs.Arithmetic.{value_computed}
 use Rattle.rows.specs.Internal.{value_text}
-use Rattle.rows.specs.Readings.{Fed, Tok, Told, Cut, Fetched, Verbatim, Ask, More, Inner, Done, Acts, ActsOn, Defines, Ends as Closes, Calls, Fails, RunsAway, Tells, Inserts, Puts, Relaxes, Fetches, Magnifies}
+use Rattle.rows.specs.Readings.{Fed, Tok, Noted, Cut, Fetched, Verbatim, Ask, More, Inner, Done, Acts, ActsOn, Defines, Ends as Closes, Calls, Fails, RunsAway, Tells, Inserts, Puts, Relaxes, Fetches, Magnifies}
 use Rattle.plain_readings.specs.Calls.{gathered, par_token}
 use Rattle.plain_readings.specs.Spelling.{endcsname_primitive}
 use Rattle.plain_readings.specs.Readings.{Kind, Reads, Spelling, FileName, Arguments, Behind, Skips, Reading, ask, lists}
@@ -113,7 +113,7 @@ abbrev pub page_of : State → Page
 page_of s = record {
   now = s.groups.now;
   depth = depth s.groups;
-  group = kind_of s.groups;
+  group = current_group s.groups;
   tokens = tokens_after s.groups;
   after = s.after;
   mag_set = s.mag_set;
@@ -433,8 +433,8 @@ feeding r x = feeding_kind r.kind r.fed x
 
 -- the note that a report was written
 abbrev pub noting_kind : Kind → List Fed → List Move
-noting_kind (Arguments name long number ts) fed = Feeds Told ∷ []
-noting_kind k fed = grown_and_fed k fed Told
+noting_kind (Arguments name long number ts) fed = Feeds Noted ∷ []
+noting_kind k fed = grown_and_fed k fed Noted
 
 abbrev pub noting : Reading → List Move
 noting r = noting_kind r.kind r.fed
@@ -457,9 +457,9 @@ inserted_at scanned.Text = right_brace
 inserted_at scanned.Use = par_token
 
 -- a call notes that a check came
-abbrev pub check_noted : Scanned → List Move → List Move
-check_noted scanned.Use rest = Feeds Cut ∷ rest
-check_noted what rest = rest
+abbrev pub cut_or_not : Scanned → List Move → List Move
+cut_or_not scanned.Use rest = Feeds Cut ∷ rest
+cut_or_not what rest = rest
 
 -- where a file has ended, and the one beneath it stands at this line
 abbrev pub at_line : ℕ → Page → Page
@@ -476,7 +476,7 @@ away_text page what list = runaway_bytes what (style_of page) page.in_line list
 abbrev pub ran_away : Page → Report → Scanned → (list : List Token) → List Move → List Move
 ran_away page report what list rest =
     Written Transcript (away_text page what list)
-    ∷ (put_one (inserted_at what) ++ reported (page_behind page (away_text page what list)) report (check_noted what rest))
+    ∷ (put_one (inserted_at what) ++ reported (page_behind page (away_text page what list)) report (cut_or_not what rest))
 
 -- the frozen `\fi`, which no assignment changes
 abbrev pub frozen_fi : Token
@@ -534,8 +534,8 @@ put_inserted None = []
 put_inserted (Some t) = put_one t
 
 -- A reading reports, and goes on; a token may be given back before, and another inserted.
-abbrev pub told : Page → Report → Option Token → Bool → Reading → List Move
-told page report inserted back r = given_back back page.last ++ (put_inserted inserted ++ reported page report (noting r))
+abbrev pub report_noted : Page → Report → Option Token → Bool → Reading → List Move
+report_noted page report inserted back r = given_back back page.last ++ (put_inserted inserted ++ reported page report (noting r))
 
 -- THE END OF A READING
 
@@ -617,8 +617,8 @@ abbrev pub value_shown : Page → (text : List ℕ) → (ts : List Token) → Li
 value_shown page text ts = Written Transcript (shown_value_bytes (style_of page) page.in_line page.line text ts) ∷ Flawed ∷ []
 
 -- of a location
-abbrev pub standing_shown : Page → Loc → List Move
-standing_shown page l = value_shown page (value_text l (value_seen (get page.now l))) (shared_tokens page.all_lists (list_number page l))
+abbrev pub location_shown : Page → Loc → List Move
+location_shown page l = value_shown page (value_text l (value_seen (get page.now l))) (shared_tokens page.all_lists (list_number page l))
 
 -- Whether an assignment is global: where `\globaldefs` is positive, each is, and where it is negative, none is.
 abbrev pub globally : ℤ → (asked : Bool) → Bool
@@ -680,7 +680,7 @@ reached page c (step.Ends how) = ended_by how
 abbrev pub acts : Page → Call → Effect → List Move
 acts page c (effect.Obey x) = Closed ∷ command page x.token x.meaning
 acts page c (effect.Show x) = and_closed (shown page x)
-acts page c (effect.ShowValue l) = and_closed (standing_shown page l)
+acts page c (effect.ShowValue l) = and_closed (location_shown page l)
 acts page c (effect.ShowNumber n) = and_closed (value_shown page (whole_number n) [])
 acts page c (effect.Let n x) = and_closed (assigned page (Assigned (is_global page c) n (meaning_to_let page.now.meanings x)))
 acts page c (effect.FutureLet n x y) = and_closed (put_one y.token ++ (put_one x.token ++ assigned page (Assigned (is_global page c) n (meaning_to_let page.now.meanings y))))
@@ -829,8 +829,8 @@ answered s work r Closes = Closed ∷ []
 answered s work r (Calls args) = called_with r.kind args
 answered s work r (Fails report) = failed (page_of s) report
 answered s work r (RunsAway report) = failed_away (page_of s) report (scanning work s.gathered)
-answered s work r (Tells report back) = told (page_of s) report None back r
-answered s work r (Inserts t report back) = told (page_of s) report (Some t) back r
+answered s work r (Tells report back) = report_noted (page_of s) report None back r
+answered s work r (Inserts t report back) = report_noted (page_of s) report (Some t) back r
 answered s work r (Puts t more) = put_one t ++ noting r
 answered s work r (Relaxes c n) = Assigned (is_global (page_of s) c) n (means.Prim relax_primitive) ∷ noting r
 answered s work r Magnifies = magnification_checked (page_of s) (noting r)

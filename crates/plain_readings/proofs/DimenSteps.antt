@@ -18,14 +18,14 @@ use Rattle.plain_readings.specs.Integers.{is_minus, is_plus, is_digit, digit_of}
 use Rattle.plain_readings.specs.Factors.{is_point}
 use Rattle.plain_readings.specs.declared.measures.Quantity.{Quantity}
 use Rattle.plain_readings.specs.declared.measures.Measure.{Measure}
-use Rattle.plain_readings.specs.Dimens.{Fed, Tok, Factored, Numbered, Found, Told, Fetched, Answer, too_large_told, finished, spaced, illegal, in_units, points, physical, scaled_points, by_unit, magnified_amount, magnification_in, by_magnification, magnification_fetched, magnified, true_or_not, ex_or_not, em_or_not, mu_or_not, incompatible, valued, no_number, fetched, bad_numbered, with_number, numbered, times, unit_fetched, internal_unit, word_unit, internal_or_word, unit_at, unit_sought, longer, fil_or_not, unit_behind, unit_with, amount, with_digit, behind_digits, fraction, pointed, turned, with_factor, factor_read, factored, is_integer_at, value_fetched, internal_value, internal_or_factor, unsigned, dimension}
+use Rattle.plain_readings.specs.Dimens.{Fed, Tok, Factored, Numbered, Found, Noted, Fetched, Answer, too_large_noted, finished, spaced, illegal, in_units, points, physical, scaled_points, by_unit, magnified_amount, magnification_in, by_magnification, magnification_fetched, magnified, true_or_not, ex_or_not, em_or_not, mu_or_not, incompatible, valued, no_number, fetched, bad_numbered, with_number, numbered, times, unit_fetched, internal_unit, word_unit, internal_or_word, unit_at, unit_sought, longer, fil_or_not, unit_behind, unit_with, amount, with_digit, behind_digits, fraction, pointed, turned, with_factor, factor_read, factored, is_integer_at, value_fetched, internal_value, internal_or_factor, unsigned, dimension}
 use Rattle.plain_readings.specs.Measures.{dimen_ask}
 use Rattle.plain_readings.specs.Weights.{value_weight}
 use Rattle.plain_readings.proofs.Follows.{Item, Token, Value, Note, Standing, weighs, Follows, light_follows}
 
 abbrev pub item_of : Fed → Item
 item_of (Tok x) = Token
-item_of Told = Note
+item_of Noted = Note
 item_of (Fetched v) = Standing
 item_of y = Value
 
@@ -42,8 +42,8 @@ light_if false p q n h i = i
 
 -- THE END
 
-too_large_light : (y : Fed) (negative : Bool) (order : ℕ) (back : Bool) → weighs (dimen_ask (too_large_told negative order back (y ∷ []))) ≤ value_weight
-too_large_light Told negative order back = omega arith
+too_large_light : (y : Fed) (negative : Bool) (order : ℕ) (back : Bool) → weighs (dimen_ask (too_large_noted negative order back (y ∷ []))) ≤ value_weight
+too_large_light Noted negative order back = omega arith
 too_large_light y negative order back = omega arith
 
 -- at first it weighs no more than one report
@@ -52,9 +52,9 @@ finished_light negative (Some n) order back = omega arith
 finished_light negative None order back = omega arith
 
 module _ (y : Fed) where
-  too_large_steps : (negative : Bool) (order : ℕ) (back : Bool) (fed : List Fed) → Steps y (too_large_told negative order back fed) (too_large_told negative order back (fed ++ y ∷ []))
+  too_large_steps : (negative : Bool) (order : ℕ) (back : Bool) (fed : List Fed) → Steps y (too_large_noted negative order back fed) (too_large_noted negative order back (fed ++ y ∷ []))
   too_large_steps negative order back [] = light_follows (item_of y) _ _ (too_large_light y negative order back)
-  too_large_steps negative order back (Told ∷ fed) = light_follows (item_of y) _ _ (omega arith)
+  too_large_steps negative order back (Noted ∷ fed) = light_follows (item_of y) _ _ (omega arith)
   too_large_steps negative order back (z ∷ fed) = light_follows (item_of y) _ _ (omega arith)
 
   finished_steps : (negative : Bool) (v : Option ℤ) (order : ℕ) (back : Bool) (fed : List Fed) → Steps y (finished negative v order back fed) (finished negative v order back (fed ++ y ∷ []))
@@ -66,7 +66,7 @@ spaced_ends (Tok x) negative v order = tt
 spaced_ends y negative v order = omega arith
 
 illegal_light : (y : Fed) (unit : UnitTaken) (negative : Bool) (v : Option ℤ) → weighs (dimen_ask (illegal unit negative v (y ∷ []))) ≤ value_weight
-illegal_light Told unit negative v = omega arith
+illegal_light Noted unit negative v = omega arith
 illegal_light y unit negative v = omega arith
 
 module _ (y : Fed) where
@@ -77,7 +77,7 @@ module _ (y : Fed) where
 
   illegal_steps : (unit : UnitTaken) (negative : Bool) (v : Option ℤ) (fed : List Fed) → Steps y (illegal unit negative v fed) (illegal unit negative v (fed ++ y ∷ []))
   illegal_steps unit negative v [] = light_follows (item_of y) _ _ (illegal_light y unit negative v)
-  illegal_steps unit negative v (Told ∷ fed) = spaced_steps negative v 0 fed
+  illegal_steps unit negative v (Noted ∷ fed) = spaced_steps negative v 0 fed
   illegal_steps unit negative v (z ∷ fed) = light_follows (item_of y) _ _ (omega arith)
 
 -- UNITS
@@ -119,7 +119,7 @@ magnification_light (Fetched v) negative a = light_if (magnification_in v == 0) 
 magnification_light y negative a = omega arith
 
 magnified_ends : (y : Fed) (negative : Bool) (a : Quantity) → Steps y (magnified negative a []) (magnified negative a (y ∷ []))
-magnified_ends Told negative a = (omega arith, omega arith)
+magnified_ends Noted negative a = (omega arith, omega arith)
 magnified_ends (Tok x) negative a = tt
 magnified_ends y negative a = omega arith
 
@@ -153,7 +153,7 @@ module _ (y : Fed) where
 
   magnified_steps : (negative : Bool) (a : Quantity) (fed : List Fed) → Steps y (magnified negative a fed) (magnified negative a (fed ++ y ∷ []))
   magnified_steps negative a [] = magnified_ends y negative a
-  magnified_steps negative a (Told ∷ fed) = magnification_steps negative a fed
+  magnified_steps negative a (Noted ∷ fed) = magnification_steps negative a fed
   magnified_steps negative a (z ∷ fed) = light_follows (item_of y) _ _ (omega arith)
 
   true_steps : (negative : Bool) (a : Quantity) (fed : List Fed) → Steps y (true_or_not negative a fed) (true_or_not negative a (fed ++ y ∷ []))
@@ -183,8 +183,8 @@ module _ (y : Fed) where
 -- INTERNAL VALUES
 
 incompatible_ends : (y : Fed) (negative : Bool) (v : Option ℤ) → Steps y (incompatible negative v []) (incompatible negative v (y ∷ []))
-incompatible_ends Told negative (Some n) = (omega arith, omega arith)
-incompatible_ends Told negative None = (omega arith, omega arith)
+incompatible_ends Noted negative (Some n) = (omega arith, omega arith)
+incompatible_ends Noted negative None = (omega arith, omega arith)
 incompatible_ends (Tok x) negative v = tt
 incompatible_ends y negative v = omega arith
 
@@ -196,15 +196,15 @@ valued_light true false negative v = omega arith
 valued_light false true negative v = omega arith
 
 no_number_ends : (y : Fed) (mu negative : Bool) → Steps y (no_number mu negative []) (no_number mu negative (y ∷ []))
-no_number_ends Told true negative = (omega arith, omega arith)
-no_number_ends Told false negative = (omega arith, omega arith)
+no_number_ends Noted true negative = (omega arith, omega arith)
+no_number_ends Noted false negative = (omega arith, omega arith)
 no_number_ends (Tok x) mu negative = tt
 no_number_ends y mu negative = omega arith
 
 module _ (y : Fed) where
   incompatible_steps : (negative : Bool) (v : Option ℤ) (fed : List Fed) → Steps y (incompatible negative v fed) (incompatible negative v (fed ++ y ∷ []))
   incompatible_steps negative v [] = incompatible_ends y negative v
-  incompatible_steps negative v (Told ∷ fed) = finished_steps y negative v 0 false fed
+  incompatible_steps negative v (Noted ∷ fed) = finished_steps y negative v 0 false fed
   incompatible_steps negative v (z ∷ fed) = light_follows (item_of y) _ _ (omega arith)
 
   valued_steps : (wanted mu negative : Bool) (v : Option ℤ) (fed : List Fed) → Steps y (valued wanted mu negative v fed) (valued wanted mu negative v (fed ++ y ∷ []))
@@ -215,7 +215,7 @@ module _ (y : Fed) where
 
   no_number_steps : (mu negative : Bool) (fed : List Fed) → Steps y (no_number mu negative fed) (no_number mu negative (fed ++ y ∷ []))
   no_number_steps mu negative [] = no_number_ends y mu negative
-  no_number_steps mu negative (Told ∷ fed) = valued_steps mu false negative (Some (pos 0)) fed
+  no_number_steps mu negative (Noted ∷ fed) = valued_steps mu false negative (Some (pos 0)) fed
   no_number_steps mu negative (z ∷ fed) = light_follows (item_of y) _ _ (omega arith)
 
 -- what is done with what stands at a location
@@ -226,8 +226,8 @@ module _ (onward : Loc → ℤ → List Fed → Answer) (light : (l : Loc) (v : 
   fetched_ends y l = omega arith
 
   bad_ends : (y : Fed) (b : Bank) (n : ℤ) → Steps y (bad_numbered b n onward []) (bad_numbered b n onward (y ∷ []))
-  bad_ends Told (bank.Codes kind) n = (omega arith, omega arith)
-  bad_ends Told (bank.Registers kind) n = (omega arith, omega arith)
+  bad_ends Noted (bank.Codes kind) n = (omega arith, omega arith)
+  bad_ends Noted (bank.Registers kind) n = (omega arith, omega arith)
   bad_ends (Tok x) b n = tt
   bad_ends y b n = omega arith
 
@@ -248,7 +248,7 @@ module _ (onward : Loc → ℤ → List Fed → Answer) (light : (l : Loc) (v : 
 
     bad_steps : (b : Bank) (n : ℤ) (fed : List Fed) → Steps y (bad_numbered b n onward fed) (bad_numbered b n onward (fed ++ y ∷ []))
     bad_steps b n [] = bad_ends y b n
-    bad_steps b n (Told ∷ fed) = fetched_steps (location_in b 0) fed
+    bad_steps b n (Noted ∷ fed) = fetched_steps (location_in b 0) fed
     bad_steps b n (z ∷ fed) = light_follows (item_of y) _ _ (omega arith)
 
     number_steps : (b : Bank) (n : ℤ) (fed : List Fed) → Steps y (with_number b n onward fed) (with_number b n onward (fed ++ y ∷ []))
@@ -275,7 +275,7 @@ longer_ends (Tok x) negative a order = tt
 longer_ends y negative a order = omega arith
 
 too_long_light : (y : Fed) (negative : Bool) (a : Quantity) (order : ℕ) → weighs (dimen_ask (longer negative a order true (y ∷ []))) ≤ value_weight
-too_long_light Told negative a order = omega arith
+too_long_light Noted negative a order = omega arith
 too_long_light y negative a order = omega arith
 
 fil_light : (y : Fed) (k : DimenKind) (negative : Bool) (a : Quantity) (begins : Bool) → weighs (dimen_ask (fil_or_not k negative a begins (y ∷ []))) ≤ value_weight
@@ -316,7 +316,7 @@ module _ (y : Fed) where
   longer_steps negative a order false (Found false ∷ fed) = spaced_steps y negative (points a) order fed
   longer_steps negative a order false (z ∷ fed) = light_follows (item_of y) _ _ (omega arith)
   longer_steps negative a order true [] = light_follows (item_of y) _ _ (too_long_light y negative a order)
-  longer_steps negative a order true (Told ∷ fed) = longer_steps negative a order false fed
+  longer_steps negative a order true (Noted ∷ fed) = longer_steps negative a order false fed
   longer_steps negative a order true (z ∷ fed) = light_follows (item_of y) _ _ (omega arith)
 
   fil_steps : (k : DimenKind) (negative : Bool) (a : Quantity) (begins : Bool) (fed : List Fed) → Steps y (fil_or_not k negative a begins fed) (fil_or_not k negative a begins (fed ++ y ∷ []))

@@ -14,8 +14,8 @@ use Rattle.plain_state.specs.Definitions as build
 use Rattle.plain_state.specs.Definitions.{Body, Answer, More, Tells, Done, is_parameter, character_of, is_digit, is_number, place_digit, is_reference, count_of, body, reference, illegal, macro_body, no_body, parameters, place, tenth, misnumbered, text_body, missing, first}
 use Rattle.rows.specs.declared.words.Datum.TheVariants as datum
 use Rattle.rows.specs.declared.words.Value.TheVariants as value
-use Rattle.rows.specs.declared.words.Kind.TheVariants.{Command, Integer, Factor, Dimension, Glue, Keyword, Text, Definition}
-use Rattle.rows.specs.Readings.{Fed, Tok, Val, Told, Fetched, Verbatim, Cut, Ask}
+use Rattle.rows.specs.declared.words.Phrase.TheVariants.{Command, Integer, Factor, Dimension, Glue, Keyword, Text, Definition}
+use Rattle.rows.specs.Readings.{Fed, Tok, Val, Noted, Fetched, Verbatim, Cut, Ask}
 use Rattle.rows.specs.Readings as reading
 use Rattle.plain_readings.specs.Integers.{integer}
 use Rattle.plain_readings.specs.Lists.{build_ask, built, build_fed, manner, text, definition}
@@ -57,7 +57,7 @@ module _ (t : Token) where
   mutual
     body_goes : (m : Manner) (b : Body) (depth : ℕ) (list : List Token) (fed : List build.Fed) → Enters t (body m b depth list fed) (body m b depth list (entered fed))
     body_goes m b depth list [] = body_enters m.expanded list
-    body_goes m b depth list (build.Told ∷ fed) = body_goes m b depth list fed
+    body_goes m b depth list (build.Noted ∷ fed) = body_goes m b depth list fed
     body_goes m b depth list (build.Given ts ∷ fed) = body_goes m b depth (list ++ ts) fed
     body_goes m b depth list (build.Tok x ∷ fed) =
         either (has_category begin_group x.token) _ _ _ _ (body_goes m b (depth + 1) (list ++ x.token ∷ []) fed)
@@ -67,7 +67,7 @@ module _ (t : Token) where
     reference_goes : (m : Manner) (b : Body) (depth : ℕ) (character : Token) (list : List Token) (fed : List build.Fed) →
         Enters t (reference m b depth character list fed) (reference m b depth character list (entered fed))
     reference_goes m b depth character list [] = number_enters m.expanded list _
-    reference_goes m b depth character list (build.Told ∷ fed) = reference_goes m b depth character list fed
+    reference_goes m b depth character list (build.Noted ∷ fed) = reference_goes m b depth character list fed
     reference_goes m b depth character list (build.Given ts ∷ fed) = reference_goes m b depth character list fed
     reference_goes m b depth character list (build.Tok y ∷ fed) =
         either (is_parameter y) _ _ _ _ (body_goes m b depth (list ++ y.token ∷ []) fed)
@@ -76,20 +76,20 @@ module _ (t : Token) where
     illegal_goes : (m : Manner) (b : Body) (depth : ℕ) (character : Token) (list : List Token) (fed : List build.Fed) →
         Enters t (illegal m b depth character list fed) (illegal m b depth character list (entered fed))
     illegal_goes m b depth character list [] = tt
-    illegal_goes m b depth character list (build.Told ∷ fed) = body_goes m b depth (list ++ character ∷ []) fed
+    illegal_goes m b depth character list (build.Noted ∷ fed) = body_goes m b depth (list ++ character ∷ []) fed
     illegal_goes m b depth character list (build.Given ts ∷ fed) = illegal_goes m b depth character list fed
     illegal_goes m b depth character list (build.Tok y ∷ fed) = illegal_goes m b depth character list fed
 
   no_body_goes : (list : List Token) (fed : List build.Fed) → Enters t (no_body list fed) (no_body list (entered fed))
   no_body_goes list [] = tt
-  no_body_goes list (build.Told ∷ fed) = tt
+  no_body_goes list (build.Noted ∷ fed) = tt
   no_body_goes list (build.Given ts ∷ fed) = no_body_goes list fed
   no_body_goes list (build.Tok x ∷ fed) = no_body_goes list fed
 
   mutual
     parameters_go : (m : Manner) (count : ℕ) (list : List Token) (fed : List build.Fed) → Enters t (parameters m count list fed) (parameters m count list (entered fed))
     parameters_go m count list [] = tt
-    parameters_go m count list (build.Told ∷ fed) = parameters_go m count list fed
+    parameters_go m count list (build.Noted ∷ fed) = parameters_go m count list fed
     parameters_go m count list (build.Given ts ∷ fed) = parameters_go m count list fed
     parameters_go m count list (build.Tok x ∷ fed) =
         either (has_category begin_group x.token) _ _ _ _ (body_goes m (macro_body count None) 0 (list ++ EndPlaces ∷ []) fed)
@@ -98,7 +98,7 @@ module _ (t : Token) where
 
     place_goes : (m : Manner) (count character : ℕ) (list : List Token) (fed : List build.Fed) → Enters t (place m count character list fed) (place m count character list (entered fed))
     place_goes m count character list [] = tt
-    place_goes m count character list (build.Told ∷ fed) = place_goes m count character list fed
+    place_goes m count character list (build.Noted ∷ fed) = place_goes m count character list fed
     place_goes m count character list (build.Given ts ∷ fed) = place_goes m count character list fed
     place_goes m count character list (build.Tok y ∷ fed) =
         either (has_category begin_group y.token) _ _ _ _ (body_goes m (macro_body count (Some y.token)) 0 ((list ++ y.token ∷ []) ++ EndPlaces ∷ []) fed)
@@ -107,26 +107,26 @@ module _ (t : Token) where
 
     tenth_goes : (m : Manner) (count : ℕ) (list : List Token) (fed : List build.Fed) → Enters t (tenth m count list fed) (tenth m count list (entered fed))
     tenth_goes m count list [] = tt
-    tenth_goes m count list (build.Told ∷ fed) = parameters_go m count list fed
+    tenth_goes m count list (build.Noted ∷ fed) = parameters_go m count list fed
     tenth_goes m count list (build.Given ts ∷ fed) = tenth_goes m count list fed
     tenth_goes m count list (build.Tok y ∷ fed) = tenth_goes m count list fed
 
     misnumbered_goes : (m : Manner) (count character : ℕ) (list : List Token) (fed : List build.Fed) →
         Enters t (misnumbered m count character list fed) (misnumbered m count character list (entered fed))
     misnumbered_goes m count character list [] = tt
-    misnumbered_goes m count character list (build.Told ∷ fed) = parameters_go m count (list ++ Place character ∷ []) fed
+    misnumbered_goes m count character list (build.Noted ∷ fed) = parameters_go m count (list ++ Place character ∷ []) fed
     misnumbered_goes m count character list (build.Given ts ∷ fed) = misnumbered_goes m count character list fed
     misnumbered_goes m count character list (build.Tok y ∷ fed) = misnumbered_goes m count character list fed
 
   missing_goes : (m : Manner) (list : List Token) (fed : List build.Fed) → Enters t (missing m list fed) (missing m list (entered fed))
   missing_goes m list [] = tt
-  missing_goes m list (build.Told ∷ fed) = body_goes m text_body 0 list fed
+  missing_goes m list (build.Noted ∷ fed) = body_goes m text_body 0 list fed
   missing_goes m list (build.Given ts ∷ fed) = missing_goes m list fed
   missing_goes m list (build.Tok x ∷ fed) = missing_goes m list fed
 
   first_goes : (m : Manner) (list : List Token) (fed : List build.Fed) → Enters t (first m list fed) (first m list (entered fed))
   first_goes m list [] = tt
-  first_goes m list (build.Told ∷ fed) = first_goes m list fed
+  first_goes m list (build.Noted ∷ fed) = first_goes m list fed
   first_goes m list (build.Given ts ∷ fed) = first_goes m list fed
   first_goes m list (build.Tok x ∷ fed) =
       either (means_category begin_group x.meaning) _ _ _ _ (body_goes m text_body 0 list fed) (missing_goes m list fed)
@@ -134,7 +134,7 @@ module _ (t : Token) where
   build_last : (fed : List Fed) → build_fed (fed ++ Verbatim t ∷ []) ≡ entered (build_fed fed)
   build_last [] = refl
   build_last (Tok x ∷ fed) = rw (build_last fed) refl
-  build_last (Told ∷ fed) = rw (build_last fed) refl
+  build_last (Noted ∷ fed) = rw (build_last fed) refl
   build_last (Verbatim u ∷ fed) = rw (build_last fed) refl
   build_last (Val v ts ∷ fed) = build_last fed
   build_last (Fetched v ∷ fed) = build_last fed

@@ -2,10 +2,10 @@
 use Rattle.std.proofs.Common.{◌≡◌, Bool, true, false, List, [], ◌∷◌, ◌++◌, refl, sym, subst}
 use Rattle.std.specs.Prelude.{if◌then◌else◌}
 use Rattle.tex_defs.specs.declared.Token.{Token}
-use Rattle.plain_tokens.specs.Arguments.{ParMode, Short, Checked, Case, Argument, ExtraBrace, ParEnded, Skipped, Going, case_at, Fed, Tok, Cut, Settled, Answer, ExtraBraceFound, Found, Sought, Gathered, Failed, search, arguments, behind, call, same}
+use Rattle.plain_tokens.specs.Arguments.{ParMode, Short, Checked, Case, Argument, ExtraBrace, ParEnded, Skipped, Going, case_at, Fed, Tok, Cut, Noted, Answer, ExtraBraceFound, Found, Sought, Gathered, Failed, search, arguments, behind, call, same}
 
 abbrev pub noted : List Fed → List Fed
-noted fed = fed ++ Settled ∷ []
+noted fed = fed ++ Noted ∷ []
 
 -- what a search has come to behind the note
 abbrev IsNoted : Found → Type 0
@@ -35,7 +35,7 @@ module _ (ds : List Token) (mode : ParMode) (kept t : List Token) (x : Token) (f
 search_noted : (ds : List Token) (braced : Bool) (mode : ParMode) (kept t : List Token) (fed : List Fed) → IsNoted (search ds braced mode kept t (noted fed))
 search_noted ds braced mode kept t [] = refl
 search_noted ds braced mode kept t (Cut ∷ fed) = search_noted ds false Checked kept t fed
-search_noted ds braced mode kept t (Settled ∷ fed) = search_noted ds false mode kept t fed
+search_noted ds braced mode kept t (Noted ∷ fed) = search_noted ds false mode kept t fed
 search_noted ds braced mode kept t (Tok x ∷ fed) =
     case_noted ds mode kept t x fed (case_at ds mode kept t x) (search_noted ds true Short (kept ++ t) [] fed) (search_noted ds false mode kept t fed)
     (search_noted ds false mode kept (t ++ x ∷ []) fed)
@@ -66,5 +66,5 @@ pub call_quiet : (mode : ParMode) (start : List Token) (places : List (List Toke
 call_quiet mode [] places fed = arguments_quiet mode [] places fed
 call_quiet mode (d ∷ ds) places [] = tt
 call_quiet mode (d ∷ ds) places (Cut ∷ fed) = call_quiet Checked (d ∷ ds) places fed
-call_quiet mode (d ∷ ds) places (Settled ∷ fed) = call_quiet mode (d ∷ ds) places fed
+call_quiet mode (d ∷ ds) places (Noted ∷ fed) = call_quiet mode (d ∷ ds) places fed
 call_quiet mode (d ∷ ds) places (Tok x ∷ fed) = quiet_if (same x d) _ _ (call_quiet mode ds places fed) tt

@@ -2,7 +2,7 @@
 use Rattle.std.proofs.Common.{◌≡◌, ◌<◌, Bool, false, List, [], ◌∷◌, ◌++◌, refl, arith}
 use Rattle.rows.specs.declared.words.Datum.TheVariants as datum
 use Rattle.rows.specs.declared.words.Value.TheVariants as value
-use Rattle.rows.specs.declared.words.Kind.TheVariants.{Integer, Factor}
+use Rattle.rows.specs.declared.words.Phrase.TheVariants.{Integer, Factor}
 use Rattle.rows.specs.Readings.{Fed, Tok, Ask, Done}
 use Rattle.plain_readings.specs.Integers.{integer, is_digit}
 use Rattle.plain_readings.specs.Factors.{is_point, ends_in_point, as_factor, factor}

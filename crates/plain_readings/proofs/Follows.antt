@@ -4,8 +4,8 @@ use Rattle.std.proofs.Common.{◌≡◌, ◌≤◌, ◌<◌, ℕ, ◌+◌, ◌-�
 use Rattle.equivalents.specs.declared.values.Loc.{Loc}
 use Rattle.tex_syntax.specs.declared.words.Report.{Report}
 use Rattle.tex_syntax.specs.declared.words.Report.TheVariants.{BadCharacterCode, BadRegisterCode, MissingNumber, IncompatibleUnits}
-use Rattle.rows.specs.declared.words.Kind.{Kind as Begun}
-use Rattle.rows.specs.declared.words.Kind.TheVariants.{Dimension, Glue}
+use Rattle.rows.specs.declared.words.Phrase.{Phrase}
+use Rattle.rows.specs.declared.words.Phrase.TheVariants.{Dimension, Glue}
 use Rattle.rows.specs.Readings.{Ask, Inner, Tells, Inserts, Puts, Relaxes, Fetches, Magnifies}
 use Rattle.plain_readings.specs.Laws.{Lends, after, reports_due}
 use Rattle.plain_readings.specs.Weights.{value_weight, fetching_behind, begins_with, ask_weight, IsNoted}
@@ -53,7 +53,7 @@ few_behind (BadCharacterCode n) = omega arith
 few_behind (BadRegisterCode n) = omega arith
 few_behind report = omega arith
 
-pub begins_heavy : (j : Begun) → 70 ≤ begins_with j
+pub begins_heavy : (j : Phrase) → 70 ≤ begins_with j
 begins_heavy (Dimension k) = omega arith
 begins_heavy (Glue mu) = omega arith
 begins_heavy j = omega arith

@@ -6,7 +6,7 @@ use Rattle.tex_defs.specs.declared.Token.{Token}
 use Rattle.tex_defs.specs.declared.Token.TheVariants.{Place, Number, EndPlaces}
 use Rattle.plain_tokens.specs.Categories.{begin_group, end_group}
 use Rattle.plain_tokens.specs.Tokens.{has_category}
-use Rattle.plain_state.specs.Definitions.{Body, Fed, Tok, Told, Given, Answer, More, Tells, Done, is_parameter, character_of, is_digit, is_number, place_digit, is_reference, count_of, with_cell, body, reference, illegal, macro_body, no_body, parameters, place, tenth, misnumbered}
+use Rattle.plain_state.specs.Definitions.{Body, Fed, Tok, Noted, Given, Answer, More, Tells, Done, is_parameter, character_of, is_digit, is_number, place_digit, is_reference, count_of, with_cell, body, reference, illegal, macro_body, no_body, parameters, place, tenth, misnumbered}
 
 -- a list that is done has a token
 abbrev pub EndsFull : Answer → Type 0
@@ -37,7 +37,7 @@ with_cell_some list (Some t) h = one_more list t
 mutual
   body_full : (m : Manner) (b : Body) (depth : ℕ) (list : List Token) (fed : List Fed) → list ≢ [] → EndsFull (body m b depth list fed)
   body_full m b depth list [] h = tt
-  body_full m b depth list (Told ∷ fed) h = body_full m b depth list fed h
+  body_full m b depth list (Noted ∷ fed) h = body_full m b depth list fed h
   body_full m b depth list (Given ts ∷ fed) h = body_full m b depth (list ++ ts) fed (longer_some list ts h)
   body_full m b depth list (Tok x ∷ fed) h =
       let open_one : Answer = body m b (depth + 1) (list ++ x.token ∷ []) fed in
@@ -53,7 +53,7 @@ mutual
 
   reference_full : (m : Manner) (b : Body) (depth : ℕ) (character : Token) (list : List Token) (fed : List Fed) → list ≢ [] → EndsFull (reference m b depth character list fed)
   reference_full m b depth character list [] h = tt
-  reference_full m b depth character list (Told ∷ fed) h = reference_full m b depth character list fed h
+  reference_full m b depth character list (Noted ∷ fed) h = reference_full m b depth character list fed h
   reference_full m b depth character list (Given ts ∷ fed) h = reference_full m b depth character list fed h
   reference_full m b depth character list (Tok y ∷ fed) h =
       let number : Answer = if is_number (count_of b.places) y.token then body m b depth (list ++ Number (place_digit y.token) ∷ []) fed else illegal m b depth character list fed in
@@ -64,7 +64,7 @@ mutual
 
   illegal_full : (m : Manner) (b : Body) (depth : ℕ) (character : Token) (list : List Token) (fed : List Fed) → list ≢ [] → EndsFull (illegal m b depth character list fed)
   illegal_full m b depth character list [] h = tt
-  illegal_full m b depth character list (Told ∷ fed) h = body_full m b depth (list ++ character ∷ []) fed (one_more list character)
+  illegal_full m b depth character list (Noted ∷ fed) h = body_full m b depth (list ++ character ∷ []) fed (one_more list character)
   illegal_full m b depth character list (Given ts ∷ fed) h = illegal_full m b depth character list fed h
   illegal_full m b depth character list (Tok y ∷ fed) h = illegal_full m b depth character list fed h
 
@@ -72,14 +72,14 @@ mutual
 
 no_body_full : (list : List Token) (fed : List Fed) → list ≢ [] → EndsFull (no_body list fed)
 no_body_full list [] h = tt
-no_body_full list (Told ∷ fed) h = h
+no_body_full list (Noted ∷ fed) h = h
 no_body_full list (Given ts ∷ fed) h = no_body_full list fed h
 no_body_full list (Tok x ∷ fed) h = no_body_full list fed h
 
 mutual
   pub parameters_full : (m : Manner) (count : ℕ) (list : List Token) (fed : List Fed) → EndsFull (parameters m count list fed)
   parameters_full m count list [] = tt
-  parameters_full m count list (Told ∷ fed) = parameters_full m count list fed
+  parameters_full m count list (Noted ∷ fed) = parameters_full m count list fed
   parameters_full m count list (Given ts ∷ fed) = parameters_full m count list fed
   parameters_full m count list (Tok x ∷ fed) =
       let behind : Answer = if is_parameter x then place m count (character_of x.meaning) list fed else parameters m count (list ++ x.token ∷ []) fed in
@@ -93,7 +93,7 @@ mutual
 
   place_full : (m : Manner) (count character : ℕ) (list : List Token) (fed : List Fed) → EndsFull (place m count character list fed)
   place_full m count character list [] = tt
-  place_full m count character list (Told ∷ fed) = place_full m count character list fed
+  place_full m count character list (Noted ∷ fed) = place_full m count character list fed
   place_full m count character list (Given ts ∷ fed) = place_full m count character list fed
   place_full m count character list (Tok y ∷ fed) =
       let numbered : Answer = if is_digit (count + 1) y.token then parameters m (count + 1) (list ++ Place character ∷ []) fed else misnumbered m (count + 1) character list fed in
@@ -107,12 +107,12 @@ mutual
 
   tenth_full : (m : Manner) (count : ℕ) (list : List Token) (fed : List Fed) → EndsFull (tenth m count list fed)
   tenth_full m count list [] = tt
-  tenth_full m count list (Told ∷ fed) = parameters_full m count list fed
+  tenth_full m count list (Noted ∷ fed) = parameters_full m count list fed
   tenth_full m count list (Given ts ∷ fed) = tenth_full m count list fed
   tenth_full m count list (Tok y ∷ fed) = tenth_full m count list fed
 
   misnumbered_full : (m : Manner) (count character : ℕ) (list : List Token) (fed : List Fed) → EndsFull (misnumbered m count character list fed)
   misnumbered_full m count character list [] = tt
-  misnumbered_full m count character list (Told ∷ fed) = parameters_full m count (list ++ Place character ∷ []) fed
+  misnumbered_full m count character list (Noted ∷ fed) = parameters_full m count (list ++ Place character ∷ []) fed
   misnumbered_full m count character list (Given ts ∷ fed) = misnumbered_full m count character list fed
   misnumbered_full m count character list (Tok y ∷ fed) = misnumbered_full m count character list fed

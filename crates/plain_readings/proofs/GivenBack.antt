@@ -9,7 +9,7 @@ use Rattle.tex_syntax.specs.declared.words.Manner.{Manner}
 use Rattle.plain_tokens.specs.Categories.{begin_group, end_group}
 use Rattle.plain_tokens.specs.Tokens.{has_category, means_category}
 use Rattle.plain_tokens.specs.Arguments as call
-use Rattle.plain_tokens.specs.Arguments.{ParMode, Short, Checked, Case, Argument, ExtraBrace, ParEnded, Skipped, Going, Found, Gathered, Failed, case_at, search, is_checked, same, start_of, places_of}
+use Rattle.plain_tokens.specs.Arguments.{ParMode, Short, Checked, Case, Argument, ExtraBrace, ParEnded, Skipped, Going, Found, Gathered, Failed, case_at, search, is_checked, same, start_of, places_of, mode_of}
 use Rattle.plain_state.specs.Definitions as build
 use Rattle.plain_state.specs.Definitions.{Body, is_parameter, character_of, is_digit, is_number, place_digit, is_reference, count_of, body, reference, illegal, macro_body, no_body, parameters, place, tenth, misnumbered, text_body, missing, first}
 use Rattle.equivalents.specs.declared.values.Loc.{Loc}
@@ -19,7 +19,7 @@ use Rattle.conditionals.specs.declared.skip.Ender.{Ender}
 use Rattle.conditionals.specs.Skipping.{part, ends_at, open_behind}
 use Rattle.rows.specs.declared.words.Datum.{Datum}
 use Rattle.rows.specs.declared.words.Datum.TheVariants as datum
-use Rattle.rows.specs.declared.words.Kind.TheVariants.{Command, Integer, Factor, Dimension, Glue, Keyword, Text, Definition}
+use Rattle.rows.specs.declared.words.Phrase.TheVariants.{Command, Integer, Factor, Dimension, Glue, Keyword, Text, Definition}
 use Rattle.rows.specs.Internal.{byte_of, is_list, is_glue}
 use Rattle.rows.specs.declared.stage.Note.{Note}
 use Rattle.rows.specs.declared.stage.Note.TheVariants as note
@@ -33,10 +33,10 @@ use Rattle.rows.specs.Stages.{datum_at, number}
 use Rattle.rows.specs.Tests.{tested}
 use Rattle.rows.specs.Effects.{value_made, shows_datum, list_to, set_to, comes_to}
 use Rattle.rows.specs.Table.{action_of}
-use Rattle.rows.specs.Readings.{Fed, Tok, Told, Verbatim, Cut, Ask, ActsOn}
+use Rattle.rows.specs.Readings.{Fed, Tok, Noted, Verbatim, Cut, Ask, ActsOn}
 use Rattle.rows.specs.Run.{row, due}
 use Rattle.plain_readings.specs.Lists.{build_ask, build_fed, manner}
-use Rattle.plain_readings.specs.Calls.{call_ask, call_fed, mode_of}
+use Rattle.plain_readings.specs.Calls.{call_ask, call_fed}
 use Rattle.plain_readings.specs.Measures.{glue_ask}
 use Rattle.plain_readings.specs.Glues as glues
 use Rattle.plain_readings.specs.Skips.{ended, skipping}
@@ -44,8 +44,8 @@ use Rattle.plain_readings.specs.Readings.{Kind, Reads, Spelling, FileName, Behin
 use Rattle.plain_readings.specs.Laws.{is_met, Returns, GivesBack, Comes, ComeInTurn}
 use Rattle.plain_readings.proofs.Lent.{met_holds}
 use Rattle.plain_readings.proofs.Keywords.{keyword_holds}
-use Rattle.plain_readings.proofs.Giving.{Gives, direct, integer_gives, factor_gives, spelling_gives, naming_gives}
-use Rattle.plain_readings.proofs.DimenGiving.{dimension_gives}
+use Rattle.plain_readings.proofs.BackInput.{Gives, direct, integer_gives, factor_gives, spelling_gives, naming_gives}
+use Rattle.plain_readings.proofs.DimenBackInput.{dimension_gives}
 
 -- ROWS, whatever they were fed with
 
@@ -124,7 +124,7 @@ build_if b false p q fed h i = i
 mutual
   body_gives : (m : Manner) (b : Body) (depth : ℕ) (list : List Token) (met : Bool) (fed : List Fed) → BuildGives met (λ more. body m b depth list (build_fed more)) fed
   body_gives m b depth list met [] = λ h. tt
-  body_gives m b depth list met (Told ∷ fed) = λ h. body_gives m b depth list false fed h.1
+  body_gives m b depth list met (Noted ∷ fed) = λ h. body_gives m b depth list false fed h.1
   body_gives m b depth list met (Verbatim t ∷ fed) = λ h. body_gives m b depth (list ++ t ∷ []) false fed h.1
   body_gives m b depth list met (Tok x ∷ fed) =
       λ h. build_if true (has_category begin_group x.token) _ _ fed (body_gives m b (depth + 1) (list ++ x.token ∷ []) true fed)
@@ -144,12 +144,12 @@ mutual
   illegal_gives : (m : Manner) (b : Body) (depth : ℕ) (character : Token) (list : List Token) (fed : List Fed) →
       BuildGives true (λ more. illegal m b depth character list (build_fed more)) fed
   illegal_gives m b depth character list [] = λ h. refl
-  illegal_gives m b depth character list (Told ∷ fed) = λ h. body_gives m b depth (list ++ character ∷ []) false fed h.1
+  illegal_gives m b depth character list (Noted ∷ fed) = λ h. body_gives m b depth (list ++ character ∷ []) false fed h.1
   illegal_gives m b depth character list (y ∷ fed) = λ h. absurd h.0
 
 no_body_gives : (list : List Token) (fed : List Fed) → BuildGives true (λ more. no_body list (build_fed more)) fed
 no_body_gives list [] = λ h. tt
-no_body_gives list (Told ∷ fed) = λ h. tt
+no_body_gives list (Noted ∷ fed) = λ h. tt
 no_body_gives list (y ∷ fed) = λ h. absurd h.0
 
 mutual
@@ -171,17 +171,17 @@ mutual
 
   tenth_gives : (m : Manner) (count : ℕ) (list : List Token) (fed : List Fed) → BuildGives true (λ more. tenth m count list (build_fed more)) fed
   tenth_gives m count list [] = λ h. tt
-  tenth_gives m count list (Told ∷ fed) = λ h. parameters_give m count list false fed h.1
+  tenth_gives m count list (Noted ∷ fed) = λ h. parameters_give m count list false fed h.1
   tenth_gives m count list (y ∷ fed) = λ h. absurd h.0
 
   misnumbered_gives : (m : Manner) (count character : ℕ) (list : List Token) (fed : List Fed) → BuildGives true (λ more. misnumbered m count character list (build_fed more)) fed
   misnumbered_gives m count character list [] = λ h. refl
-  misnumbered_gives m count character list (Told ∷ fed) = λ h. parameters_give m count (list ++ Place character ∷ []) false fed h.1
+  misnumbered_gives m count character list (Noted ∷ fed) = λ h. parameters_give m count (list ++ Place character ∷ []) false fed h.1
   misnumbered_gives m count character list (y ∷ fed) = λ h. absurd h.0
 
 missing_gives : (m : Manner) (list : List Token) (fed : List Fed) → BuildGives true (λ more. missing m list (build_fed more)) fed
 missing_gives m list [] = λ h. refl
-missing_gives m list (Told ∷ fed) = λ h. body_gives m text_body 0 list false fed h.1
+missing_gives m list (Noted ∷ fed) = λ h. body_gives m text_body 0 list false fed h.1
 missing_gives m list (y ∷ fed) = λ h. absurd h.0
 
 first_gives : (m : Manner) (list : List Token) (met : Bool) (fed : List Fed) → BuildGives met (λ more. first m list (build_fed more)) fed
@@ -235,7 +235,7 @@ module _ (name : Name) where
       search_gives : (braced : Bool) (mode : ParMode) (kept t : List Token) (b : Bool) → Returns b braced → (fed : List Fed) → FoundGives b (λ more. search ds braced mode kept t (call_fed more)) fed
       search_gives braced mode kept t b r [] = λ h. sought_gives args braced _ b r
       search_gives braced mode kept t b r (Cut ∷ fed) = λ h. search_gives false Checked kept t false tt fed h.1
-      search_gives braced mode kept t b r (Told ∷ fed) = λ h. search_gives false mode kept t false tt fed h.1
+      search_gives braced mode kept t b r (Noted ∷ fed) = λ h. search_gives false mode kept t false tt fed h.1
       search_gives braced mode kept t b r (Tok x ∷ fed) =
           λ h. case_gives mode kept t x.token fed (case_at ds mode kept t x.token) (search_gives true Short (kept ++ t) [] true refl fed) (search_gives false mode kept t true tt fed)
           (search_gives false mode kept (t ++ x.token ∷ []) true tt fed) h.1

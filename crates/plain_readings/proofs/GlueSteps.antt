@@ -11,14 +11,14 @@ use Rattle.rows.specs.Tokens.{is_at_most}
 use Rattle.rows.specs.Internal.{byte_of, location_in, internal_of, is_mu, is_glue}
 use Rattle.rows.specs.Arithmetic.{glue_at}
 use Rattle.plain_readings.specs.Integers.{is_minus, is_plus}
-use Rattle.plain_readings.specs.Glues.{Fed, Tok, Measured, Numbered, Found, Told, Fetched, Answer, is_part, with_width, with_stretch, shrink, minus_or_not, stretch, plus_or_not, width, signed_glue, incompatible, valued, fetched, bad_numbered, with_number, numbered, internal_or_width, glue}
+use Rattle.plain_readings.specs.Glues.{Fed, Tok, Measured, Numbered, Found, Noted, Fetched, Answer, is_part, with_width, with_stretch, shrink, minus_or_not, stretch, plus_or_not, width, signed_glue, incompatible, valued, fetched, bad_numbered, with_number, numbered, internal_or_width, glue}
 use Rattle.plain_readings.specs.Measures.{glue_ask}
 use Rattle.plain_readings.specs.Weights.{value_weight}
 use Rattle.plain_readings.proofs.Follows.{Item, Token, Value, Note, Standing, weighs, Follows, light_follows}
 
 abbrev pub item_of : Fed → Item
 item_of (Tok x) = Token
-item_of Told = Note
+item_of Noted = Note
 item_of (Fetched v) = Standing
 item_of y = Value
 
@@ -88,7 +88,7 @@ module _ (y : Fed) where
 -- INTERNAL GLUE
 
 incompatible_light : (y : Fed) (g : Glue) → weighs (glue_ask (incompatible g (y ∷ []))) ≤ value_weight
-incompatible_light Told g = omega arith
+incompatible_light Noted g = omega arith
 incompatible_light y g = omega arith
 
 -- at first it weighs no more than the report of what isn't in mu
@@ -104,8 +104,8 @@ fetched_ends (Tok x) mu negative l = tt
 fetched_ends y mu negative l = omega arith
 
 bad_ends : (y : Fed) (mu negative : Bool) (b : Bank) (n : ℤ) → Steps y (bad_numbered mu negative b n []) (bad_numbered mu negative b n (y ∷ []))
-bad_ends Told mu negative (bank.Codes kind) n = (omega arith, omega arith)
-bad_ends Told mu negative (bank.Registers kind) n = (omega arith, omega arith)
+bad_ends Noted mu negative (bank.Codes kind) n = (omega arith, omega arith)
+bad_ends Noted mu negative (bank.Registers kind) n = (omega arith, omega arith)
 bad_ends (Tok x) mu negative b n = tt
 bad_ends y mu negative b n = omega arith
 
@@ -125,7 +125,7 @@ glue_ends y mu negative = omega arith
 module _ (y : Fed) where
   incompatible_steps : (g : Glue) (fed : List Fed) → Steps y (incompatible g fed) (incompatible g (fed ++ y ∷ []))
   incompatible_steps g [] = light_follows (item_of y) _ _ (incompatible_light y g)
-  incompatible_steps g (Told ∷ fed) = light_follows (item_of y) _ _ (omega arith)
+  incompatible_steps g (Noted ∷ fed) = light_follows (item_of y) _ _ (omega arith)
   incompatible_steps g (z ∷ fed) = light_follows (item_of y) _ _ (omega arith)
 
   valued_steps : (wanted mu : Bool) (g : Glue) (fed : List Fed) → Steps y (valued wanted mu g fed) (valued wanted mu g (fed ++ y ∷ []))
@@ -141,7 +141,7 @@ module _ (y : Fed) where
 
   bad_steps : (mu negative : Bool) (b : Bank) (n : ℤ) (fed : List Fed) → Steps y (bad_numbered mu negative b n fed) (bad_numbered mu negative b n (fed ++ y ∷ []))
   bad_steps mu negative b n [] = bad_ends y mu negative b n
-  bad_steps mu negative b n (Told ∷ fed) = fetched_steps mu negative (location_in b 0) fed
+  bad_steps mu negative b n (Noted ∷ fed) = fetched_steps mu negative (location_in b 0) fed
   bad_steps mu negative b n (z ∷ fed) = light_follows (item_of y) _ _ (omega arith)
 
   number_steps : (mu negative : Bool) (b : Bank) (n : ℤ) (fed : List Fed) → Steps y (with_number mu negative b n fed) (with_number mu negative b n (fed ++ y ∷ []))

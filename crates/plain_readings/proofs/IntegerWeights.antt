@@ -14,17 +14,17 @@ use Rattle.rows.specs.declared.internal.Internal.{Internal}
 use Rattle.rows.specs.declared.internal.Internal.TheVariants as internal
 use Rattle.rows.specs.Tokens.{is_at_most}
 use Rattle.rows.specs.Internal.{byte_of, location_in, internal_of, integer_of, with_sign, is_mu}
-use Rattle.rows.specs.Readings.{Fed, Tok, Val, Told, Fetched, Ask, Tells, Inserts, Puts, Relaxes, Fetches, Magnifies}
+use Rattle.rows.specs.Readings.{Fed, Tok, Val, Noted, Fetched, Ask, Tells, Inserts, Puts, Relaxes, Fetches, Magnifies}
 use Rattle.plain_readings.specs.Integers.{is_digit, digit_of, is_minus, is_plus, greatest_integer, digits_dropped, too_big, digits, missing, first_digit, behind_number, behind_code, constant, code_of, improper_code, signed, mu_found, fetched, bad_numbered, with_number, numbered, internal_integer, by_meaning, unsigned, integer}
 use Rattle.plain_readings.specs.Weights.{value_weight, ask_weight}
 
 -- what is asked for is answered by this, which is no token and no value
 abbrev pub Wants : Ask → Fed → Type 0
-Wants (Tells report back) Told = Unit {0}
-Wants (Inserts t report back) Told = Unit {0}
-Wants (Puts t more) Told = Unit {0}
-Wants (Relaxes c n) Told = Unit {0}
-Wants Magnifies Told = Unit {0}
+Wants (Tells report back) Noted = Unit {0}
+Wants (Inserts t report back) Noted = Unit {0}
+Wants (Puts t more) Noted = Unit {0}
+Wants (Relaxes c n) Noted = Unit {0}
+Wants Magnifies Noted = Unit {0}
 Wants (Fetches l) (Fetched v) = Unit {0}
 Wants a y = ⊥
 
@@ -46,15 +46,15 @@ module _ (y : Fed) where
   dropped_falls negative radix (z ∷ fed) = λ h. absurd h
 
 too_big_ends : (y : Fed) (negative : Bool) (radix : ℕ) → Falls y (too_big negative radix []) (too_big negative radix (y ∷ []))
-too_big_ends Told negative radix h = omega arith
+too_big_ends Noted negative radix h = omega arith
 too_big_ends y negative radix h = absurd h
 
 missing_ends : (y : Fed) (n : ℤ) (report : Report) → Falls y (missing n report []) (missing n report (y ∷ []))
-missing_ends Told n report h = omega arith
+missing_ends Noted n report h = omega arith
 missing_ends y n report h = absurd h
 
 mu_ends : (y : Fed) (n : ℤ) → Falls y (mu_found n []) (mu_found n (y ∷ []))
-mu_ends Told n h = omega arith
+mu_ends Noted n h = omega arith
 mu_ends y n h = absurd h
 
 fetched_ends : (y : Fed) (negative : Bool) (l : Loc) → Falls y (fetched negative l []) (fetched negative l (y ∷ []))
@@ -62,14 +62,14 @@ fetched_ends (Fetched v) negative l h = light_if (is_mu l) _ _ _ (omega arith) (
 fetched_ends y negative l h = absurd h
 
 bad_ends : (y : Fed) (negative : Bool) (b : Bank) (n : ℤ) → Falls y (bad_numbered negative b n []) (bad_numbered negative b n (y ∷ []))
-bad_ends Told negative (bank.Codes kind) n h = omega arith
-bad_ends Told negative (bank.Registers kind) n h = omega arith
+bad_ends Noted negative (bank.Codes kind) n h = omega arith
+bad_ends Noted negative (bank.Registers kind) n h = omega arith
 bad_ends y negative b n h = absurd h
 
 module _ (y : Fed) where
   too_big_falls : (negative : Bool) (radix : ℕ) (fed : List Fed) → Falls y (too_big negative radix fed) (too_big negative radix (fed ++ y ∷ []))
   too_big_falls negative radix [] = too_big_ends y negative radix
-  too_big_falls negative radix (Told ∷ fed) = dropped_falls y negative radix fed
+  too_big_falls negative radix (Noted ∷ fed) = dropped_falls y negative radix fed
   too_big_falls negative radix (z ∷ fed) = λ h. absurd h
 
   digits_fall : (negative : Bool) (radix n : ℕ) (fed : List Fed) → Falls y (digits negative radix n fed) (digits negative radix n (fed ++ y ∷ []))
@@ -82,7 +82,7 @@ module _ (y : Fed) where
 
   missing_falls : (n : ℤ) (report : Report) (fed : List Fed) → Falls y (missing n report fed) (missing n report (fed ++ y ∷ []))
   missing_falls n report [] = missing_ends y n report
-  missing_falls n report (Told ∷ fed) = λ h. absurd h
+  missing_falls n report (Noted ∷ fed) = λ h. absurd h
   missing_falls n report (z ∷ fed) = λ h. absurd h
 
   first_falls : (negative : Bool) (radix : ℕ) (fed : List Fed) → Falls y (first_digit negative radix fed) (first_digit negative radix (fed ++ y ∷ []))
@@ -106,7 +106,7 @@ module _ (y : Fed) where
 
   mu_falls : (n : ℤ) (fed : List Fed) → Falls y (mu_found n fed) (mu_found n (fed ++ y ∷ []))
   mu_falls n [] = mu_ends y n
-  mu_falls n (Told ∷ fed) = λ h. absurd h
+  mu_falls n (Noted ∷ fed) = λ h. absurd h
   mu_falls n (z ∷ fed) = λ h. absurd h
 
   fetched_falls : (negative : Bool) (l : Loc) (fed : List Fed) → Falls y (fetched negative l fed) (fetched negative l (fed ++ y ∷ []))
@@ -116,7 +116,7 @@ module _ (y : Fed) where
 
   bad_falls : (negative : Bool) (b : Bank) (n : ℤ) (fed : List Fed) → Falls y (bad_numbered negative b n fed) (bad_numbered negative b n (fed ++ y ∷ []))
   bad_falls negative b n [] = bad_ends y negative b n
-  bad_falls negative b n (Told ∷ fed) = fetched_falls negative (location_in b 0) fed
+  bad_falls negative b n (Noted ∷ fed) = fetched_falls negative (location_in b 0) fed
   bad_falls negative b n (z ∷ fed) = λ h. absurd h
 
   number_falls : (negative : Bool) (b : Bank) (n : ℤ) (fed : List Fed) → Falls y (with_number negative b n fed) (with_number negative b n (fed ++ y ∷ []))

@@ -7,8 +7,8 @@ use Rattle.tex_syntax.specs.declared.words.Want.{Want}
 use Rattle.tex_syntax.specs.declared.words.Want.TheVariants.{Expanded}
 use Rattle.rows.specs.declared.words.Keyword.{Keyword}
 use Rattle.rows.specs.declared.words.Keyword.TheVariants.{By, Plus, Minus, Fil, L, True, Em, Ex, Pt, In, Pc, Cm, Mm, Bp, Dd, Cc, Sp, Mu}
-use Rattle.rows.specs.Laws.{is_told}
-use Rattle.rows.specs.Readings.{Fed, Tok, Told, Ask, More, Puts}
+use Rattle.rows.specs.Laws.{is_noted}
+use Rattle.rows.specs.Readings.{Fed, Tok, Noted, Ask, More, Puts}
 use Rattle.plain_tokens.specs.Tokens.{is_space}
 use Rattle.plain_readings.specs.Keywords.{letters, is_letter, is_skipped, ends_found, giving_back, keyword_from, keyword}
 use Rattle.plain_readings.specs.Weights.{value_weight, ask_weight, IsNoted}
@@ -46,22 +46,22 @@ module _
     either_holds b true p q h i = h
     either_holds b false p q h i = i
 
-    giving_holds : (ts : List Token) → length ts ≤ 5 → (b : Bool) (fed : List Fed) → P (is_told b fed) (giving_back ts fed)
-    giving_holds [] few b fed = done (is_told b fed) false
+    giving_holds : (ts : List Token) → length ts ≤ 5 → (b : Bool) (fed : List Fed) → P (is_noted b fed) (giving_back ts fed)
+    giving_holds [] few b fed = done (is_noted b fed) false
     giving_holds (t ∷ ts) few b [] = put b t (length ts) (omega (arith, few))
-    giving_holds (t ∷ ts) few b (Told ∷ fed) = giving_holds ts (omega (arith, few)) true fed
+    giving_holds (t ∷ ts) few b (Noted ∷ fed) = giving_holds ts (omega (arith, few)) true fed
     giving_holds (t ∷ ts) few b (y ∷ fed) = done _ false
 
-    from_holds : (cs : List ℕ) (ts : List Token) → length cs + length ts ≤ 5 → (b : Bool) (fed : List Fed) → P (is_told b fed) (keyword_from cs ts fed)
-    from_holds [] ts few b fed = done (is_told b fed) true
+    from_holds : (cs : List ℕ) (ts : List Token) → length cs + length ts ≤ 5 → (b : Bool) (fed : List Fed) → P (is_noted b fed) (keyword_from cs ts fed)
+    from_holds [] ts few b fed = done (is_noted b fed) true
     from_holds (c ∷ cs) ts few b [] = more b Expanded tt
     from_holds (c ∷ cs) ts few b (Tok x ∷ fed) =
-        either_holds (is_told false fed) (is_letter c x.token) _ _
+        either_holds (is_noted false fed) (is_letter c x.token) _ _
         (from_holds cs (x.token ∷ ts) (omega (arith, few)) false fed)
-        (either_holds (is_told false fed) (is_skipped ts x) _ _ (from_holds (c ∷ cs) ts few false fed) (giving_holds (x.token ∷ ts) (omega (arith, few)) false fed))
+        (either_holds (is_noted false fed) (is_skipped ts x) _ _ (from_holds (c ∷ cs) ts few false fed) (giving_holds (x.token ∷ ts) (omega (arith, few)) false fed))
     from_holds (c ∷ cs) ts few b (y ∷ fed) = done _ false
 
-    pub keyword_holds : (w : Keyword) (b : Bool) (fed : List Fed) → P (is_told b fed) (keyword w fed)
+    pub keyword_holds : (w : Keyword) (b : Bool) (fed : List Fed) → P (is_noted b fed) (keyword w fed)
     keyword_holds w b fed = from_holds (letters w) [] (omega (arith, letters_few w)) b fed
 
 -- WEIGHTS
@@ -73,14 +73,14 @@ falls_if : (c : Bool) (p p' q q' : Ask) → Falls p p' → Falls q q' → Falls 
 falls_if true p p' q q' h i = h
 falls_if false p p' q q' h i = i
 
-giving_falls : (ts : List Token) (fed : List Fed) → Falls (giving_back ts fed) (giving_back ts (fed ++ Told ∷ []))
+giving_falls : (ts : List Token) (fed : List Fed) → Falls (giving_back ts fed) (giving_back ts (fed ++ Noted ∷ []))
 giving_falls [] fed = λ h. absurd h
 giving_falls (t ∷ []) [] = λ h. omega arith
 giving_falls (t ∷ u ∷ ts) [] = λ h. omega arith
-giving_falls (t ∷ ts) (Told ∷ fed) = giving_falls ts fed
+giving_falls (t ∷ ts) (Noted ∷ fed) = giving_falls ts fed
 giving_falls (t ∷ ts) (y ∷ fed) = λ h. absurd h
 
-from_falls : (cs : List ℕ) (ts : List Token) (fed : List Fed) → Falls (keyword_from cs ts fed) (keyword_from cs ts (fed ++ Told ∷ []))
+from_falls : (cs : List ℕ) (ts : List Token) (fed : List Fed) → Falls (keyword_from cs ts fed) (keyword_from cs ts (fed ++ Noted ∷ []))
 from_falls [] ts fed = λ h. absurd h
 from_falls (c ∷ cs) ts [] = λ h. absurd h
 from_falls (c ∷ cs) ts (Tok x ∷ fed) =
@@ -88,7 +88,7 @@ from_falls (c ∷ cs) ts (Tok x ∷ fed) =
     (falls_if (is_skipped ts x) _ _ _ _ (from_falls (c ∷ cs) ts fed) (giving_falls (x.token ∷ ts) fed))
 from_falls (c ∷ cs) ts (y ∷ fed) = λ h. absurd h
 
-pub keyword_falls : (w : Keyword) (fed : List Fed) → IsNoted (keyword w fed) → ask_weight value_weight (keyword w (fed ++ Told ∷ [])) < ask_weight value_weight (keyword w fed)
+pub keyword_falls : (w : Keyword) (fed : List Fed) → IsNoted (keyword w fed) → ask_weight value_weight (keyword w (fed ++ Noted ∷ [])) < ask_weight value_weight (keyword w fed)
 keyword_falls w fed = from_falls (letters w) [] fed
 
 light_if : (c : Bool) (p q : Ask) → ask_weight value_weight p ≤ 59 → ask_weight value_weight q ≤ 59 → ask_weight value_weight (if c then p else q) ≤ 59

@@ -7,8 +7,8 @@ use Rattle.tex_defs.specs.declared.Name.{Name}
 use Rattle.tex_syntax.specs.declared.words.Want.{Want}
 use Rattle.tex_syntax.specs.declared.words.Report.{Report}
 use Rattle.rows.specs.declared.words.Datum.{Datum}
-use Rattle.rows.specs.declared.words.Kind.{Kind}
-use Rattle.rows.specs.declared.words.Kind.TheVariants.{Integer}
+use Rattle.rows.specs.declared.words.Phrase.{Phrase}
+use Rattle.rows.specs.declared.words.Phrase.TheVariants.{Integer}
 use Rattle.rows.specs.declared.internal.Bank.{Bank}
 use Rattle.rows.specs.declared.stage.Stage.{Stage}
 use Rattle.rows.specs.declared.stage.Start.{Start}
@@ -24,28 +24,28 @@ use Rattle.rows.specs.declared.stage.Note.TheVariants as note
 use Rattle.rows.specs.declared.command.Call.{Call}
 use Rattle.rows.specs.declared.command.Effect.{Effect}
 use Rattle.rows.specs.declared.command.Effect.TheVariants as effect
-use Rattle.rows.specs.Readings.{Fed, Tok, Val, Told, Ask, More, Inner, Acts, ActsOn, Defines, Ends, Tells}
+use Rattle.rows.specs.Readings.{Fed, Tok, Val, Noted, Ask, More, Inner, Acts, ActsOn, Defines, Ends, Tells}
 use Rattle.rows.specs.Table.{stages_of}
-use Rattle.rows.specs.Effects.{effect_of, as_definition}
+use Rattle.rows.specs.Effects.{command_effect, as_definition}
 use Rattle.rows.specs.Stages.{start, on_token, on_value, numbered_by, name}
-use Rattle.rows.specs.Run.{Outcome, Asks, Takes, Passes, Gathers, Makes, Becomes, comes, due, noted, valued, inner, begins, numbers, met_with, looks, again, started, behind, run, no_turn, turned, row}
+use Rattle.rows.specs.Run.{StageOutcome, Asks, Takes, Passes, Gathers, Makes, Becomes, comes, due, noted, valued, inner, begins, numbers, met_with, looks, again, started, behind, run, no_turn, turned, row}
 use Rattle.plain_readings.specs.Laws.{is_met, Lends}
 
 -- a law speaks of an answer, and of whether a token came last
 module _
     (P : Bool → Ask → Type 0)
     (more : (b : Bool) (want : Want) → P b (More want))
-    (begin : (b : Bool) (k : Kind) → P b (Inner k false))
-    (begin_with : (k : Kind) → P true (Inner k true))
+    (begin : (b : Bool) (k : Phrase) → P b (Inner k false))
+    (begin_with : (k : Phrase) → P true (Inner k true))
     (act : (b : Bool) (c : Call) (e : Effect) → P b (Acts c e))
-    (act_on : (b : Bool) (c : Call) (ds : List Datum) (ts : List Token) → P b (ActsOn c (effect_of c ds) ts))
+    (act_on : (b : Bool) (c : Call) (ds : List Datum) (ts : List Token) → P b (ActsOn c (command_effect c ds) ts))
     (define : (b : Bool) (c : Call) (n : Name) (ts : List Token) → P b (Defines c n ts))
     (end : (b : Bool) → P b Ends)
     (note_due : (n : Note) → P true (due n))
     (tell : (b : Bool) (report : Report) → P b (Tells report false))
   where
     -- what comes of a stage that was fed with a list whose last item is a token or not
-    abbrev Fits : Bool → Outcome → Type 0
+    abbrev Fits : Bool → StageOutcome → Type 0
     Fits t (Asks a) = P t a
     Fits t (Takes d fed) = (b : Bool) × (t ≡ is_met b fed)
     Fits t (Passes fed) = (b : Bool) × (t ≡ is_met b fed)
@@ -61,7 +61,7 @@ module _
 
     noted_fits : (n : Note) (m : Next) (b : Bool) → P b (due n) → (fed : List Fed) → Fits (is_met b fed) (noted n m fed)
     noted_fits n m b h [] = h
-    noted_fits n m b h (Told ∷ fed) = comes_fits m false fed
+    noted_fits n m b h (Noted ∷ fed) = comes_fits m false fed
     noted_fits n m b h (y ∷ fed) = end _
 
     valued_fits : (g : Got) (ts : List Token) (fed : List Fed) → Fits (is_met false fed) (valued g ts fed)
@@ -70,12 +70,12 @@ module _
     valued_fits got.Gathers ts fed = tt
     valued_fits got.Defines ts fed = tt
 
-    inner_fits : (s : Stage) (k : Kind) (fed : List Fed) → Fits (is_met true fed) (inner s k fed)
+    inner_fits : (s : Stage) (k : Phrase) (fed : List Fed) → Fits (is_met true fed) (inner s k fed)
     inner_fits s k [] = begin_with k
     inner_fits s k (Val v ts ∷ fed) = valued_fits (on_value s v) ts fed
     inner_fits s k (y ∷ fed) = end _
 
-    begins_fits : (s : Stage) (k : Kind) (b : Bool) (fed : List Fed) → Fits (is_met b fed) (begins s k fed)
+    begins_fits : (s : Stage) (k : Phrase) (b : Bool) (fed : List Fed) → Fits (is_met b fed) (begins s k fed)
     begins_fits s k b [] = begin b k
     begins_fits s k b (Tok x ∷ fed) = inner_fits s k fed
     begins_fits s k b (Val v ts ∷ fed) = valued_fits (on_value s v) ts fed
@@ -86,7 +86,7 @@ module _
     numbers_fits k b (Val v ts ∷ fed) = valued_fits (numbered_by k v) ts fed
     numbers_fits k b (y ∷ fed) = end _
 
-    met_fits : (s : Stage) (x : Seen) (m : Met) (skipped : Call → Outcome) (retried : Note → Outcome) (fed : List Fed) →
+    met_fits : (s : Stage) (x : Seen) (m : Met) (skipped : Call → StageOutcome) (retried : Note → StageOutcome) (fed : List Fed) →
         ((c : Call) → Fits (is_met true fed) (skipped c)) → ((n : Note) → Fits (is_met true fed) (retried n)) → Fits (is_met true fed) (met_with s (Tok x) m skipped retried fed)
     met_fits s x (met.Takes d) skipped retried fed h i = (true, refl)
     met_fits s x met.Passes skipped retried fed h i = (true, refl)
@@ -107,7 +107,7 @@ module _
 
       again_fits : (s : Stage) (c : Call) (want : Want) (n : Note) (fed : List Fed) → Fits (is_met true fed) (again s c want n fed)
       again_fits s c want n [] = note_due n
-      again_fits s c want n (Told ∷ fed) = looks_fits s c want false fed
+      again_fits s c want n (Noted ∷ fed) = looks_fits s c want false fed
       again_fits s c want n (y ∷ fed) = end _
 
     started_fits : (s : Stage) (c : Call) (begun : Start) (b : Bool) (fed : List Fed) → Fits (is_met b fed) (started s c begun fed)
@@ -116,7 +116,7 @@ module _
 
     module _ (turn : Call → List Fed → Ask) (turns : (c : Call) (b : Bool) (fed : List Fed) → P (is_met b fed) (turn c fed)) where
       behind_holds : (c : Call) (ds : List Datum) (onward : List Datum → List Fed → Ask) → ((es : List Datum) (b : Bool) (fed : List Fed) → P (is_met b fed) (onward es fed)) →
-          (t : Bool) (o : Outcome) → Fits t o → P t (behind turn c ds onward o)
+          (t : Bool) (o : StageOutcome) → Fits t o → P t (behind turn c ds onward o)
       behind_holds c ds onward h t (Asks a) fits = fits
       behind_holds c ds onward h t (Takes d fed) (b, e) = subst (λ (t : Bool). P t (onward (ds ++ d ∷ []) fed)) (sym e) (h (ds ++ d ∷ []) b fed)
       behind_holds c ds onward h t (Passes fed) (b, e) = subst (λ (t : Bool). P t (onward ds fed)) (sym e) (h ds b fed)
@@ -125,7 +125,7 @@ module _
       behind_holds c ds onward h t (Becomes d fed) (b, e) = subst (λ (t : Bool). P t (turn d fed)) (sym e) (turns d b fed)
 
       run_holds : (c : Call) (ss : List Stage) (ds : List Datum) (b : Bool) (fed : List Fed) → P (is_met b fed) (run turn c ss ds fed)
-      run_holds c [] ds b fed = act (is_met b fed) c (effect_of c ds)
+      run_holds c [] ds b fed = act (is_met b fed) c (command_effect c ds)
       run_holds c (s ∷ ss) ds b fed =
           behind_holds c ds (λ es more. run turn c ss es more) (λ es b more. run_holds c ss es b more) (is_met b fed) (started s c (start s c ds) fed)
           (started_fits s c (start s c ds) b fed)

@@ -13,8 +13,8 @@ pub mod GlueSteps
 pub mod Measuring
 pub mod Starting
 pub mod Lending
-pub mod Giving
-pub mod DimenGiving
+pub mod BackInput
+pub mod DimenBackInput
 pub mod GivenBack
 pub mod Values
 pub mod Lower

@@ -5,8 +5,8 @@ use Rattle.tex_defs.specs.declared.Token.{Token}
 use Rattle.plain_tokens.specs.Arguments as call
 use Rattle.plain_state.specs.Definitions as build
 use Rattle.tex_syntax.specs.declared.words.Want.TheVariants.{Nonblank}
-use Rattle.rows.specs.declared.words.Kind.{Kind as Begun}
-use Rattle.rows.specs.declared.words.Kind.TheVariants.{Command, Integer, Factor, Dimension, Glue, Keyword, Text, Definition}
+use Rattle.rows.specs.declared.words.Phrase.{Phrase}
+use Rattle.rows.specs.declared.words.Phrase.TheVariants.{Command, Integer, Factor, Dimension, Glue, Keyword, Text, Definition}
 use Rattle.rows.specs.declared.words.DimenKind.{DimenKind}
 use Rattle.rows.specs.declared.stage.Note.{Note}
 use Rattle.rows.specs.declared.stage.Note.TheVariants as note
@@ -28,7 +28,7 @@ due_low c (note.Tells report back) = tt
 due_low c (note.Inserts t report back) = tt
 due_low c (note.Relaxes d n) = tt
 
-low_rank : (j : Begun) → IsLow j → rank (Reads j) < 4
+low_rank : (j : Phrase) → IsLow j → rank (Reads j) < 4
 low_rank (Command c) low = absurd (omega (arith, low))
 low_rank (Dimension k) low = omega arith
 low_rank (Glue mu) low = omega arith
@@ -52,7 +52,7 @@ call_lower name long number ts a = tt
 
 -- a factor begins integers, by its values, and so it is with dimensions and glue
 factor_lower : (a : Ask) → GivesValue Factor [] a → BeginsBy (Reads Factor) a
-factor_lower (Inner j begins) h = subst (λ (i : Begun). rank (Reads i) < 1) (sym h.0) (omega arith)
+factor_lower (Inner j begins) h = subst (λ (i : Phrase). rank (Reads i) < 1) (sym h.0) (omega arith)
 factor_lower a h = tt
 
 dimension_lower : (k : DimenKind) (a : Ask) → GivesValue (Dimension k) [] a → BeginsBy (Reads (Dimension k)) a
@@ -82,19 +82,19 @@ lower (Arguments name long number ts) (y ∷ fed) = call_lower name long number 
 
 -- WHAT IS BEGUN is of a rank below 4, so it is no command
 
-reads_rank : (k : Begun) → rank (Reads k) ≤ 4
+reads_rank : (k : Phrase) → rank (Reads k) ≤ 4
 reads_rank (Command c) = omega arith
 reads_rank (Dimension k) = omega arith
 reads_rank (Glue mu) = omega arith
 reads_rank Factor = omega arith
 reads_rank k = omega arith
 
-low : (k : Kind) (j : Begun) (begins : Bool) → BeginsBy k (Inner j begins) → rank (Reads j) < 4
-low (Reads Integer) j begins h = subst (λ (i : Begun). rank (Reads i) < 4) (sym h) (omega arith)
+low : (k : Kind) (j : Phrase) (begins : Bool) → BeginsBy k (Inner j begins) → rank (Reads j) < 4
+low (Reads Integer) j begins h = subst (λ (i : Phrase). rank (Reads i) < 4) (sym h) (omega arith)
 low (Reads k) j begins h = omega (arith, h, reads_rank k)
 low k j begins h = h
 
-pub begun_low : (k : Kind) (fed : List Fed) (j : Begun) (begins : Bool) → ask k fed ≡ Inner j begins → rank (Reads j) < 4
+pub begun_low : (k : Kind) (fed : List Fed) (j : Phrase) (begins : Bool) → ask k fed ≡ Inner j begins → rank (Reads j) < 4
 begun_low k fed j begins e = low k j begins (subst (λ (a : Ask). BeginsBy k a) e (lower k fed))
 
 pub no_command : (k : Kind) (fed : List Fed) (c : Call) (begins : Bool) → ask k fed ≡ Inner (Command c) begins → ⊥

@@ -19,7 +19,7 @@ use Rattle.plain_readings.specs.Factors.{is_point}
 use Rattle.plain_readings.specs.declared.measures.Quantity.{Quantity}
 use Rattle.plain_readings.specs.declared.measures.Measure.{Measure}
 use Rattle.plain_readings.specs.Dimens as dimens
-use Rattle.plain_readings.specs.Dimens.{Fed, Tok, Factored, Numbered, Found, Told, Fetched, Answer, in_units, points, physical, magnified_amount, magnification_in, times, amount, with_digit, turned}
+use Rattle.plain_readings.specs.Dimens.{Fed, Tok, Factored, Numbered, Found, Noted, Fetched, Answer, in_units, points, physical, magnified_amount, magnification_in, times, amount, with_digit, turned}
 use Rattle.plain_readings.specs.Glues as glues
 use Rattle.plain_readings.specs.Measures.{dimen_ask, glue_ask}
 use Rattle.plain_readings.proofs.Wants.{AsksUncopied}
@@ -33,9 +33,9 @@ either : (c : Bool) (p q : Answer) → Fits p → Fits q → Fits (if c then p e
 either true p q h i = h
 either false p q h i = i
 
-too_large_fits : (negative : Bool) (order : ℕ) (back : Bool) (fed : List Fed) → Fits (dimens.too_large_told negative order back fed)
+too_large_fits : (negative : Bool) (order : ℕ) (back : Bool) (fed : List Fed) → Fits (dimens.too_large_noted negative order back fed)
 too_large_fits negative order back [] = tt
-too_large_fits negative order back (Told ∷ fed) = tt
+too_large_fits negative order back (Noted ∷ fed) = tt
 too_large_fits negative order back (y ∷ fed) = tt
 
 finished_fits : (negative : Bool) (v : Option ℤ) (order : ℕ) (back : Bool) (fed : List Fed) → Fits (dimens.finished negative v order back fed)
@@ -49,7 +49,7 @@ spaced_fits negative v order (y ∷ fed) = tt
 
 illegal_fits : (unit : UnitTaken) (negative : Bool) (v : Option ℤ) (fed : List Fed) → Fits (dimens.illegal unit negative v fed)
 illegal_fits unit negative v [] = tt
-illegal_fits unit negative v (Told ∷ fed) = spaced_fits negative v 0 fed
+illegal_fits unit negative v (Noted ∷ fed) = spaced_fits negative v 0 fed
 illegal_fits unit negative v (y ∷ fed) = tt
 
 scaled_fits : (negative : Bool) (a : Quantity) (fed : List Fed) → Fits (dimens.scaled_points negative a fed)
@@ -72,7 +72,7 @@ magnification_fits negative a (y ∷ fed) = tt
 
 magnified_fits : (negative : Bool) (a : Quantity) (fed : List Fed) → Fits (dimens.magnified negative a fed)
 magnified_fits negative a [] = tt
-magnified_fits negative a (Told ∷ fed) = magnification_fits negative a fed
+magnified_fits negative a (Noted ∷ fed) = magnification_fits negative a fed
 magnified_fits negative a (y ∷ fed) = tt
 
 true_fits : (negative : Bool) (a : Quantity) (fed : List Fed) → Fits (dimens.true_or_not negative a fed)
@@ -101,7 +101,7 @@ mu_fits negative a (y ∷ fed) = tt
 
 incompatible_fits : (negative : Bool) (v : Option ℤ) (fed : List Fed) → Fits (dimens.incompatible negative v fed)
 incompatible_fits negative v [] = tt
-incompatible_fits negative v (Told ∷ fed) = finished_fits negative v 0 false fed
+incompatible_fits negative v (Noted ∷ fed) = finished_fits negative v 0 false fed
 incompatible_fits negative v (y ∷ fed) = tt
 
 valued_fits : (wanted mu negative : Bool) (v : Option ℤ) (fed : List Fed) → Fits (dimens.valued wanted mu negative v fed)
@@ -112,7 +112,7 @@ valued_fits false true negative v fed = incompatible_fits negative v fed
 
 no_number_fits : (mu negative : Bool) (fed : List Fed) → Fits (dimens.no_number mu negative fed)
 no_number_fits mu negative [] = tt
-no_number_fits mu negative (Told ∷ fed) = valued_fits mu false negative (Some (pos 0)) fed
+no_number_fits mu negative (Noted ∷ fed) = valued_fits mu false negative (Some (pos 0)) fed
 no_number_fits mu negative (y ∷ fed) = tt
 
 -- what is done with what stands at a location
@@ -124,7 +124,7 @@ module _ (onward : Loc → ℤ → List Fed → Answer) (h : (l : Loc) (v : ℤ)
 
   bad_fits : (b : Bank) (n : ℤ) (fed : List Fed) → Fits (dimens.bad_numbered b n onward fed)
   bad_fits b n [] = tt
-  bad_fits b n (Told ∷ fed) = fetched_fits (location_in b 0) fed
+  bad_fits b n (Noted ∷ fed) = fetched_fits (location_in b 0) fed
   bad_fits b n (y ∷ fed) = tt
 
   numbered_fits : (b : Bank) (fed : List Fed) → Fits (dimens.numbered b onward fed)
@@ -158,7 +158,7 @@ longer_fits negative a order false (Found true ∷ fed) = either (order == 3) _ 
 longer_fits negative a order false (Found false ∷ fed) = spaced_fits negative (points a) order fed
 longer_fits negative a order false (y ∷ fed) = tt
 longer_fits negative a order true [] = tt
-longer_fits negative a order true (Told ∷ fed) = longer_fits negative a order false fed
+longer_fits negative a order true (Noted ∷ fed) = longer_fits negative a order false fed
 longer_fits negative a order true (y ∷ fed) = tt
 
 fil_fits : (k : DimenKind) (negative : Bool) (a : Quantity) (begins : Bool) (fed : List Fed) → Fits (dimens.fil_or_not k negative a begins fed)
@@ -258,7 +258,7 @@ width_fits mu negative (y ∷ fed) = tt
 
 glue_incompatible_fits : (g : Glue) (fed : List glues.Fed) → GlueFits (glues.incompatible g fed)
 glue_incompatible_fits g [] = tt
-glue_incompatible_fits g (glues.Told ∷ fed) = tt
+glue_incompatible_fits g (glues.Noted ∷ fed) = tt
 glue_incompatible_fits g (y ∷ fed) = tt
 
 glue_valued_fits : (wanted mu : Bool) (g : Glue) (fed : List glues.Fed) → GlueFits (glues.valued wanted mu g fed)
@@ -274,7 +274,7 @@ glue_fetched_fits mu negative l (y ∷ fed) = tt
 
 glue_bad_fits : (mu negative : Bool) (b : Bank) (n : ℤ) (fed : List glues.Fed) → GlueFits (glues.bad_numbered mu negative b n fed)
 glue_bad_fits mu negative b n [] = tt
-glue_bad_fits mu negative b n (glues.Told ∷ fed) = glue_fetched_fits mu negative (location_in b 0) fed
+glue_bad_fits mu negative b n (glues.Noted ∷ fed) = glue_fetched_fits mu negative (location_in b 0) fed
 glue_bad_fits mu negative b n (y ∷ fed) = tt
 
 glue_numbered_fits : (mu negative : Bool) (b : Bank) (fed : List glues.Fed) → GlueFits (glues.numbered mu negative b fed)

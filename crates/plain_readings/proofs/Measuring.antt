@@ -6,9 +6,9 @@ use Rattle.equivalents.specs.Locations.{SeenValue}
 use Rattle.rows.specs.declared.words.Datum.TheVariants as datum
 use Rattle.rows.specs.declared.words.Value.{Value}
 use Rattle.rows.specs.declared.words.Value.TheVariants as value
-use Rattle.rows.specs.declared.words.Kind.TheVariants.{Dimension, Glue}
+use Rattle.rows.specs.declared.words.Phrase.TheVariants.{Dimension, Glue}
 use Rattle.rows.specs.declared.words.DimenKind.{DimenKind}
-use Rattle.rows.specs.Readings.{Fed, Tok, Val, Told, Fetched, Verbatim, Cut, Ask, Inner, Fetches}
+use Rattle.rows.specs.Readings.{Fed, Tok, Val, Noted, Fetched, Verbatim, Cut, Ask, Inner, Fetches}
 use Rattle.plain_readings.specs.Dimens as dimens
 use Rattle.plain_readings.specs.Glues as glues
 use Rattle.plain_readings.specs.Measures.{dimen_item, dimen_value, dimen_fed, dimen_ask, dimension, glue_item, glue_value, glue_fed, glue_ask, glue}
@@ -101,7 +101,7 @@ dimension_lent : (k : DimenKind) (fed : List Fed) (y : Fed) → Lends (is_token 
 dimension_lent k fed (Tok x) = met_lends (dimension k (fed ++ Tok x ∷ []))
 dimension_lent k fed (Val v ts) =
     unlent (dimen_steps.item_of (dimen_value v)) (dimension k fed) (dimension k (fed ++ Val v ts ∷ [])) (dimen_valued v) (dimension_follows k fed (Val v ts))
-dimension_lent k fed Told = unlent Note (dimension k fed) (dimension k (fed ++ Told ∷ [])) tt (dimension_follows k fed Told)
+dimension_lent k fed Noted = unlent Note (dimension k fed) (dimension k (fed ++ Noted ∷ [])) tt (dimension_follows k fed Noted)
 dimension_lent k fed (Fetched v) = unlent Standing (dimension k fed) (dimension k (fed ++ Fetched v ∷ [])) tt (dimension_follows k fed (Fetched v))
 dimension_lent k fed (Verbatim t) = unlent Valued (dimension k fed) (dimension k (fed ++ Verbatim t ∷ [])) tt (dimension_follows k fed (Verbatim t))
 dimension_lent k fed Cut = unlent Valued (dimension k fed) (dimension k (fed ++ Cut ∷ [])) tt (dimension_follows k fed Cut)
@@ -110,7 +110,7 @@ glue_lent : (mu : Bool) (fed : List Fed) (y : Fed) → Lends (is_token y) (glue 
 glue_lent mu fed (Tok x) = met_lends (glue mu (fed ++ Tok x ∷ []))
 glue_lent mu fed (Val v ts) =
     unlent (glue_steps_of.item_of (glue_value v)) (glue mu fed) (glue mu (fed ++ Val v ts ∷ [])) (glue_valued v) (glue_follows mu fed (Val v ts))
-glue_lent mu fed Told = unlent Note (glue mu fed) (glue mu (fed ++ Told ∷ [])) tt (glue_follows mu fed Told)
+glue_lent mu fed Noted = unlent Note (glue mu fed) (glue mu (fed ++ Noted ∷ [])) tt (glue_follows mu fed Noted)
 glue_lent mu fed (Fetched v) = unlent Standing (glue mu fed) (glue mu (fed ++ Fetched v ∷ [])) tt (glue_follows mu fed (Fetched v))
 glue_lent mu fed (Verbatim t) = unlent Valued (glue mu fed) (glue mu (fed ++ Verbatim t ∷ [])) tt (glue_follows mu fed (Verbatim t))
 glue_lent mu fed Cut = unlent Valued (glue mu fed) (glue mu (fed ++ Cut ∷ [])) tt (glue_follows mu fed Cut)
@@ -126,17 +126,17 @@ glue_lends mu fed =
 
 -- NOTES AND WEIGHTS
 
-pub dimension_reports : (k : DimenKind) (fed : List Fed) → reports_due (dimension k (fed ++ Told ∷ [])) ≤ reports_due (dimension k fed) - 1
-dimension_reports k fed = reports_fewer (dimension k fed) (dimension k (fed ++ Told ∷ [])) (dimension_follows k fed Told)
+pub dimension_reports : (k : DimenKind) (fed : List Fed) → reports_due (dimension k (fed ++ Noted ∷ [])) ≤ reports_due (dimension k fed) - 1
+dimension_reports k fed = reports_fewer (dimension k fed) (dimension k (fed ++ Noted ∷ [])) (dimension_follows k fed Noted)
 
-pub glue_reports : (mu : Bool) (fed : List Fed) → reports_due (glue mu (fed ++ Told ∷ [])) ≤ reports_due (glue mu fed) - 1
-glue_reports mu fed = reports_fewer (glue mu fed) (glue mu (fed ++ Told ∷ [])) (glue_follows mu fed Told)
+pub glue_reports : (mu : Bool) (fed : List Fed) → reports_due (glue mu (fed ++ Noted ∷ [])) ≤ reports_due (glue mu fed) - 1
+glue_reports mu fed = reports_fewer (glue mu fed) (glue mu (fed ++ Noted ∷ [])) (glue_follows mu fed Noted)
 
-pub dimension_noted : (k : DimenKind) (fed : List Fed) → IsNoted (dimension k fed) → weighs (dimension k (fed ++ Told ∷ [])) < weighs (dimension k fed)
-dimension_noted k fed h = noted_lighter (dimension k fed) (dimension k (fed ++ Told ∷ [])) h (dimension_follows k fed Told)
+pub dimension_noted : (k : DimenKind) (fed : List Fed) → IsNoted (dimension k fed) → weighs (dimension k (fed ++ Noted ∷ [])) < weighs (dimension k fed)
+dimension_noted k fed h = noted_lighter (dimension k fed) (dimension k (fed ++ Noted ∷ [])) h (dimension_follows k fed Noted)
 
-pub glue_noted : (mu : Bool) (fed : List Fed) → IsNoted (glue mu fed) → weighs (glue mu (fed ++ Told ∷ [])) < weighs (glue mu fed)
-glue_noted mu fed h = noted_lighter (glue mu fed) (glue mu (fed ++ Told ∷ [])) h (glue_follows mu fed Told)
+pub glue_noted : (mu : Bool) (fed : List Fed) → IsNoted (glue mu fed) → weighs (glue mu (fed ++ Noted ∷ [])) < weighs (glue mu fed)
+glue_noted mu fed h = noted_lighter (glue mu fed) (glue mu (fed ++ Noted ∷ [])) h (glue_follows mu fed Noted)
 
 pub dimension_fetched : (k : DimenKind) (fed : List Fed) (l : Loc) (v : SeenValue) → dimension k fed ≡ Fetches l → weighs (dimension k (fed ++ Fetched v ∷ [])) < weighs (dimension k fed)
 dimension_fetched k fed l v e = fetched_lighter (dimension k fed) (dimension k (fed ++ Fetched v ∷ [])) l e (dimension_follows k fed (Fetched v))

@@ -3,7 +3,7 @@ use Rattle.std.proofs.Common.{false, List, [], ◌∷◌, ◌++◌}
 use Rattle.tex_defs.specs.declared.Token.{Token}
 use Rattle.tex_syntax.specs.declared.words.Want.{Want}
 use Rattle.rows.specs.declared.words.Datum.{Datum}
-use Rattle.rows.specs.declared.words.Kind.{Kind}
+use Rattle.rows.specs.declared.words.Phrase.{Phrase}
 use Rattle.rows.specs.declared.internal.Bank.{Bank}
 use Rattle.rows.specs.declared.stage.Stage.{Stage}
 use Rattle.rows.specs.declared.stage.Stage.TheVariants.{Number}
@@ -18,13 +18,13 @@ use Rattle.rows.specs.declared.stage.Next.TheVariants as next
 use Rattle.rows.specs.declared.stage.Note.{Note}
 use Rattle.rows.specs.declared.stage.Note.TheVariants as note
 use Rattle.rows.specs.declared.command.Call.{Call}
-use Rattle.rows.specs.Readings.{Fed, Tok, Val, Told, Ask}
+use Rattle.rows.specs.Readings.{Fed, Tok, Val, Noted, Ask}
 use Rattle.rows.specs.Table.{stages_of}
 use Rattle.rows.specs.Stages.{start, on_token, on_value, numbered_by}
-use Rattle.rows.specs.Run.{Outcome, Asks, Takes, Passes, Gathers, Makes, Becomes, comes, due, noted, valued, inner, begins, numbers, met_with, looks, again, started, behind, run, no_turn, turned, row}
+use Rattle.rows.specs.Run.{StageOutcome, Asks, Takes, Passes, Gathers, Makes, Becomes, comes, due, noted, valued, inner, begins, numbers, met_with, looks, again, started, behind, run, no_turn, turned, row}
 use Rattle.plain_readings.proofs.Wants.{IsUncopied, AsksUncopied}
 
-abbrev Fits : Outcome → Type 0
+abbrev Fits : StageOutcome → Type 0
 Fits (Asks a) = AsksUncopied a
 Fits o = Unit {0}
 
@@ -49,7 +49,7 @@ comes_fits (next.Becomes c) fed = tt
 
 noted_fits : (n : Note) (m : Next) (fed : List Fed) → Fits (noted n m fed)
 noted_fits n m [] = due_fits n
-noted_fits n m (Told ∷ fed) = comes_fits m fed
+noted_fits n m (Noted ∷ fed) = comes_fits m fed
 noted_fits n m (y ∷ fed) = tt
 
 valued_fits : (g : Got) (ts : List Token) (fed : List Fed) → Fits (valued g ts fed)
@@ -58,12 +58,12 @@ valued_fits (got.Tells report m) ts fed = noted_fits (note.Tells report false) m
 valued_fits got.Gathers ts fed = tt
 valued_fits got.Defines ts fed = tt
 
-inner_fits : (s : Stage) (k : Kind) (fed : List Fed) → Fits (inner s k fed)
+inner_fits : (s : Stage) (k : Phrase) (fed : List Fed) → Fits (inner s k fed)
 inner_fits s k [] = tt
 inner_fits s k (Val v ts ∷ fed) = valued_fits (on_value s v) ts fed
 inner_fits s k (y ∷ fed) = tt
 
-begins_fits : (s : Stage) (k : Kind) (fed : List Fed) → Fits (begins s k fed)
+begins_fits : (s : Stage) (k : Phrase) (fed : List Fed) → Fits (begins s k fed)
 begins_fits s k [] = tt
 begins_fits s k (Tok x ∷ fed) = inner_fits s k fed
 begins_fits s k (Val v ts ∷ fed) = valued_fits (on_value s v) ts fed
@@ -74,7 +74,7 @@ numbers_fits k [] = tt
 numbers_fits k (Val v ts ∷ fed) = valued_fits (numbered_by k v) ts fed
 numbers_fits k (y ∷ fed) = tt
 
-met_fits : (s : Stage) (y : Fed) (m : Met) (skipped : Call → Outcome) (retried : Note → Outcome) (fed : List Fed) →
+met_fits : (s : Stage) (y : Fed) (m : Met) (skipped : Call → StageOutcome) (retried : Note → StageOutcome) (fed : List Fed) →
     ((c : Call) → Fits (skipped c)) → ((n : Note) → Fits (retried n)) → Fits (met_with s y m skipped retried fed)
 met_fits s y (met.Takes d) skipped retried fed h i = tt
 met_fits s y met.Passes skipped retried fed h i = tt
@@ -95,7 +95,7 @@ mutual
 
   again_fits : (s : Stage) (c : Call) (want : Want) → IsUncopied want → (n : Note) (fed : List Fed) → Fits (again s c want n fed)
   again_fits s c want plain n [] = due_fits n
-  again_fits s c want plain n (Told ∷ fed) = looks_fits s c want plain fed
+  again_fits s c want plain n (Noted ∷ fed) = looks_fits s c want plain fed
   again_fits s c want plain n (y ∷ fed) = tt
 
 started_fits : (s : Stage) (c : Call) (begun : Start) → StartsUncopied begun → (fed : List Fed) → Fits (started s c begun fed)
@@ -104,7 +104,7 @@ started_fits s c (Begins k) plain fed = begins_fits s k fed
 
 module _ (turn : Call → List Fed → Ask) (turns : (c : Call) (fed : List Fed) → AsksUncopied (turn c fed)) where
   behind_fits : (c : Call) (ds : List Datum) (onward : List Datum → List Fed → Ask) → ((es : List Datum) (fed : List Fed) → AsksUncopied (onward es fed)) →
-      (o : Outcome) → Fits o → AsksUncopied (behind turn c ds onward o)
+      (o : StageOutcome) → Fits o → AsksUncopied (behind turn c ds onward o)
   behind_fits c ds onward h (Asks a) fits = fits
   behind_fits c ds onward h (Takes d fed) fits = h (ds ++ d ∷ []) fed
   behind_fits c ds onward h (Passes fed) fits = h ds fed

@@ -3,13 +3,13 @@ use Rattle.std.proofs.Common.{◌<◌, List, [], refl, arith}
 use Rattle.rows.specs.declared.words.Datum.{Datum}
 use Rattle.rows.specs.declared.words.Keyword.{Keyword as Word}
 use Rattle.rows.specs.declared.words.Keyword.TheVariants as word
-use Rattle.rows.specs.declared.words.Kind.TheVariants.{Command, Integer, Factor, Dimension, Glue, Keyword, Text, Definition}
+use Rattle.rows.specs.declared.words.Phrase.TheVariants.{Command, Integer, Factor, Dimension, Glue, Keyword, Text, Definition}
 use Rattle.rows.specs.declared.stage.Stage.{Stage}
 use Rattle.rows.specs.declared.stage.Stage.TheVariants as stage
 use Rattle.rows.specs.declared.stage.Start.{Start}
 use Rattle.rows.specs.declared.stage.Start.TheVariants.{Looks, Begins}
 use Rattle.rows.specs.declared.command.Call.{Call}
-use Rattle.rows.specs.Stages.{start, value_kind, location}
+use Rattle.rows.specs.Stages.{start, value_phrase, location}
 use Rattle.rows.specs.Table.{row_of, first_in, rest_in, value_stage}
 use Rattle.rows.specs.Run.{started, behind, run, turned}
 use Rattle.plain_readings.specs.Readings.{Kind, Reads, Spelling, FileName, Behind, Skips, Arguments, ask}
@@ -19,7 +19,7 @@ abbrev IsLow : Start → Type 0
 IsLow (Looks want) = Unit {0}
 IsLow (Begins k) = rank (Reads k) < 4
 
-value_low : (s : Stage) → rank (Reads (value_kind s)) < 4
+value_low : (s : Stage) → rank (Reads (value_phrase s)) < 4
 value_low stage.Dimension = omega arith
 value_low (stage.Glue mu) = omega arith
 value_low s = omega arith

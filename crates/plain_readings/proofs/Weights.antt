@@ -14,12 +14,12 @@ use Rattle.equivalents.specs.Locations.{SeenValue}
 use Rattle.rows.specs.declared.words.Value.{Value}
 use Rattle.rows.specs.declared.words.Keyword.{Keyword as Word}
 use Rattle.rows.specs.declared.words.Keyword.TheVariants as word
-use Rattle.rows.specs.declared.words.Kind.{Kind as Begun}
-use Rattle.rows.specs.declared.words.Kind.TheVariants.{Command, Integer, Factor, Dimension, Glue, Keyword, Text, Definition}
+use Rattle.rows.specs.declared.words.Phrase.{Phrase}
+use Rattle.rows.specs.declared.words.Phrase.TheVariants.{Command, Integer, Factor, Dimension, Glue, Keyword, Text, Definition}
 use Rattle.rows.specs.declared.command.Call.{Call}
 use Rattle.rows.specs.declared.command.Effect.{Effect}
 use Rattle.rows.specs.declared.command.Effect.TheVariants.{ExpandBehind}
-use Rattle.rows.specs.Readings.{Fed, Tok, Val, Told, Fetched, Ask, More, Inner, Acts, ActsOn, Defines, Ends, Calls, Fails, RunsAway, Tells, Inserts, Puts, Relaxes, Fetches, Magnifies}
+use Rattle.rows.specs.Readings.{Fed, Tok, Val, Noted, Fetched, Ask, More, Inner, Acts, ActsOn, Defines, Ends, Calls, Fails, RunsAway, Tells, Inserts, Puts, Relaxes, Fetches, Magnifies}
 use Rattle.rows.specs.Laws.{IsValueless}
 use Rattle.plain_readings.specs.Readings.{Kind, Reads, Spelling, FileName, Behind, Skips, Arguments, ask, lists}
 use Rattle.plain_readings.specs.Lists.{build_ask, text, definition}
@@ -92,7 +92,7 @@ glue_light (glues.Tells report) = omega (arith, few_behind report)
 glue_light (glues.Done g) = omega arith
 
 -- what a reading begins with a token, and no command
-pub with_light : (j : Begun) (x : Seen) → rank (Reads j) < 4 → frame_weight (Reads j) + weight (Reads j) (Tok x ∷ []) < begins_with j
+pub with_light : (j : Phrase) (x : Seen) → rank (Reads j) < 4 → frame_weight (Reads j) + weight (Reads j) (Tok x ∷ []) < begins_with j
 with_light (Command c) x low = absurd (omega (arith, low))
 with_light Integer x low = omega (arith, integer_light x)
 with_light Factor x low = omega (arith, integer_light x, factor_weighs (Tok x ∷ []))
@@ -111,7 +111,7 @@ valueless_puts : (n : ℕ) (a : Ask) → IsValueless a → PutsLight n a
 valueless_puts n (Puts t more) h = absurd h
 valueless_puts n a h = tt
 
-value_puts : (k : Begun) (held : List (List Token)) (n : ℕ) (a : Ask) → n ≡ value_weight → GivesValue k held a → PutsLight n a
+value_puts : (k : Phrase) (held : List (List Token)) (n : ℕ) (a : Ask) → n ≡ value_weight → GivesValue k held a → PutsLight n a
 value_puts (Keyword w) held n (Puts t more) e h = omega (arith, e, h)
 value_puts k held n (Puts t more) e h = absurd h
 value_puts k held n a e h = tt
@@ -139,7 +139,7 @@ unlent_light n (Fetches l) e p h = omega (arith, e)
 unlent_light n Magnifies e p h = omega (arith, e)
 unlent_light n a e p h = omega arith
 
-begins_few : (j : Begun) → begins_with j ≤ 92
+begins_few : (j : Phrase) → begins_with j ≤ 92
 begins_few (Dimension k) = omega arith
 begins_few (Glue mu) = omega arith
 begins_few j = omega arith
@@ -194,13 +194,13 @@ unlent k fed (Tok x) h = absurd h
 unlent k fed y h = subst (λ (b : Bool). Lends b (ask k (fed ++ y ∷ []))) (met_last y false fed) (lends k (fed ++ y ∷ []))
 
 -- behind its note a reading weighs no more than its end, where nothing begins with a token; an integer may ask for a value then
-note_light : (k : Kind) (fed : List Fed) → end_weight k ≡ behind_weight → IsSingle k → IsValueless (ask k (fed ++ Told ∷ [])) → weight k (fed ++ Told ∷ []) ≤ end_weight k
-note_light k fed e s v = omega (arith, e, quiet_light (end_weight k) (ask k (fed ++ Told ∷ [])) (unlent k fed Told tt) v (told_quiet k fed s))
+note_light : (k : Kind) (fed : List Fed) → end_weight k ≡ behind_weight → IsSingle k → IsValueless (ask k (fed ++ Noted ∷ [])) → weight k (fed ++ Noted ∷ []) ≤ end_weight k
+note_light k fed e s v = omega (arith, e, quiet_light (end_weight k) (ask k (fed ++ Noted ∷ [])) (unlent k fed Noted tt) v (told_quiet k fed s))
 
-noted_if_light : (k : Kind) (fed : List Fed) → IsNoted (ask k fed) → weight k (fed ++ Told ∷ []) ≤ end_weight k → weight k (fed ++ Told ∷ []) < weight k fed
+noted_if_light : (k : Kind) (fed : List Fed) → IsNoted (ask k fed) → weight k (fed ++ Noted ∷ []) ≤ end_weight k → weight k (fed ++ Noted ∷ []) < weight k fed
 noted_if_light k fed h light = omega (arith, light, note_heavy (end_weight k) (ask k fed) h)
 
-note_wanted : (a : Ask) → IsNoted a → Wants a Told
+note_wanted : (a : Ask) → IsNoted a → Wants a Noted
 note_wanted (Tells report back) h = tt
 note_wanted (Inserts t report back) h = tt
 note_wanted (Puts t more) h = tt
@@ -208,23 +208,23 @@ note_wanted (Relaxes c name) h = tt
 note_wanted Magnifies h = tt
 note_wanted a h = absurd h
 
-pub noted : (k : Kind) (fed : List Fed) → IsNoted (ask k fed) → weight k (fed ++ Told ∷ []) < weight k fed
-noted (Reads (Command c)) fed h = noted_if_light (Reads (Command c)) fed h (note_light (Reads (Command c)) fed refl tt (values (Reads (Command c)) (fed ++ Told ∷ [])))
-noted (Reads Integer) fed h = integer_falls Told false fed (note_wanted (ask (Reads Integer) fed) h)
-noted (Reads Factor) fed h = factor_falls Told fed (note_wanted (ask (Reads Factor) fed) h)
+pub noted : (k : Kind) (fed : List Fed) → IsNoted (ask k fed) → weight k (fed ++ Noted ∷ []) < weight k fed
+noted (Reads (Command c)) fed h = noted_if_light (Reads (Command c)) fed h (note_light (Reads (Command c)) fed refl tt (values (Reads (Command c)) (fed ++ Noted ∷ [])))
+noted (Reads Integer) fed h = integer_falls Noted false fed (note_wanted (ask (Reads Integer) fed) h)
+noted (Reads Factor) fed h = factor_falls Noted fed (note_wanted (ask (Reads Factor) fed) h)
 noted (Reads (Dimension k)) fed h = dimension_noted k fed h
 noted (Reads (Glue mu)) fed h = glue_noted mu fed h
 noted (Reads (Keyword w)) fed h = keyword_falls w fed h
 noted (Reads (Text name expanded)) fed h =
-    noted_if_light (Reads (Text name expanded)) fed h (built_quiet value_weight (text name expanded (fed ++ Told ∷ [])) (told_quiet (Reads (Text name expanded)) fed tt))
+    noted_if_light (Reads (Text name expanded)) fed h (built_quiet value_weight (text name expanded (fed ++ Noted ∷ [])) (told_quiet (Reads (Text name expanded)) fed tt))
 noted (Reads (Definition name expanded)) fed h =
-    noted_if_light (Reads (Definition name expanded)) fed h (built_quiet value_weight (definition name expanded (fed ++ Told ∷ [])) (told_quiet (Reads (Definition name expanded)) fed tt))
-noted (Spelling c) fed h = noted_if_light (Spelling c) fed h (note_light (Spelling c) fed refl tt (values (Spelling c) (fed ++ Told ∷ [])))
-noted (FileName c) fed h = noted_if_light (FileName c) fed h (note_light (FileName c) fed refl tt (values (FileName c) (fed ++ Told ∷ [])))
-noted (Behind c x) fed h = noted_if_light (Behind c x) fed h (note_light (Behind c x) fed refl tt (values (Behind c x) (fed ++ Told ∷ [])))
-noted (Skips c aim line) fed h = noted_if_light (Skips c aim line) fed h (note_light (Skips c aim line) fed refl tt (values (Skips c aim line) (fed ++ Told ∷ [])))
+    noted_if_light (Reads (Definition name expanded)) fed h (built_quiet value_weight (definition name expanded (fed ++ Noted ∷ [])) (told_quiet (Reads (Definition name expanded)) fed tt))
+noted (Spelling c) fed h = noted_if_light (Spelling c) fed h (note_light (Spelling c) fed refl tt (values (Spelling c) (fed ++ Noted ∷ [])))
+noted (FileName c) fed h = noted_if_light (FileName c) fed h (note_light (FileName c) fed refl tt (values (FileName c) (fed ++ Noted ∷ [])))
+noted (Behind c x) fed h = noted_if_light (Behind c x) fed h (note_light (Behind c x) fed refl tt (values (Behind c x) (fed ++ Noted ∷ [])))
+noted (Skips c aim line) fed h = noted_if_light (Skips c aim line) fed h (note_light (Skips c aim line) fed refl tt (values (Skips c aim line) (fed ++ Noted ∷ [])))
 noted (Arguments name long number ts) fed h =
-    noted_if_light (Arguments name long number ts) fed h (note_light (Arguments name long number ts) fed refl tt (values (Arguments name long number ts) (fed ++ Told ∷ [])))
+    noted_if_light (Arguments name long number ts) fed h (note_light (Arguments name long number ts) fed refl tt (values (Arguments name long number ts) (fed ++ Noted ∷ [])))
 
 -- only an integer, a factor, a dimension and glue ask for what stands at a location
 valueless_fetches : (a : Ask) (l : Loc) → IsValueless a → a ≡ Fetches l → ⊥
@@ -277,7 +277,7 @@ keyword_first word.Cc = refl
 keyword_first word.Sp = refl
 keyword_first word.Mu = refl
 
-first_light : (j : Begun) → rank (Reads j) < 4 → frame_weight (Reads j) + weight (Reads j) [] ≡ value_frame
+first_light : (j : Phrase) → rank (Reads j) < 4 → frame_weight (Reads j) + weight (Reads j) [] ≡ value_frame
 first_light (Command c) low = absurd (omega (arith, low))
 first_light Integer low = refl
 first_light Factor low = refl
@@ -296,12 +296,12 @@ start_light m n a h = absurd h
 pub begins_light : (k : Kind) → IsRead k → weight k [] ≤ 11
 begins_light k h = start_light (end_weight k) (rank k) (ask k []) (starts k h)
 
-pub begun : (k : Kind) (fed : List Fed) (j : Begun) → ask k fed ≡ Inner j false → frame_weight (Reads j) + weight (Reads j) [] < weight k fed
+pub begun : (k : Kind) (fed : List Fed) (j : Phrase) → ask k fed ≡ Inner j false → frame_weight (Reads j) + weight (Reads j) [] < weight k fed
 begun k fed j e =
     let heavy : weight k fed ≡ 11 = subst (λ (a : Ask). ask_weight (end_weight k) a ≡ 11) (sym e) refl in
     omega (arith, heavy, first_light j (begun_low k fed j false e))
 
-pub begun_with : (k : Kind) (fed : List Fed) (j : Begun) (x : Seen) → ask k fed ≡ Inner j true → frame_weight (Reads j) + weight (Reads j) (Tok x ∷ []) < weight k fed
+pub begun_with : (k : Kind) (fed : List Fed) (j : Phrase) (x : Seen) → ask k fed ≡ Inner j true → frame_weight (Reads j) + weight (Reads j) (Tok x ∷ []) < weight k fed
 begun_with k fed j x e =
     let heavy : weight k fed ≡ begins_with j = subst (λ (a : Ask). ask_weight (end_weight k) a ≡ begins_with j) (sym e) refl in
     omega (arith, heavy, with_light j x (begun_low k fed j true e))
@@ -313,7 +313,7 @@ pub acted : (k : Kind) (fed : List Fed) → weight k fed < act_frame + act_weigh
 acted k fed = omega (arith, any_light (end_weight k) (ask k fed) (end_light k) (puts_light k fed))
 
 -- what has a value doesn't end otherwise
-value_lasts : (k : Begun) (held : List (List Token)) (a : Ask) → GivesValue k held a → IsLast a → ⊥
+value_lasts : (k : Phrase) (held : List (List Token)) (a : Ask) → GivesValue k held a → IsLast a → ⊥
 value_lasts k held (Acts c e) v h = v
 value_lasts k held (ActsOn c e ts) v h = v
 value_lasts k held (Defines c n ts) v h = v

@@ -8,20 +8,16 @@ use Rattle.tex_syntax.specs.declared.words.Want.TheVariants.{Raw}
 use Rattle.tex_syntax.specs.declared.words.Report.TheVariants.{UseMismatch, ExtraBrace, ParagraphEnded}
 use Rattle.plain_tokens.specs.Names.{par_primitive}
 use Rattle.plain_tokens.specs.Puts.{list_of_tokens}
-use Rattle.plain_tokens.specs.Arguments.{ParMode, Long, Short, gathering, arguments_in, work_in}
+use Rattle.plain_tokens.specs.Arguments.{gathering, arguments_in, work_in, mode_of}
 use Rattle.plain_tokens.specs.Arguments as call
-use Rattle.rows.specs.Readings.{Fed, Tok, Told, Cut, Ask, More, Ends, Calls, Fails, RunsAway, Inserts}
+use Rattle.rows.specs.Readings.{Fed, Tok, Noted, Cut, Ask, More, Ends, Calls, Fails, RunsAway, Inserts}
 
 abbrev pub call_fed : List Fed → List call.Fed
 call_fed [] = []
 call_fed (Tok x ∷ fed) = call.Tok x.token ∷ call_fed fed
-call_fed (Told ∷ fed) = call.Settled ∷ call_fed fed
+call_fed (Noted ∷ fed) = call.Noted ∷ call_fed fed
 call_fed (Cut ∷ fed) = call.Cut ∷ call_fed fed
 call_fed (y ∷ fed) = call_fed fed
-
-abbrev pub mode_of : (long : Bool) → ParMode
-mode_of true = Long
-mode_of false = Short
 
 -- what the call of a macro with this list has gathered
 abbrev pub gathered : (long : Bool) → (text : List Token) → List Fed → call.Answer

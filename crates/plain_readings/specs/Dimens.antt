@@ -42,7 +42,7 @@ pub data Fed : Type 0 where
   Factored : ℤ → (point : Bool) → Fed
   Numbered : ℤ → Fed
   Found : Bool → Fed
-  Told : Fed
+  Noted : Fed
   Fetched : SeenValue → Fed
 
 -- What it asks for: a token; something within, which may begin with the last token; what stands at a location; that the magnification be checked; to
@@ -62,14 +62,14 @@ impossible = Done (pos 0) 0 false
 -- THE END
 
 -- a value that is too large is reported, and the greatest taken, with the sign
-abbrev pub too_large_told : (negative : Bool) → (order : ℕ) → (give_back : Bool) → List Fed → Answer
-too_large_told negative order back [] = Tells DimensionTooLarge back
-too_large_told negative order back (Told ∷ fed) = Done (with_sign negative (pos (too_large - 1))) order false
-too_large_told negative order back (y ∷ fed) = impossible
+abbrev pub too_large_noted : (negative : Bool) → (order : ℕ) → (give_back : Bool) → List Fed → Answer
+too_large_noted negative order back [] = Tells DimensionTooLarge back
+too_large_noted negative order back (Noted ∷ fed) = Done (with_sign negative (pos (too_large - 1))) order false
+too_large_noted negative order back (y ∷ fed) = impossible
 
 abbrev pub finished : (negative : Bool) → Option ℤ → (order : ℕ) → (give_back : Bool) → List Fed → Answer
 finished negative (Some n) order back fed = Done (with_sign negative n) order back
-finished negative None order back fed = too_large_told negative order back fed
+finished negative None order back fed = too_large_noted negative order back fed
 
 -- one space behind a unit goes, another token is given back
 abbrev pub spaced : (negative : Bool) → Option ℤ → (order : ℕ) → List Fed → Answer
@@ -80,7 +80,7 @@ spaced negative v order (y ∷ fed) = impossible
 -- another unit is taken
 abbrev pub illegal : UnitTaken → (negative : Bool) → Option ℤ → List Fed → Answer
 illegal unit negative v [] = Tells (IllegalUnit unit) false
-illegal unit negative v (Told ∷ fed) = spaced negative v 0 fed
+illegal unit negative v (Noted ∷ fed) = spaced negative v 0 fed
 illegal unit negative v (y ∷ fed) = impossible
 
 -- UNITS behind a factor
@@ -145,7 +145,7 @@ magnification_fetched negative a (y ∷ fed) = impossible
 -- it is checked before it is fetched
 abbrev pub magnified : (negative : Bool) → Quantity → List Fed → Answer
 magnified negative a [] = Magnifies
-magnified negative a (Told ∷ fed) = magnification_fetched negative a fed
+magnified negative a (Noted ∷ fed) = magnification_fetched negative a fed
 magnified negative a (y ∷ fed) = impossible
 
 abbrev pub true_or_not : (negative : Bool) → Quantity → List Fed → Answer
@@ -180,7 +180,7 @@ mu_or_not negative a (y ∷ fed) = impossible
 -- glue in mu where it isn't wanted, and what isn't in mu where that is, are reported, and the value taken
 abbrev pub incompatible : (negative : Bool) → Option ℤ → List Fed → Answer
 incompatible negative v [] = Tells IncompatibleUnits false
-incompatible negative v (Told ∷ fed) = finished negative v 0 false fed
+incompatible negative v (Noted ∷ fed) = finished negative v 0 false fed
 incompatible negative v (y ∷ fed) = impossible
 
 -- a value in mu or not, where that is wanted or not
@@ -192,7 +192,7 @@ valued wanted mu negative v fed = incompatible negative v fed
 -- a list of tokens is no dimension: it is given back and reported, and 0 taken
 abbrev pub no_number : (mu : Bool) → (negative : Bool) → List Fed → Answer
 no_number mu negative [] = Tells MissingNumber true
-no_number mu negative (Told ∷ fed) = valued mu false negative (Some (pos 0)) fed
+no_number mu negative (Noted ∷ fed) = valued mu false negative (Some (pos 0)) fed
 no_number mu negative (y ∷ fed) = impossible
 
 -- what stands at a location, as an integer: a dimension in sp, glue by its width
@@ -204,7 +204,7 @@ fetched onward l (y ∷ fed) = impossible
 -- another number than one from 0 to 255 is reported, and the location of number 0 taken
 abbrev pub bad_numbered : Bank → ℤ → (onward : Loc → ℤ → List Fed → Answer) → List Fed → Answer
 bad_numbered b n onward [] = Tells (bad_number b n) false
-bad_numbered b n onward (Told ∷ fed) = fetched onward (location_in b 0) fed
+bad_numbered b n onward (Noted ∷ fed) = fetched onward (location_in b 0) fed
 bad_numbered b n onward (y ∷ fed) = impossible
 
 abbrev pub with_number : Bank → ℤ → (onward : Loc → ℤ → List Fed → Answer) → List Fed → Answer
@@ -252,7 +252,7 @@ longer negative a order false (Found true ∷ fed) = if order == 3 then longer n
 longer negative a order false (Found false ∷ fed) = spaced negative (points a) order fed
 longer negative a order false (y ∷ fed) = impossible
 longer negative a order true [] = Tells (IllegalUnit taken.Filll) false
-longer negative a order true (Told ∷ fed) = longer negative a order false fed
+longer negative a order true (Noted ∷ fed) = longer negative a order false fed
 longer negative a order true (y ∷ fed) = impossible
 
 abbrev pub fil_or_not : DimenKind → (negative : Bool) → Quantity → (begins : Bool) → List Fed → Answer

@@ -33,7 +33,7 @@ pub data Fed : Type 0 where
   Measured : ℤ → (order : ℕ) → Fed
   Numbered : ℤ → Fed
   Found : Bool → Fed
-  Told : Fed
+  Noted : Fed
   Fetched : SeenValue → Fed
 
 -- What it asks for: a token; something within, which may begin with the last token; what stands at a location; to report; to end with this glue. No
@@ -116,7 +116,7 @@ signed_glue negative g =
 -- glue in mu where it isn't wanted, and other glue where that is, are reported, and the glue taken
 abbrev pub incompatible : Glue → List Fed → Answer
 incompatible g [] = Tells IncompatibleUnits
-incompatible g (Told ∷ fed) = Done g
+incompatible g (Noted ∷ fed) = Done g
 incompatible g (y ∷ fed) = impossible
 
 -- in mu or not, where that is wanted or not
@@ -133,7 +133,7 @@ fetched mu negative l (y ∷ fed) = impossible
 -- another number than one from 0 to 255 is reported, and the register of number 0 taken
 abbrev pub bad_numbered : (mu negative : Bool) → Bank → ℤ → List Fed → Answer
 bad_numbered mu negative b n [] = Tells (bad_number b n)
-bad_numbered mu negative b n (Told ∷ fed) = fetched mu negative (location_in b 0) fed
+bad_numbered mu negative b n (Noted ∷ fed) = fetched mu negative (location_in b 0) fed
 bad_numbered mu negative b n (y ∷ fed) = impossible
 
 abbrev pub with_number : (mu negative : Bool) → Bank → ℤ → List Fed → Answer

@@ -14,13 +14,13 @@ use Rattle.plain_tokens.specs.Tokens.{is_other, is_space}
 use Rattle.equivalents.specs.declared.values.Loc.{Loc}
 use Rattle.rows.specs.declared.words.Datum.TheVariants as datum
 use Rattle.rows.specs.declared.words.Value.TheVariants as value
-use Rattle.rows.specs.declared.words.Kind.TheVariants as kind
+use Rattle.rows.specs.declared.words.Phrase.TheVariants as phrase
 use Rattle.rows.specs.declared.internal.Bank.{Bank}
 use Rattle.rows.specs.declared.internal.Internal.{Internal}
 use Rattle.rows.specs.declared.internal.Internal.TheVariants as internal
 use Rattle.rows.specs.Tokens.{is_at_most}
 use Rattle.rows.specs.Internal.{byte_of, location_in, bad_number, internal_of, integer_of, with_sign, is_mu}
-use Rattle.rows.specs.Readings.{Fed, Tok, Val, Told, Fetched, Ask, More, Inner, Done, Tells, Fetches}
+use Rattle.rows.specs.Readings.{Fed, Tok, Val, Noted, Fetched, Ask, More, Inner, Done, Tells, Fetches}
 
 -- it ends with this number, and the token behind it may be given back
 abbrev pub ends_with : ℤ → (give_back : Bool) → Ask
@@ -76,7 +76,7 @@ digits_dropped negative radix (y ∷ fed) = impossible
 -- a value above the greatest integer is reported at its digit
 abbrev pub too_big : (negative : Bool) → (radix : ℕ) → List Fed → Ask
 too_big negative radix [] = Tells NumberTooBig false
-too_big negative radix (Told ∷ fed) = digits_dropped negative radix fed
+too_big negative radix (Noted ∷ fed) = digits_dropped negative radix fed
 too_big negative radix (y ∷ fed) = impossible
 
 -- digits behind those of this value, and the token behind the last
@@ -92,7 +92,7 @@ digits negative radix n (y ∷ fed) = impossible
 -- in place of a number, where there is none: the token is given back and the report written
 abbrev pub missing : ℤ → Report → List Fed → Ask
 missing n report [] = Tells report true
-missing n report (Told ∷ fed) = ends_with n false
+missing n report (Noted ∷ fed) = ends_with n false
 missing n report (y ∷ fed) = impossible
 
 -- the first digit behind ' or "
@@ -139,7 +139,7 @@ constant negative (y ∷ fed) = impossible
 -- glue in mu is reported, and its width taken
 abbrev pub mu_found : ℤ → List Fed → Ask
 mu_found n [] = Tells IncompatibleUnits false
-mu_found n (Told ∷ fed) = ends_with n false
+mu_found n (Noted ∷ fed) = ends_with n false
 mu_found n (y ∷ fed) = impossible
 
 -- what stands at a location
@@ -152,7 +152,7 @@ fetched negative l (y ∷ fed) = impossible
 -- another number than that of a register or a character is reported, and number 0 taken
 abbrev pub bad_numbered : (negative : Bool) → Bank → ℤ → List Fed → Ask
 bad_numbered negative b n [] = Tells (bad_number b n) false
-bad_numbered negative b n (Told ∷ fed) = fetched negative (location_in b 0) fed
+bad_numbered negative b n (Noted ∷ fed) = fetched negative (location_in b 0) fed
 bad_numbered negative b n (y ∷ fed) = impossible
 
 abbrev pub with_number : (negative : Bool) → Bank → ℤ → List Fed → Ask
@@ -160,7 +160,7 @@ with_number negative b n fed = if is_at_most 255 n then fetched negative (locati
 
 -- the number of the register or of the character comes
 abbrev pub numbered : (negative : Bool) → Bank → List Fed → Ask
-numbered negative b [] = Inner kind.Integer false
+numbered negative b [] = Inner phrase.Integer false
 numbered negative b (Val (value.Plain (datum.Number n)) ts ∷ fed) = with_number negative b n fed
 numbered negative b (y ∷ fed) = impossible
 

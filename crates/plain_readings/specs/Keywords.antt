@@ -10,7 +10,7 @@ use Rattle.rows.specs.declared.words.Keyword.{Keyword}
 use Rattle.rows.specs.declared.words.Keyword.TheVariants.{By, Plus, Minus, Fil, L, True, Em, Ex, Pt, In, Pc, Cm, Mm, Bp, Dd, Cc, Sp, Mu}
 use Rattle.rows.specs.declared.words.Datum.TheVariants as datum
 use Rattle.rows.specs.declared.words.Value.TheVariants as value
-use Rattle.rows.specs.Readings.{Fed, Tok, Told, Ask, More, Done, Puts}
+use Rattle.rows.specs.Readings.{Fed, Tok, Noted, Ask, More, Done, Puts}
 
 abbrev pub letters : Keyword → List ℕ
 letters By = codes "by"
@@ -45,7 +45,7 @@ ends_found found = Done (value.Plain (datum.Found found)) false
 abbrev pub giving_back : List Token → List Fed → Ask
 giving_back [] fed = ends_found false
 giving_back (t ∷ ts) [] = Puts t (length ts)
-giving_back (t ∷ ts) (Told ∷ fed) = giving_back ts fed
+giving_back (t ∷ ts) (Noted ∷ fed) = giving_back ts fed
 giving_back (t ∷ ts) (y ∷ fed) = ends_found false
 
 -- a space, before the first letter

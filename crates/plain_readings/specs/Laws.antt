@@ -12,12 +12,12 @@ use Rattle.conditionals.specs.Skipping.{ender_at, greatest_count, IsSkipped}
 use Rattle.rows.specs.declared.words.Datum.TheVariants as datum
 use Rattle.rows.specs.declared.words.Value.{Value}
 use Rattle.rows.specs.declared.words.Value.TheVariants as value
-use Rattle.rows.specs.declared.words.Kind.{Kind as Begun}
-use Rattle.rows.specs.declared.words.Kind.TheVariants.{Command, Integer, Factor, Dimension, Glue, Keyword, Text, Definition}
+use Rattle.rows.specs.declared.words.Phrase.{Phrase}
+use Rattle.rows.specs.declared.words.Phrase.TheVariants.{Command, Integer, Factor, Dimension, Glue, Keyword, Text, Definition}
 use Rattle.rows.specs.declared.command.Call.{Call}
 use Rattle.rows.specs.declared.command.Effect.TheVariants.{Reach, StartInput}
 use Rattle.rows.specs.Laws.{IsValueless}
-use Rattle.rows.specs.Readings.{Fed, Tok, Told, Verbatim, Ask, More, Inner, Done, Acts, ActsOn, Defines, Ends, Calls, Fails, RunsAway, Tells, Inserts, Puts, Fetches, Magnifies}
+use Rattle.rows.specs.Readings.{Fed, Tok, Noted, Verbatim, Ask, More, Inner, Done, Acts, ActsOn, Defines, Ends, Calls, Fails, RunsAway, Tells, Inserts, Puts, Fetches, Magnifies}
 use Rattle.plain_readings.specs.Readings.{Kind, Reads, Spelling, FileName, Behind, Skips, ask, lists}
 
 -- RANKS. A reading that was fed with nothing begins only readings of a lower rank.
@@ -79,9 +79,9 @@ GivesBack met a = Unit {0}
 
 -- What may come behind what a reading asked for: behind a report the note of it, and nothing behind an end; behind all else anything, asked for or not.
 abbrev pub Comes : Ask → Fed → Type 0
-Comes (Tells report back) Told = Unit {0}
+Comes (Tells report back) Noted = Unit {0}
 Comes (Tells report back) y = ⊥
-Comes (Inserts t report back) Told = Unit {0}
+Comes (Inserts t report back) Noted = Unit {0}
 Comes (Inserts t report back) y = ⊥
 Comes (Done v back) y = ⊥
 Comes (Acts c e) y = ⊥
@@ -105,7 +105,7 @@ pub record TokensAreGivenBack : Type 0 where
 
 -- VALUES. An integer's is a number, a factor's that and whether a point came, that of a dimension and of glue is one, a keyword's whether it was there,
 -- and none of these holds a list; that of a text is its list, which may have no token, and that of a macro's list has one.
-abbrev pub IsValue : Begun → Value → List (List Token) → Type 0
+abbrev pub IsValue : Phrase → Value → List (List Token) → Type 0
 IsValue Integer (value.Plain (datum.Number n)) [] = Unit {0}
 IsValue Factor (value.Plain (datum.Factor n point)) [] = Unit {0}
 IsValue (Dimension k) (value.Plain (datum.Dimension n order)) [] = Unit {0}
@@ -118,7 +118,7 @@ IsValue k v held = ⊥
 -- What has a value asks for a token or reports until it ends with it; an integer also begins another, the number of a register or of a
 -- character, or asks for what stands at a location; so do a factor, a dimension, which begins a factor and keywords too and has the magnification
 -- checked, and glue, which begins dimensions and keywords too. A keyword puts tokens back, five at most. Nothing else has a value.
-abbrev pub GivesValue : Begun → List (List Token) → Ask → Type 0
+abbrev pub GivesValue : Phrase → List (List Token) → Ask → Type 0
 GivesValue k held (More want) = Unit {0}
 GivesValue k held (Tells report back) = Unit {0}
 GivesValue k held (Done v back) = IsValue k v held
@@ -179,8 +179,8 @@ IsSingle k = Unit {0}
 
 -- Behind the note of a report fewer are left, and none but in a dimension or in glue.
 pub record NotesFall : Type 0 where
-  pub falls : (k : Kind) (fed : List Fed) → reports_due (ask k (fed ++ Told ∷ [])) ≤ reports_due (ask k fed) - 1
-  pub single : (k : Kind) (fed : List Fed) → IsSingle k → reports_due (ask k (fed ++ Told ∷ [])) ≡ 0
+  pub falls : (k : Kind) (fed : List Fed) → reports_due (ask k (fed ++ Noted ∷ [])) ≤ reports_due (ask k fed) - 1
+  pub single : (k : Kind) (fed : List Fed) → IsSingle k → reports_due (ask k (fed ++ Noted ∷ [])) ≡ 0
 
 -- SKIPPED TEXT. In a text of fewer than 2^64 - 1 tokens, the ender of what is skipped is reached when it has been read, and a token more is asked for
 -- where none ends it.

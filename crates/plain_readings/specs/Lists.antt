@@ -5,13 +5,13 @@ use Rattle.tex_defs.specs.declared.Token.{Token}
 use Rattle.tex_syntax.specs.declared.words.Manner.{Manner}
 use Rattle.plain_state.specs.Definitions as build
 use Rattle.rows.specs.declared.words.Value.TheVariants as value
-use Rattle.rows.specs.Readings.{Fed, Tok, Told, Verbatim, Ask, More, Done, Tells}
+use Rattle.rows.specs.Readings.{Fed, Tok, Noted, Verbatim, Ask, More, Done, Tells}
 
 -- what a list is built of
 abbrev pub build_fed : List Fed → List build.Fed
 build_fed [] = []
 build_fed (Tok x ∷ fed) = build.Tok x ∷ build_fed fed
-build_fed (Told ∷ fed) = build.Told ∷ build_fed fed
+build_fed (Noted ∷ fed) = build.Noted ∷ build_fed fed
 build_fed (Verbatim t ∷ fed) = build.Given (t ∷ []) ∷ build_fed fed
 build_fed (y ∷ fed) = build_fed fed
 

@@ -4,10 +4,10 @@ use Rattle.rows.specs.declared.words.Datum.{Datum}
 use Rattle.rows.specs.declared.words.Datum.TheVariants as datum
 use Rattle.rows.specs.declared.words.Value.{Value}
 use Rattle.rows.specs.declared.words.Value.TheVariants as value
-use Rattle.rows.specs.declared.words.Kind.{Kind}
-use Rattle.rows.specs.declared.words.Kind.TheVariants as kind
+use Rattle.rows.specs.declared.words.Phrase.{Phrase}
+use Rattle.rows.specs.declared.words.Phrase.TheVariants as phrase
 use Rattle.rows.specs.declared.words.DimenKind.{DimenKind}
-use Rattle.rows.specs.Readings.{Fed, Tok, Val, Told, Fetched, Verbatim, Cut, Ask, More, Inner, Done, Tells, Fetches, Magnifies}
+use Rattle.rows.specs.Readings.{Fed, Tok, Val, Noted, Fetched, Verbatim, Cut, Ask, More, Inner, Done, Tells, Fetches, Magnifies}
 use Rattle.plain_readings.specs.Dimens as dimens
 use Rattle.plain_readings.specs.Glues as glues
 
@@ -26,7 +26,7 @@ dimen_value value.List = dimens.Numbered (pos 0)
 abbrev pub dimen_item : Fed → dimens.Fed
 dimen_item (Tok x) = dimens.Tok x
 dimen_item (Val v ts) = dimen_value v
-dimen_item Told = dimens.Told
+dimen_item Noted = dimens.Noted
 dimen_item (Fetched v) = dimens.Fetched v
 dimen_item (Verbatim t) = dimens.Numbered (pos 0)
 dimen_item Cut = dimens.Numbered (pos 0)
@@ -35,10 +35,10 @@ abbrev pub dimen_fed : List Fed → List dimens.Fed
 dimen_fed [] = []
 dimen_fed (y ∷ fed) = dimen_item y ∷ dimen_fed fed
 
-abbrev pub dimen_inner : dimens.Inner → Kind
-dimen_inner dimens.Factor = kind.Factor
-dimen_inner dimens.Number = kind.Integer
-dimen_inner (dimens.Key w) = kind.Keyword w
+abbrev pub dimen_inner : dimens.Inner → Phrase
+dimen_inner dimens.Factor = phrase.Factor
+dimen_inner dimens.Number = phrase.Integer
+dimen_inner (dimens.Key w) = phrase.Keyword w
 
 abbrev pub dimen_ask : dimens.Answer → Ask
 dimen_ask (dimens.More want) = More want
@@ -66,7 +66,7 @@ glue_value value.List = glues.Numbered (pos 0)
 abbrev pub glue_item : Fed → glues.Fed
 glue_item (Tok x) = glues.Tok x
 glue_item (Val v ts) = glue_value v
-glue_item Told = glues.Told
+glue_item Noted = glues.Noted
 glue_item (Fetched v) = glues.Fetched v
 glue_item (Verbatim t) = glues.Numbered (pos 0)
 glue_item Cut = glues.Numbered (pos 0)
@@ -75,10 +75,10 @@ abbrev pub glue_fed : List Fed → List glues.Fed
 glue_fed [] = []
 glue_fed (y ∷ fed) = glue_item y ∷ glue_fed fed
 
-abbrev pub glue_inner : glues.Inner → Kind
-glue_inner (glues.Dimension k) = kind.Dimension k
-glue_inner glues.Number = kind.Integer
-glue_inner (glues.Key w) = kind.Keyword w
+abbrev pub glue_inner : glues.Inner → Phrase
+glue_inner (glues.Dimension k) = phrase.Dimension k
+glue_inner glues.Number = phrase.Integer
+glue_inner (glues.Key w) = phrase.Keyword w
 
 abbrev pub glue_ask : glues.Answer → Ask
 glue_ask (glues.More want) = More want

@@ -6,8 +6,8 @@ use Rattle.tex_defs.specs.declared.Seen.{Seen}
 use Rattle.plain_tokens.specs.Puts.{list_of_tokens}
 use Rattle.tex_syntax.specs.declared.words.Want.TheVariants.{Nonblank}
 use Rattle.conditionals.specs.declared.choice.Aim.{Aim}
-use Rattle.rows.specs.declared.words.Kind.{Kind as Begun}
-use Rattle.rows.specs.declared.words.Kind.TheVariants.{Command, Integer, Factor, Dimension, Glue, Keyword, Text, Definition}
+use Rattle.rows.specs.declared.words.Phrase.{Phrase}
+use Rattle.rows.specs.declared.words.Phrase.TheVariants.{Command, Integer, Factor, Dimension, Glue, Keyword, Text, Definition}
 use Rattle.rows.specs.declared.command.Call.{Call}
 use Rattle.rows.specs.declared.command.Effect.TheVariants.{PutBack}
 use Rattle.rows.specs.Readings.{Fed, Ask, Acts, ActsOn, Defines}
@@ -26,7 +26,7 @@ use Rattle.plain_readings.specs.Skips.{skipping}
 -- it is expanded; text that a conditional skips, which seeks this, from this line on; the arguments of a call of the macro of this name, as it
 -- was written, with the macro's number and its list.
 pub data Kind : Type 0 where
-  Reads : Begun → Kind
+  Reads : Phrase → Kind
   Spelling : Call → Kind
   FileName : Call → Kind
   Behind : Call → Seen → Kind
@@ -35,7 +35,7 @@ pub data Kind : Type 0 where
 
 -- WHAT A READING ASKS FOR after all that it was fed with
 
-abbrev pub begun_ask : Begun → List Fed → Ask
+abbrev pub begun_ask : Phrase → List Fed → Ask
 begun_ask (Command c) fed = row c fed
 begun_ask Integer fed = integer false fed
 begun_ask Factor fed = factor fed
@@ -61,7 +61,7 @@ kept_list (ActsOn c e ts) = list_of_tokens ts
 kept_list (Defines c n ts) = list_of_tokens ts
 kept_list a = []
 
-abbrev pub begun_lists : Begun → List Fed → List (List Token)
+abbrev pub begun_lists : Phrase → List Fed → List (List Token)
 begun_lists (Command c) fed = kept_list (row c fed)
 begun_lists Integer fed = []
 begun_lists Factor fed = []

@@ -4,7 +4,7 @@ use Rattle.tex_defs.specs.declared.Name.{Name}
 use Rattle.tex_defs.specs.declared.Token.{Token}
 use Rattle.tex_syntax.specs.declared.words.Scanned.{Scanned}
 use Rattle.tex_syntax.specs.declared.words.Scanned.TheVariants as scanned
-use Rattle.rows.specs.declared.words.Kind.TheVariants.{Command, Text, Definition}
+use Rattle.rows.specs.declared.words.Phrase.TheVariants.{Command, Text, Definition}
 use Rattle.rows.specs.Table.{reads_under_normal}
 use Rattle.plain_readings.specs.Readings.{Kind, Reads, Arguments, Skips, Reading, lists}
 

@@ -8,7 +8,7 @@ use Rattle.plain_tokens.specs.Names.{means_primitive}
 use Rattle.rows.specs.declared.command.Call.{Call}
 use Rattle.rows.specs.declared.command.Effect.TheVariants.{MakeName}
 use Rattle.rows.specs.Tokens.{is_character}
-use Rattle.rows.specs.Readings.{Fed, Tok, Told, Ask, More, ActsOn, Ends, Tells}
+use Rattle.rows.specs.Readings.{Fed, Tok, Noted, Ask, More, ActsOn, Ends, Tells}
 
 abbrev pub endcsname_primitive : ℕ
 endcsname_primitive = 4
@@ -23,7 +23,7 @@ makes c ts = ActsOn c MakeName ts
 -- another name than `\endcsname` is given back and reported
 abbrev pub endcsname_missing : Call → List Token → List Fed → Ask
 endcsname_missing c ts [] = Tells MissingEndcsname true
-endcsname_missing c ts (Told ∷ fed) = makes c ts
+endcsname_missing c ts (Noted ∷ fed) = makes c ts
 endcsname_missing c ts (y ∷ fed) = Ends
 
 -- behind these characters

@@ -8,12 +8,12 @@ use Rattle.tex_syntax.specs.declared.words.Report.TheVariants.{BadCharacterCode,
 use Rattle.equivalents.specs.declared.values.Loc.{Loc}
 use Rattle.equivalents.specs.Locations.{SeenValue}
 use Rattle.rows.specs.declared.words.Value.{Value}
-use Rattle.rows.specs.declared.words.Kind.{Kind as Begun}
-use Rattle.rows.specs.declared.words.Kind.TheVariants.{Command, Dimension, Glue}
+use Rattle.rows.specs.declared.words.Phrase.{Phrase}
+use Rattle.rows.specs.declared.words.Phrase.TheVariants.{Command, Dimension, Glue}
 use Rattle.rows.specs.declared.command.Call.{Call}
 use Rattle.rows.specs.declared.command.Effect.{Effect}
 use Rattle.rows.specs.declared.command.Effect.TheVariants.{ExpandBehind}
-use Rattle.rows.specs.Readings.{Fed, Tok, Val, Told, Fetched, Ask, More, Inner, Done, Acts, ActsOn, Defines, Ends, Calls, Fails, RunsAway, Tells, Inserts, Puts, Relaxes, Fetches, Magnifies}
+use Rattle.rows.specs.Readings.{Fed, Tok, Val, Noted, Fetched, Ask, More, Inner, Done, Acts, ActsOn, Defines, Ends, Calls, Fails, RunsAway, Tells, Inserts, Puts, Relaxes, Fetches, Magnifies}
 use Rattle.plain_readings.specs.Readings.{Kind, Reads, Behind, ask}
 use Rattle.plain_readings.specs.Laws.{IsRead, after}
 
@@ -56,7 +56,7 @@ fetching_behind (BadRegisterCode n) = 3
 fetching_behind report = 0
 
 -- a reading that begins with a token may begin another with it
-abbrev pub begins_with : Begun → ℕ
+abbrev pub begins_with : Phrase → ℕ
 begins_with (Dimension k) = 81
 begins_with (Glue mu) = 92
 begins_with k = 70
@@ -107,8 +107,8 @@ IsLast a = ⊥
 -- beneath it, and it is one of those that weigh more; one that acts has another begun in its place; where `\expandafter` ends, its token waits, and
 -- perhaps an expansion begins above that; a report's note comes, or that of the check of the magnification; and what stands at a location.
 pub record WeightsFall : Type 0 where
-  pub begun : (k : Kind) (fed : List Fed) (j : Begun) → ask k fed ≡ Inner j false → frame_weight (Reads j) + weight (Reads j) [] < weight k fed
-  pub begun_with : (k : Kind) (fed : List Fed) (j : Begun) (x : Seen) → ask k fed ≡ Inner j true → frame_weight (Reads j) + weight (Reads j) (Tok x ∷ []) < weight k fed
+  pub begun : (k : Kind) (fed : List Fed) (j : Phrase) → ask k fed ≡ Inner j false → frame_weight (Reads j) + weight (Reads j) [] < weight k fed
+  pub begun_with : (k : Kind) (fed : List Fed) (j : Phrase) (x : Seen) → ask k fed ≡ Inner j true → frame_weight (Reads j) + weight (Reads j) (Tok x ∷ []) < weight k fed
   pub valued : (k : Kind) (fed : List Fed) (v : Value) (ts : List Token) → weight k (fed ++ Val v ts ∷ []) < value_frame + value_weight
   pub acted : (k : Kind) (fed : List Fed) → weight k fed < act_frame + act_weight
   pub ends : (k : Kind) (fed : List Fed) → IsLast (ask k fed) → frame_weight k ≡ act_frame
@@ -117,5 +117,5 @@ pub record WeightsFall : Type 0 where
   pub begun_by_act : (k : Kind) → IsRead k → weight k [] < act_weight
   pub waits : (k : Kind) (fed : List Fed) (c d : Call) (x y z : Seen) → ask k fed ≡ Acts c (ExpandBehind x y) → weight (Behind d z) [] < weight k fed
   pub expanded_behind : (k : Kind) (fed : List Fed) (c : Call) (x y : Seen) (j : Kind) → ask k fed ≡ Acts c (ExpandBehind x y) → IsRead j → frame_weight j + weight j [] < weight k fed
-  pub noted : (k : Kind) (fed : List Fed) → IsNoted (ask k fed) → weight k (fed ++ Told ∷ []) < weight k fed
+  pub noted : (k : Kind) (fed : List Fed) → IsNoted (ask k fed) → weight k (fed ++ Noted ∷ []) < weight k fed
   pub fetched : (k : Kind) (fed : List Fed) (l : Loc) (v : SeenValue) → ask k fed ≡ Fetches l → weight k (fed ++ Fetched v ∷ []) < weight k fed

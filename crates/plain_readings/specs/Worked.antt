@@ -20,7 +20,7 @@ use Rattle.rows.specs.declared.words.Datum.TheVariants.{Number}
 use Rattle.rows.specs.declared.words.Datum.TheVariants as datum
 use Rattle.rows.specs.declared.words.Value.TheVariants as value
 use Rattle.rows.specs.declared.words.Keyword.TheVariants.{By, Plus, Minus, Fil, L, True, Em, Ex, Pt}
-use Rattle.rows.specs.declared.words.Kind.TheVariants.{Command, Integer, Factor, Dimension, Glue as GlueOf, Keyword, Text, Definition}
+use Rattle.rows.specs.declared.words.Phrase.TheVariants.{Command, Integer, Factor, Dimension, Glue as GlueOf, Keyword, Text, Definition}
 use Rattle.tex_syntax.specs.declared.words.Scanned.TheVariants as scanned
 use Rattle.rows.specs.declared.command.Effect.TheVariants.{MakeName, StartInput, PutBack, Reach}
 use Rattle.equivalents.specs.declared.values.CodeKind.TheVariants as code
@@ -30,7 +30,7 @@ use Rattle.equivalents.specs.declared.values.Loc.TheVariants as loc
 use Rattle.equivalents.specs.declared.values.Val.TheVariants as val
 use Rattle.equivalents.specs.First.{magnification}
 use Rattle.rows.specs.Worked.{character, primitive, call, asked, number, x, y, x_name, a_letter, a_space}
-use Rattle.rows.specs.Readings.{Fed, Tok, Val, Told, Fetched, Verbatim, Cut, Ask, More, Inner, Done, Acts, ActsOn, Ends, Calls, Fails, RunsAway, Tells, Inserts, Puts, Fetches, Magnifies}
+use Rattle.rows.specs.Readings.{Fed, Tok, Val, Noted, Fetched, Verbatim, Cut, Ask, More, Inner, Done, Acts, ActsOn, Ends, Calls, Fails, RunsAway, Tells, Inserts, Puts, Fetches, Magnifies}
 use Rattle.plain_readings.specs.Integers.{ends_with}
 use Rattle.plain_readings.specs.Keywords.{ends_found}
 use Rattle.plain_readings.specs.Calls.{par_token}
@@ -77,14 +77,14 @@ pub record WorkedIntegers : Type 0 where
 
 -- a letter; '8; ` and a name of two characters; 2147483647, and 2147483648 with one digit more, reported once
 pub record WorkedReports : Type 0 where
-  pub missing : steps (Reads Integer) (Tok a_letter ∷ Told ∷ []) ≡ More Nonblank ∷ Tells MissingNumber true ∷ ends_with (pos 0) false ∷ []
-  pub no_octal : steps (Reads Integer) (others (39 ∷ 56 ∷ []) (Told ∷ [])) ≡ More Nonblank ∷ More Expanded ∷ Tells MissingNumber true ∷ ends_with (pos 0) false ∷ []
-  pub improper : steps (Reads Integer) (others (96 ∷ []) (Tok (primitive 1) ∷ Told ∷ [])) ≡ More Nonblank ∷ More Raw ∷ Tells ImproperConstant true ∷ ends_with (pos 48) false ∷ []
+  pub missing : steps (Reads Integer) (Tok a_letter ∷ Noted ∷ []) ≡ More Nonblank ∷ Tells MissingNumber true ∷ ends_with (pos 0) false ∷ []
+  pub no_octal : steps (Reads Integer) (others (39 ∷ 56 ∷ []) (Noted ∷ [])) ≡ More Nonblank ∷ More Expanded ∷ Tells MissingNumber true ∷ ends_with (pos 0) false ∷ []
+  pub improper : steps (Reads Integer) (others (96 ∷ []) (Tok (primitive 1) ∷ Noted ∷ [])) ≡ More Nonblank ∷ More Raw ∷ Tells ImproperConstant true ∷ ends_with (pos 48) false ∷ []
   pub greatest :
       steps (Reads Integer) (others (50 ∷ 49 ∷ 52 ∷ 55 ∷ 52 ∷ 56 ∷ 51 ∷ 54 ∷ 52 ∷ 55 ∷ []) (Tok a_space ∷ [])) ≡
       More Nonblank ∷ expanded 10 (ends_with (pos 2147483647) false ∷ [])
   pub too_big :
-      steps (Reads Integer) (others (50 ∷ 49 ∷ 52 ∷ 55 ∷ 52 ∷ 56 ∷ 51 ∷ 54 ∷ 52 ∷ 56 ∷ []) (Told ∷ Tok (character other 57) ∷ Tok a_space ∷ [])) ≡
+      steps (Reads Integer) (others (50 ∷ 49 ∷ 52 ∷ 55 ∷ 52 ∷ 56 ∷ 51 ∷ 54 ∷ 52 ∷ 56 ∷ []) (Noted ∷ Tok (character other 57) ∷ Tok a_space ∷ [])) ≡
       More Nonblank ∷ expanded 9 (Tells NumberTooBig false ∷ More Expanded ∷ More Expanded ∷ ends_with (pos 2147483647) false ∷ [])
 
 -- INTERNAL INTEGERS
@@ -125,12 +125,12 @@ pub record WorkedGlue : Type 0 where
   pub skip : steps (Reads Integer) (Tok (primitive 43) ∷ number (pos 0) ∷ Fetched (val.Skip a_glue) ∷ []) ≡ numbers (Fetches (loc.Register register.Skip 0) ∷ ends_with (pos 196608) false ∷ [])
   pub first : steps (Reads Integer) (Tok (primitive 161) ∷ Fetched (val.Skip a_glue) ∷ []) ≡ fetches (loc.Glue 0) (ends_with (pos 196608) false ∷ [])
   pub last : steps (Reads Integer) (Tok (primitive 175) ∷ Fetched (val.Skip a_glue) ∷ []) ≡ fetches (loc.Glue 14) (ends_with (pos 196608) false ∷ [])
-  pub mu : steps (Reads Integer) (Tok (primitive 176) ∷ Fetched (val.Skip a_glue) ∷ Told ∷ []) ≡ fetches (loc.Glue 15) (Tells IncompatibleUnits false ∷ ends_with (pos 196608) false ∷ [])
+  pub mu : steps (Reads Integer) (Tok (primitive 176) ∷ Fetched (val.Skip a_glue) ∷ Noted ∷ []) ≡ fetches (loc.Glue 15) (Tells IncompatibleUnits false ∷ ends_with (pos 196608) false ∷ [])
   pub negative_mu :
-      steps (Reads Integer) (others (45 ∷ []) (Tok (primitive 44) ∷ number (pos 0) ∷ Fetched (val.Skip a_glue) ∷ Told ∷ [])) ≡
+      steps (Reads Integer) (others (45 ∷ []) (Tok (primitive 44) ∷ number (pos 0) ∷ Fetched (val.Skip a_glue) ∷ Noted ∷ [])) ≡
       More Nonblank ∷ numbers (Fetches (loc.Register register.Muskip 0) ∷ Tells IncompatibleUnits false ∷ ends_with (negsuc 196607) false ∷ [])
   pub no_register :
-      steps (Reads Integer) (Tok (primitive 44) ∷ number (pos 256) ∷ Told ∷ Fetched (val.Skip a_glue) ∷ Told ∷ []) ≡
+      steps (Reads Integer) (Tok (primitive 44) ∷ number (pos 256) ∷ Noted ∷ Fetched (val.Skip a_glue) ∷ Noted ∷ []) ≡
       numbers (Tells (BadRegisterCode (pos 256)) false ∷ Fetches (loc.Register register.Muskip 0) ∷ Tells IncompatibleUnits false ∷ ends_with (pos 196608) false ∷ [])
 
 -- `\catcode 65` and `\delcode 255`; `\catcode -1`; names of `\chardef`, of `\mathchardef` behind a sign, and of `\countdef`; `\toks`, the first token
@@ -141,12 +141,12 @@ pub record WorkedMeanings : Type 0 where
   pub delimiter :
       steps (Reads Integer) (Tok (primitive 40) ∷ number (pos 255) ∷ Fetched (val.Number (negsuc 0)) ∷ []) ≡ numbers (Fetches (loc.Code code.Delimiter 255) ∷ ends_with (negsuc 0) false ∷ [])
   pub no_character :
-      steps (Reads Integer) (Tok (primitive 35) ∷ number (negsuc 0) ∷ Told ∷ Fetched (val.Number (pos 9)) ∷ []) ≡
+      steps (Reads Integer) (Tok (primitive 35) ∷ number (negsuc 0) ∷ Noted ∷ Fetched (val.Number (pos 9)) ∷ []) ≡
       numbers (Tells (BadCharacterCode (negsuc 0)) false ∷ Fetches (loc.Code code.Category 0) ∷ ends_with (pos 9) false ∷ [])
   pub chardef : steps (Reads Integer) (named (means.CharGiven 65) ∷ []) ≡ More Nonblank ∷ ends_with (pos 65) false ∷ []
   pub mathchardef : steps (Reads Integer) (others (45 ∷ []) (named (means.MathGiven 32767) ∷ [])) ≡ More Nonblank ∷ More Nonblank ∷ ends_with (negsuc 32766) false ∷ []
   pub countdef : steps (Reads Integer) (named (means.Register register.Count 9) ∷ Fetched (val.Number (pos 4)) ∷ []) ≡ fetches (loc.Register register.Count 9) (ends_with (pos 4) false ∷ [])
-  pub toks : steps (Reads Integer) (Tok (primitive 45) ∷ Told ∷ []) ≡ More Nonblank ∷ Tells MissingNumber true ∷ ends_with (pos 0) false ∷ []
+  pub toks : steps (Reads Integer) (Tok (primitive 45) ∷ Noted ∷ []) ≡ More Nonblank ∷ Tells MissingNumber true ∷ ends_with (pos 0) false ∷ []
   pub everypar : steps (Reads Integer) (Tok (primitive 179) ∷ []) ≡ More Nonblank ∷ Tells MissingNumber true ∷ []
   pub toksdef : steps (Reads Integer) (named (means.Register register.Toks 1) ∷ []) ≡ More Nonblank ∷ Tells MissingNumber true ∷ []
 
@@ -166,7 +166,7 @@ pub record WorkedFactors : Type 0 where
   pub comma : steps (Reads Factor) (others (55 ∷ 44 ∷ []) []) ≡ More Nonblank ∷ expanded 1 (factor_ends (pos 7) true true ∷ [])
   pub octal : steps (Reads Factor) (others (39 ∷ 55 ∷ 46 ∷ []) []) ≡ More Nonblank ∷ expanded 2 (factor_ends (pos 7) false true ∷ [])
   pub space : steps (Reads Factor) (others (49 ∷ []) (Tok a_space ∷ [])) ≡ More Nonblank ∷ expanded 1 (factor_ends (pos 1) false false ∷ [])
-  pub missing : steps (Reads Factor) (Tok a_letter ∷ Told ∷ []) ≡ More Nonblank ∷ Tells MissingNumber true ∷ factor_ends (pos 0) false false ∷ []
+  pub missing : steps (Reads Factor) (Tok a_letter ∷ Noted ∷ []) ≡ More Nonblank ∷ Tells MissingNumber true ∷ factor_ends (pos 0) false false ∷ []
   pub count :
       steps (Reads Factor) (Tok (primitive 41) ∷ number (pos 3) ∷ Fetched (val.Number (pos 7)) ∷ []) ≡
       numbers (Fetches (loc.Register register.Count 3) ∷ factor_ends (pos 7) false false ∷ [])
@@ -196,7 +196,7 @@ a_factor n point = Val (value.Plain (datum.Factor n point)) []
 pub record WorkedDimensions : Type 0 where
   pub magnified :
       steps plain
-      (Tok (character other 49) ∷ a_factor (pos 1) true ∷ others (46 ∷ 53 ∷ []) (Tok (character letter 116) ∷ word false ∷ word false ∷ word true ∷ Told ∷ Fetched (val.Number (pos 2000)) ∷ word true ∷
+      (Tok (character other 49) ∷ a_factor (pos 1) true ∷ others (46 ∷ 53 ∷ []) (Tok (character letter 116) ∷ word false ∷ word false ∷ word true ∷ Noted ∷ Fetched (val.Number (pos 2000)) ∷ word true ∷
       Tok a_space ∷ [])) ≡
       More Nonblank ∷ Inner Factor true ∷ expanded 3 (Inner (Keyword Em) true ∷ Inner (Keyword Ex) false ∷ Inner (Keyword True) false ∷ Magnifies ∷ Fetches (loc.Integer magnification) ∷
       Inner (Keyword Pt) false ∷ More Expanded ∷ dimen_ends (pos 49152) 0 false ∷ [])
@@ -204,10 +204,10 @@ pub record WorkedDimensions : Type 0 where
       steps a_stretch (Tok (character other 50) ∷ a_factor (pos 2) false ∷ word true ∷ word true ∷ word false ∷ Tok a_letter ∷ []) ≡
       More Nonblank ∷ Inner Factor true ∷ Inner (Keyword Fil) false ∷ Inner (Keyword L) false ∷ Inner (Keyword L) false ∷ More Expanded ∷ dimen_ends (pos 131072) 2 true ∷ []
   pub dimen :
-      steps plain (Tok (primitive 42) ∷ number (pos 0) ∷ Fetched (val.Number (pos 1073741824)) ∷ Told ∷ []) ≡
+      steps plain (Tok (primitive 42) ∷ number (pos 0) ∷ Fetched (val.Number (pos 1073741824)) ∷ Noted ∷ []) ≡
       numbers (Fetches (loc.Register register.Dimen 0) ∷ Tells DimensionTooLarge false ∷ dimen_ends (pos 1073741823) 0 false ∷ [])
   pub missing :
-      steps in_mu (Tok (primitive 45) ∷ Told ∷ Told ∷ []) ≡ More Nonblank ∷ Tells MissingNumber true ∷ Tells IncompatibleUnits false ∷ dimen_ends (pos 0) 0 false ∷ []
+      steps in_mu (Tok (primitive 45) ∷ Noted ∷ Noted ∷ []) ≡ More Nonblank ∷ Tells MissingNumber true ∷ Tells IncompatibleUnits false ∷ dimen_ends (pos 0) 0 false ∷ []
 
 -- GLUE
 
@@ -236,7 +236,7 @@ pub record WorkedWholeGlue : Type 0 where
       More Nonblank ∷ numbers (Fetches (loc.Register register.Skip 0) ∷
       glue_ends (record { width = negsuc 196607; stretch = negsuc 65535; stretch_order = 1; shrink = negsuc 1; shrink_order = 0 }) ∷ [])
   pub muskip :
-      steps (Reads (GlueOf false)) (Tok (primitive 44) ∷ number (pos 256) ∷ Told ∷ Fetched (val.Skip a_glue) ∷ Told ∷ []) ≡
+      steps (Reads (GlueOf false)) (Tok (primitive 44) ∷ number (pos 256) ∷ Noted ∷ Fetched (val.Skip a_glue) ∷ Noted ∷ []) ≡
       numbers (Tells (BadRegisterCode (pos 256)) false ∷ Fetches (loc.Register register.Muskip 0) ∷ Tells IncompatibleUnits false ∷ glue_ends a_glue ∷ [])
 
 pub record WorkedMeasures : Type 0 where
@@ -273,17 +273,17 @@ pub record WorkedFound : Type 0 where
 -- `minus`; no list is held
 pub record WorkedGivenBack : Type 0 where
   pub space :
-      steps by_word (letters (98 ∷ []) (Tok a_space ∷ Told ∷ Told ∷ [])) ≡
+      steps by_word (letters (98 ∷ []) (Tok a_space ∷ Noted ∷ Noted ∷ [])) ≡
       More Expanded ∷ More Expanded ∷ Puts a_space.token 1 ∷ Puts (letter_token 98) 0 ∷ ends_found false ∷ []
-  pub space_held : holds by_word (letters (98 ∷ []) (Tok a_space ∷ Told ∷ [])) ≡ [] ∷ [] ∷ [] ∷ [] ∷ []
-  pub digit : steps by_word (others (50 ∷ []) (Told ∷ [])) ≡ More Expanded ∷ Puts (token.Char other 50) 0 ∷ ends_found false ∷ []
-  pub name : steps by_word (Tok implicit_b ∷ Told ∷ []) ≡ More Expanded ∷ Puts implicit_b.token 0 ∷ ends_found false ∷ []
+  pub space_held : holds by_word (letters (98 ∷ []) (Tok a_space ∷ Noted ∷ [])) ≡ [] ∷ [] ∷ [] ∷ [] ∷ []
+  pub digit : steps by_word (others (50 ∷ []) (Noted ∷ [])) ≡ More Expanded ∷ Puts (token.Char other 50) 0 ∷ ends_found false ∷ []
+  pub name : steps by_word (Tok implicit_b ∷ Noted ∷ []) ≡ More Expanded ∷ Puts implicit_b.token 0 ∷ ends_found false ∷ []
   pub fourth :
-      steps (Reads (Keyword Plus)) (letters (112 ∷ 108 ∷ 117 ∷ 97 ∷ []) (Told ∷ Told ∷ Told ∷ Told ∷ [])) ≡
+      steps (Reads (Keyword Plus)) (letters (112 ∷ 108 ∷ 117 ∷ 97 ∷ []) (Noted ∷ Noted ∷ Noted ∷ Noted ∷ [])) ≡
       More Expanded ∷ More Expanded ∷ More Expanded ∷ More Expanded ∷ Puts (letter_token 97) 3 ∷ Puts (letter_token 117) 2 ∷ Puts (letter_token 108) 1 ∷
       Puts (letter_token 112) 0 ∷ ends_found false ∷ []
   pub fifth :
-      steps (Reads (Keyword Minus)) (letters (109 ∷ 105 ∷ 110 ∷ 117 ∷ 116 ∷ []) (Told ∷ [])) ≡
+      steps (Reads (Keyword Minus)) (letters (109 ∷ 105 ∷ 110 ∷ 117 ∷ 116 ∷ []) (Noted ∷ [])) ≡
       More Expanded ∷ More Expanded ∷ More Expanded ∷ More Expanded ∷ More Expanded ∷ Puts (letter_token 116) 4 ∷ Puts (letter_token 117) 3 ∷ []
 
 -- behind the token with which it begins: a `b`, a `y`, and `l` where that is all
@@ -316,10 +316,10 @@ pub record WorkedNames : Type 0 where
   pub empty : steps csname (Tok endcsname ∷ []) ≡ More Expanded ∷ ActsOn (call 56) MakeName [] ∷ []
   pub let_name : steps csname (Tok (record { token = token.Named x_name; meaning = means.Prim 4 }) ∷ []) ≡ More Expanded ∷ ActsOn (call 56) MakeName [] ∷ []
   pub missing :
-      steps csname (Tok a_letter ∷ Tok (primitive 1) ∷ Told ∷ []) ≡
+      steps csname (Tok a_letter ∷ Tok (primitive 1) ∷ Noted ∷ []) ≡
       More Expanded ∷ More Expanded ∷ Tells MissingEndcsname true ∷ ActsOn (call 56) MakeName (a_letter.token ∷ []) ∷ []
   pub missing_held :
-      holds csname (Tok a_letter ∷ Tok (primitive 1) ∷ Told ∷ []) ≡
+      holds csname (Tok a_letter ∷ Tok (primitive 1) ∷ Noted ∷ []) ≡
       ([] ∷ []) ∷ ((a_letter.token ∷ []) ∷ []) ∷ ((a_letter.token ∷ []) ∷ []) ∷ ((a_letter.token ∷ []) ∷ []) ∷ []
 
 -- `\input`
@@ -370,7 +370,7 @@ pub record WorkedSkips : Type 0 where
   pub named : steps (skips (Other true)) (Tok an_if ∷ Tok let_fi ∷ Tok an_or ∷ []) ≡ unentered 3 (reaches (Other true) Or)
   pub goes_on : steps (skips (Other true)) (Tok an_if ∷ Tok an_else ∷ []) ≡ unentered 3 []
   pub once : ask (skips (Other true)) (Tok a_fi ∷ Tok a_letter ∷ Tok an_else ∷ []) ≡ Acts (call 80) (Reach (Other true) Fi)
-  pub senseless : steps (skips (Other true)) (Tok a_letter ∷ Told ∷ []) ≡ unentered 2 (Ends ∷ [])
+  pub unasked : steps (skips (Other true)) (Tok a_letter ∷ Noted ∷ []) ≡ unentered 2 (Ends ∷ [])
   pub held : holds (skips (Other true)) (Tok a_letter ∷ Tok a_fi ∷ []) ≡ [] ∷ [] ∷ [] ∷ []
 
 -- LISTS
@@ -403,7 +403,7 @@ pub record WorkedLists : Type 0 where
   pub entered_held :
       holds (Reads (Text x_name true)) (Tok left ∷ Verbatim left.token ∷ Verbatim parameter_token.token ∷ Tok right ∷ []) ≡
       ([] ∷ []) ∷ ([] ∷ []) ∷ ((left.token ∷ []) ∷ []) ∷ ((left.token ∷ parameter_token.token ∷ []) ∷ []) ∷ ((left.token ∷ parameter_token.token ∷ []) ∷ []) ∷ []
-  pub brace : steps (Reads (Text x_name true)) (Tok a_letter ∷ Told ∷ Tok right ∷ []) ≡ More want.Command ∷ Tells MissingBrace true ∷ More Copied ∷ Done value.List false ∷ []
+  pub brace : steps (Reads (Text x_name true)) (Tok a_letter ∷ Noted ∷ Tok right ∷ []) ≡ More want.Command ∷ Tells MissingBrace true ∷ More Copied ∷ Done value.List false ∷ []
   pub message_held : holds (Reads (Command (call 9))) (Val value.List (a_letter.token ∷ []) ∷ []) ≡ [] ∷ ((a_letter.token ∷ []) ∷ []) ∷ []
   pub empty_message_held : holds (Reads (Command (call 9))) (Val value.List [] ∷ []) ≡ [] ∷ [] ∷ []
   pub number_held : holds (Reads (Command (call 57))) (Val (value.Plain (Number (pos 7))) (a_letter.token ∷ []) ∷ []) ≡ [] ∷ [] ∷ []
@@ -444,7 +444,7 @@ pub record WorkedCalls : Type 0 where
       ([] ∷ []) ∷ ([] ∷ (a_token ∷ []) ∷ []) ∷ ((b_token ∷ []) ∷ (a_token ∷ []) ∷ []) ∷ ((b_token ∷ []) ∷ (a_token ∷ []) ∷ []) ∷ []
   pub empty : steps two_places (Tok a_letter ∷ Tok (character other 46) ∷ []) ≡ More Raw ∷ More Raw ∷ Calls ((a_token ∷ []) ∷ [] ∷ []) ∷ []
   pub empty_held : holds two_places (Tok a_letter ∷ Tok (character other 46) ∷ []) ≡ ([] ∷ []) ∷ ([] ∷ (a_token ∷ []) ∷ []) ∷ ((a_token ∷ []) ∷ []) ∷ []
-  pub extra : steps two_places (Tok a_letter ∷ Tok right ∷ Told ∷ []) ≡ More Raw ∷ More Raw ∷ Inserts par_token (ExtraBrace x_name) true ∷ More Raw ∷ []
+  pub extra : steps two_places (Tok a_letter ∷ Tok right ∷ Noted ∷ []) ≡ More Raw ∷ More Raw ∷ Inserts par_token (ExtraBrace x_name) true ∷ More Raw ∷ []
   pub paragraph : steps two_places (Tok (primitive 5) ∷ []) ≡ More Raw ∷ RunsAway (ParagraphEnded x_name) ∷ []
   pub checked : steps two_places (Tok a_letter ∷ Cut ∷ Tok (primitive 5) ∷ []) ≡ More Raw ∷ More Raw ∷ More Raw ∷ Ends ∷ []
   pub checked_held : holds two_places (Tok a_letter ∷ Cut ∷ []) ≡ ([] ∷ []) ∷ ([] ∷ (a_token ∷ []) ∷ []) ∷ ([] ∷ (a_token ∷ []) ∷ []) ∷ []

@@ -25,7 +25,7 @@ pub record Body : Type 0 where
 -- list behind \the.
 pub data Fed : Type 0 where
   Tok : Seen → Fed
-  Told : Fed
+  Noted : Fed
   Given : List Token → Fed
 
 -- What it answers, each time with the list in work: that it wants a token; a report, before which the last token may be
@@ -86,7 +86,7 @@ number_want m = if m.expanded then Expanded else Raw
 abbrev mutual
   pub body : Manner → Body → (depth : ℕ) → (list : List Token) → List Fed → Answer
   body m b depth list [] = More (body_want m) list
-  body m b depth list (Told ∷ fed) = body m b depth list fed
+  body m b depth list (Noted ∷ fed) = body m b depth list fed
   body m b depth list (Given ts ∷ fed) = body m b depth (list ++ ts) fed
   body m b depth list (Tok x ∷ fed) =
       if has_category begin_group x.token then body m b (depth + 1) (list ++ x.token ∷ []) fed
@@ -96,7 +96,7 @@ abbrev mutual
 
   pub reference : Manner → Body → (depth : ℕ) → (character : Token) → (list : List Token) → List Fed → Answer
   reference m b depth character list [] = More (number_want m) list
-  reference m b depth character list (Told ∷ fed) = reference m b depth character list fed
+  reference m b depth character list (Noted ∷ fed) = reference m b depth character list fed
   reference m b depth character list (Given ts ∷ fed) = reference m b depth character list fed
   reference m b depth character list (Tok y ∷ fed) =
       if is_parameter y then body m b depth (list ++ y.token ∷ []) fed
@@ -105,7 +105,7 @@ abbrev mutual
 
   pub illegal : Manner → Body → (depth : ℕ) → (character : Token) → (list : List Token) → List Fed → Answer
   illegal m b depth character list [] = Tells (IllegalNumber m.name) true list
-  illegal m b depth character list (Told ∷ fed) = body m b depth (list ++ character ∷ []) fed
+  illegal m b depth character list (Noted ∷ fed) = body m b depth (list ++ character ∷ []) fed
   illegal m b depth character list (Given ts ∷ fed) = illegal m b depth character list fed
   illegal m b depth character list (Tok y ∷ fed) = illegal m b depth character list fed
 
@@ -117,7 +117,7 @@ macro_body count brace = record { places = Some count; brace = brace }
 -- where `}` comes in place of the body: the body is empty
 abbrev pub no_body : (list : List Token) → List Fed → Answer
 no_body list [] = Tells MissingBrace false list
-no_body list (Told ∷ fed) = Done list
+no_body list (Noted ∷ fed) = Done list
 no_body list (Given ts ∷ fed) = no_body list fed
 no_body list (Tok x ∷ fed) = no_body list fed
 
@@ -126,7 +126,7 @@ no_body list (Tok x ∷ fed) = no_body list fed
 abbrev mutual
   pub parameters : Manner → (count : ℕ) → (list : List Token) → List Fed → Answer
   parameters m count list [] = More Raw list
-  parameters m count list (Told ∷ fed) = parameters m count list fed
+  parameters m count list (Noted ∷ fed) = parameters m count list fed
   parameters m count list (Given ts ∷ fed) = parameters m count list fed
   parameters m count list (Tok x ∷ fed) =
       if has_category begin_group x.token then body m (macro_body count None) 0 (list ++ EndPlaces ∷ []) fed
@@ -136,7 +136,7 @@ abbrev mutual
 
   pub place : Manner → (count character : ℕ) → (list : List Token) → List Fed → Answer
   place m count character list [] = More Raw list
-  place m count character list (Told ∷ fed) = place m count character list fed
+  place m count character list (Noted ∷ fed) = place m count character list fed
   place m count character list (Given ts ∷ fed) = place m count character list fed
   place m count character list (Tok y ∷ fed) =
       if has_category begin_group y.token then body m (macro_body count (Some y.token)) 0 ((list ++ y.token ∷ []) ++ EndPlaces ∷ []) fed
@@ -146,13 +146,13 @@ abbrev mutual
 
   pub tenth : Manner → (count : ℕ) → (list : List Token) → List Fed → Answer
   tenth m count list [] = Tells AlreadyNine false list
-  tenth m count list (Told ∷ fed) = parameters m count list fed
+  tenth m count list (Noted ∷ fed) = parameters m count list fed
   tenth m count list (Given ts ∷ fed) = tenth m count list fed
   tenth m count list (Tok y ∷ fed) = tenth m count list fed
 
   pub misnumbered : Manner → (count character : ℕ) → (list : List Token) → List Fed → Answer
   misnumbered m count character list [] = Tells NotConsecutive true list
-  misnumbered m count character list (Told ∷ fed) = parameters m count (list ++ Place character ∷ []) fed
+  misnumbered m count character list (Noted ∷ fed) = parameters m count (list ++ Place character ∷ []) fed
   misnumbered m count character list (Given ts ∷ fed) = misnumbered m count character list fed
   misnumbered m count character list (Tok y ∷ fed) = misnumbered m count character list fed
 
@@ -168,13 +168,13 @@ text_body = record { places = None; brace = None }
 
 abbrev pub missing : Manner → (list : List Token) → List Fed → Answer
 missing m list [] = Tells MissingBrace true list
-missing m list (Told ∷ fed) = body m text_body 0 list fed
+missing m list (Noted ∷ fed) = body m text_body 0 list fed
 missing m list (Given ts ∷ fed) = missing m list fed
 missing m list (Tok x ∷ fed) = missing m list fed
 
 abbrev pub first : Manner → (list : List Token) → List Fed → Answer
 first m list [] = More Command list
-first m list (Told ∷ fed) = first m list fed
+first m list (Noted ∷ fed) = first m list fed
 first m list (Given ts ∷ fed) = first m list fed
 first m list (Tok x ∷ fed) =
     if means_category begin_group x.meaning then body m text_body 0 list fed

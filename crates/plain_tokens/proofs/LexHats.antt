@@ -4,7 +4,7 @@ use Rattle.std.specs.Prelude.{slice_index}
 use Rattle.std.proofs.lemmas.Grind.{common_steps}
 use Rattle.plain_tokens.specs.Categories.{superscript}
 use Rattle.plain_tokens.specs.Lex.{LineState, headed, has_hats, behind_hats, shifted, is_hexadecimal, hexadecimal_code, by_head, lexed}
-use Rattle.plain_tokens.specs.LexLaws.{NoDigits, HatsStandFor}
+use Rattle.plain_tokens.specs.LexLaws.{NoDigits, HatsAreReplaced}
 use Rattle.plain_tokens.proofs.Heads.{headed_hats}
 use Rattle.plain_tokens.proofs.LexRuns.{lexed_by_head}
 
@@ -35,8 +35,8 @@ module _ (cats : List ℕ) (state : LineState) (hat : ℕ) (is : slice_index cat
       ap (by_head cats state (lexed cats state)) (headed_hats cats (hat ∷ hat ∷ c ∷ line) (hats_here c line h) ∙ ap (headed cats) e) ∙
       sym (lexed_by_head cats state short)
 
-  pub stand_for : HatsStandFor cats state hat
-  stand_for = record {
+  pub replaced : HatsAreReplaced cats state hat
+  replaced = record {
     hexadecimal = λ c d line h i. lexed_short c (d ∷ line) (hexadecimal_code c d ∷ line) (hexadecimal_small c h) (behind_digits c d line h i);
     above = λ c line h n. lexed_short c line ((c + 64) ∷ line) (omega arith) (behind_shifted c line n ∙ ap (λ (x : ℕ). x ∷ line) (shifted_above c h));
     below = λ c line h i n. lexed_short c line ((c - 64) ∷ line) i (behind_shifted c line n ∙ ap (λ (x : ℕ). x ∷ line) (shifted_below c h));

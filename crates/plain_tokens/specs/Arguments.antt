@@ -148,6 +148,11 @@ pub data Case : Type 0 where
   -- none of these
   Going : Case
 
+-- how the call of a macro begins
+abbrev pub mode_of : (long : Bool) → ParMode
+mode_of true = Long
+mode_of false = Short
+
 -- whether a `\par` may end the call: the macro isn't \long, or counts as not \long since a check
 abbrev pub is_short : ParMode → Bool
 is_short Long = false
@@ -218,7 +223,7 @@ places_of text = take 9 (delimiters_of text)
 pub data Fed : Type 0 where
   Tok : Token → Fed
   Cut : Fed
-  Settled : Fed
+  Noted : Fed
 
 -- What it answers, with the arguments that are gathered and the list in work, where a place is reached: more is needed; an
 -- extra `}` came; all arguments are there; the tokens before the first place don't match; a `\par` ended it, silently where
@@ -251,7 +256,7 @@ pub data Found : Type 0 where
 abbrev pub search : List Token → (braced : Bool) → ParMode → (kept t : List Token) → List Fed → Found
 search ds braced mode kept t [] = Sought braced (in_work ds kept t)
 search ds braced mode kept t (Cut ∷ fed) = search ds false Checked kept t fed
-search ds braced mode kept t (Settled ∷ fed) = search ds false mode kept t fed
+search ds braced mode kept t (Noted ∷ fed) = search ds false mode kept t fed
 search ds braced mode kept t (Tok x ∷ fed) =
     elim (case_at ds mode kept t x) [
       | Argument a ↦ Gathered mode a fed
@@ -287,7 +292,7 @@ abbrev pub call : ParMode → (start : List Token) → (places : List (List Toke
 call mode [] places fed = arguments mode [] places fed
 call mode (d ∷ ds) places [] = More [] None
 call mode (d ∷ ds) places (Cut ∷ fed) = call Checked (d ∷ ds) places fed
-call mode (d ∷ ds) places (Settled ∷ fed) = call mode (d ∷ ds) places fed
+call mode (d ∷ ds) places (Noted ∷ fed) = call mode (d ∷ ds) places fed
 call mode (d ∷ ds) places (Tok x ∷ fed) = if same x d then call mode ds places fed else Mismatch
 
 -- what the call of a macro with this list answers

@@ -20,14 +20,14 @@ NoDigits c (d ∷ line) = (is_hexadecimal c && is_hexadecimal d) ≡ false
 
 -- Behind two equal superscript characters: two hexadecimal digits are the code of a character, before all
 -- else; another code below 64 stands for the one 64 above, and one from 64 to 127 for the one 64 below.
-pub record HatsStandFor (categories : List ℕ) (state : LineState) (hat : ℕ) : Type 0 where
+pub record HatsAreReplaced (categories : List ℕ) (state : LineState) (hat : ℕ) : Type 0 where
   pub hexadecimal : (c d : ℕ) (line : List ℕ) → is_hexadecimal c ≡ true → is_hexadecimal d ≡ true →
       lexed categories state (hat ∷ hat ∷ c ∷ d ∷ line) ≡ lexed categories state ((16 * hexadecimal_value c + hexadecimal_value d) ∷ line)
   pub above : (c : ℕ) (line : List ℕ) → c < 64 → NoDigits c line → lexed categories state (hat ∷ hat ∷ c ∷ line) ≡ lexed categories state ((c + 64) ∷ line)
   pub below : (c : ℕ) (line : List ℕ) → 64 ≤ c → c < 128 → NoDigits c line → lexed categories state (hat ∷ hat ∷ c ∷ line) ≡ lexed categories state ((c - 64) ∷ line)
 
 abbrev pub DoubleHats : Type 0
-DoubleHats = (categories : List ℕ) (state : LineState) (hat : ℕ) → slice_index categories hat ≡ superscript → HatsStandFor categories state hat
+DoubleHats = (categories : List ℕ) (state : LineState) (hat : ℕ) → slice_index categories hat ≡ superscript → HatsAreReplaced categories state hat
 
 -- no letter comes next
 abbrev pub NoLetterNext : List ℕ → List ℕ → Type 0

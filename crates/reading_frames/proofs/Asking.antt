@@ -2,7 +2,7 @@
 use Rattle.std.proofs.Common.{Bool, List, [], ◌∷◌}
 use Rattle.tex_syntax.specs.declared.words.Want.{Want}
 use Rattle.rows.specs.declared.words.Datum.{Datum}
-use Rattle.rows.specs.declared.words.Kind.{Kind}
+use Rattle.rows.specs.declared.words.Phrase.{Phrase}
 use Rattle.rows.specs.declared.stage.Stage.{Stage}
 use Rattle.rows.specs.declared.stage.Start.{Start}
 use Rattle.rows.specs.declared.stage.Start.TheVariants.{Looks, Begins}
@@ -12,7 +12,7 @@ use Rattle.rows.specs.declared.command.Effect.{Effect}
 use Rattle.rows.specs.Readings.{Fed, Ask, More, Inner, Acts}
 use Rattle.rows.specs.Run.{due, started, behind, run}
 use Rattle.rows.specs.Stages.{start}
-use Rattle.rows.specs.Effects.{effect_of}
+use Rattle.rows.specs.Effects.{command_effect}
 use Rattle.rows.specs.Table.{stages_left}
 use Rattle.row_frames.specs.declared.frame.RowFrame.{RowFrame}
 use Rattle.row_frames.specs.declared.turn.Kept.{Kept}
@@ -23,7 +23,7 @@ use Rattle.row_frames.specs.Resumes.{within, resume_row, turn_of, resume}
 module _
     (P : Ask → Type 0)
     (more : (want : Want) → P (More want))
-    (begin : (k : Kind) (begins : Bool) → P (Inner k begins))
+    (begin : (k : Phrase) (begins : Bool) → P (Inner k begins))
     (act : (c : Call) (e : Effect) → P (Acts c e))
     (note_due : (n : Note) → P (due n))
   where
@@ -41,7 +41,7 @@ module _
       within_asks s (kept.Retrying d want n) = note_due n
 
     row_asks : (turn : Call → List Fed → Ask) (c : Call) (ss : List Stage) (ds : List Datum) (k : Kept) → P (resume_row turn c ss ds k [])
-    row_asks turn c [] ds k = act c (effect_of c ds)
+    row_asks turn c [] ds k = act c (command_effect c ds)
     row_asks turn c (s ∷ ss) ds k = within_asks turn c ds (λ es more. run turn c ss es more) s k
 
     pub frame_asks : (f : RowFrame) → P (resume f [])

@@ -1,7 +1,7 @@
 -- The groups that are open in the list on top.
 use Rattle.std.proofs.Common.{◌≤◌, List, [], ◌∷◌, length, arith}
 use Rattle.reading_frames.specs.Views.{Lists, top_list}
-use Rattle.reading_frames.specs.Stands.{AreShallow}
+use Rattle.reading_frames.specs.Frames.{AreShallow}
 use Rattle.reading_frames.specs.Stack.{innermost_groups}
 use Rattle.reading_frames.specs.declared.frame.Frame.{Frame}
 

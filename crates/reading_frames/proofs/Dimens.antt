@@ -14,7 +14,7 @@ use Rattle.rows.specs.Tokens.{is_at_most}
 use Rattle.rows.specs.Arithmetic.{measured}
 use Rattle.plain_readings.specs.declared.measures.Quantity.{Quantity}
 use Rattle.plain_readings.specs.declared.measures.Measure.{Measure}
-use Rattle.plain_readings.specs.Dimens.{Inner, Factor, Number, Key, Fed, Factored, Numbered, Found, Told, Fetched, Answer, More, Begins, Fetches, Magnifies, Tells, Done, physical, magnification_in, magnified_amount, by_magnification, by_unit, finished, valued, fil_or_not, unit_sought, unit_behind, turned, factor_read, with_factor, longer, with_number, is_integer_at, times}
+use Rattle.plain_readings.specs.Dimens.{Inner, Factor, Number, Key, Fed, Factored, Numbered, Found, Noted, Fetched, Answer, More, Begins, Fetches, Magnifies, Tells, Done, physical, magnification_in, magnified_amount, by_magnification, by_unit, finished, valued, fil_or_not, unit_sought, unit_behind, turned, factor_read, with_factor, longer, with_number, is_integer_at, times}
 use Rattle.plain_readings.specs.Measures.{dimen_ask, dimen_value}
 use Rattle.plain_readings.specs.Weights.{value_weight, ask_weight, IsNoted}
 use Rattle.scan_dimens.specs.DimenResumes.{resume_at, resume, onward}
@@ -106,36 +106,36 @@ unit_unnoted negative a (u ∷ us) h = h
 abbrev Falls : (old new : Answer) → Type 0
 Falls old new = IsNoted (dimen_ask old) → answer_weight new < answer_weight old
 
-told_at : (k : DimenKind) (negative : Bool) (p : DimenPlace) → Falls (resume_at k negative p []) (resume_at k negative p (Told ∷ []))
-told_at k negative place.Signs h = absurd h
-told_at k negative place.Factor h = absurd h
-told_at k negative (place.Point n) h = absurd h
-told_at k negative (place.Fraction n ds) h = absurd h
-told_at k negative (place.Numbered s b) h = absurd h
-told_at k negative (place.BadNumber s (bank.Codes c) n) h = omega arith
-told_at k negative (place.BadNumber s (bank.Registers c) n) h = omega arith
-told_at k negative (place.Fetching s l) h = absurd h
-told_at k negative (place.Incompatible v) h = omega (arith, finished_light negative v)
-told_at k negative place.NoNumber h = omega (arith, valued_light k.mu false negative (Some (pos 0)))
-told_at k negative (place.Fil a begins) h = absurd h
-told_at k negative (place.Longer a order) h = absurd h
-told_at k negative (place.TooLong a order) h = omega arith
-told_at k negative (place.UnitSought a) h = absurd h
-told_at k negative (place.Mu a) h = absurd h
-told_at k negative (place.Em a) h = absurd h
-told_at k negative (place.Ex a) h = absurd h
-told_at k negative (place.True a) h = absurd h
-told_at k negative (place.Magnification a) h = omega arith
-told_at k negative (place.MagnificationFetched a) h = absurd h
-told_at k negative (place.Physical n a) h = absurd (unit_unnoted negative a (drop n physical) h)
-told_at k negative (place.ScaledPoints a) h = absurd h
-told_at k negative (place.Illegal unit v) h = omega arith
-told_at k negative (place.Space v order) h = absurd h
-told_at k negative (place.TooLarge order back) h = omega arith
-told_at k negative (place.Ended n order back) h = absurd h
+noted_at : (k : DimenKind) (negative : Bool) (p : DimenPlace) → Falls (resume_at k negative p []) (resume_at k negative p (Noted ∷ []))
+noted_at k negative place.Signs h = absurd h
+noted_at k negative place.Factor h = absurd h
+noted_at k negative (place.Point n) h = absurd h
+noted_at k negative (place.Fraction n ds) h = absurd h
+noted_at k negative (place.Numbered s b) h = absurd h
+noted_at k negative (place.BadNumber s (bank.Codes c) n) h = omega arith
+noted_at k negative (place.BadNumber s (bank.Registers c) n) h = omega arith
+noted_at k negative (place.Fetching s l) h = absurd h
+noted_at k negative (place.Incompatible v) h = omega (arith, finished_light negative v)
+noted_at k negative place.NoNumber h = omega (arith, valued_light k.mu false negative (Some (pos 0)))
+noted_at k negative (place.Fil a begins) h = absurd h
+noted_at k negative (place.Longer a order) h = absurd h
+noted_at k negative (place.TooLong a order) h = omega arith
+noted_at k negative (place.UnitSought a) h = absurd h
+noted_at k negative (place.Mu a) h = absurd h
+noted_at k negative (place.Em a) h = absurd h
+noted_at k negative (place.Ex a) h = absurd h
+noted_at k negative (place.True a) h = absurd h
+noted_at k negative (place.Magnification a) h = omega arith
+noted_at k negative (place.MagnificationFetched a) h = absurd h
+noted_at k negative (place.Physical n a) h = absurd (unit_unnoted negative a (drop n physical) h)
+noted_at k negative (place.ScaledPoints a) h = absurd h
+noted_at k negative (place.Illegal unit v) h = omega arith
+noted_at k negative (place.Space v order) h = absurd h
+noted_at k negative (place.TooLarge order back) h = omega arith
+noted_at k negative (place.Ended n order back) h = absurd h
 
-pub dimension_told : (s : DimenScan) → IsNoted (dimen_ask (resume s [])) → answer_weight (resume s (Told ∷ [])) < answer_weight (resume s [])
-dimension_told s h = told_at s.kind s.negative s.place h
+pub dimension_noted : (s : DimenScan) → IsNoted (dimen_ask (resume s [])) → answer_weight (resume s (Noted ∷ [])) < answer_weight (resume s [])
+dimension_noted s h = noted_at s.kind s.negative s.place h
 
 -- BEHIND WHAT STANDS AT A LOCATION
 

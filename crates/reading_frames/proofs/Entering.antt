@@ -12,7 +12,7 @@ use Rattle.plain_readings.specs.Readings.{Reading, ask}
 use Rattle.plain_readings.proofs.Entering as readings
 use Rattle.reading_frames.specs.Views.{Lists}
 use Rattle.reading_frames.specs.Resumes.{resume, name_at, file_at, list_count}
-use Rattle.reading_frames.specs.Stands.{FrameStands, FramesStand, GoesOn, AreShallow}
+use Rattle.reading_frames.specs.Frames.{IsFrameOf, AreFramesOf, GoesOn, AreShallow}
 use Rattle.reading_frames.specs.Stack.{AsksCopied, asks_in, Enters}
 use Rattle.reading_frames.specs.declared.command.CommandScan.TheVariants as command
 use Rattle.reading_frames.specs.declared.frame.Frame.{Frame}
@@ -63,10 +63,10 @@ module _ (list : List Token) (held : Lists) (t : Token) where
   takes f n e = absurd (omega (arith, n))
 
 -- the reading asks for a token that is copied too
-reading_asks : (f : Frame) (held : Lists) (r : Reading) → FrameStands f held r → resume f held [] ≡ More Copied → ask r.kind r.fed ≡ More Copied
+reading_asks : (f : Frame) (held : Lists) (r : Reading) → IsFrameOf f held r → resume f held [] ≡ More Copied → ask r.kind r.fed ≡ More Copied
 reading_asks f held r stands e = ap (ask r.kind) (sym (append-nil r.fed)) ∙ stands.goes_on [] ∙ e
 
-enters_above : (f : Frame) (fs : List Frame) (held : Lists) (r : Reading) (rs : List Reading) (t : Token) → list_count f ≡ 1 → FramesStand (f ∷ fs) held (r ∷ rs) → resume f held [] ≡ More Copied →
+enters_above : (f : Frame) (fs : List Frame) (held : Lists) (r : Reading) (rs : List Reading) (t : Token) → list_count f ≡ 1 → AreFramesOf (f ∷ fs) held (r ∷ rs) → resume f held [] ≡ More Copied →
     Enters (f ∷ fs) held (r ∷ rs) t
 enters_above f fs [] r rs t n stands e = absurd (omega (arith, n, stands.0.holds))
 enters_above f fs (list ∷ held) r rs t n stands e =
@@ -80,7 +80,7 @@ enters_above f fs (list ∷ held) r rs t n stands e =
       shallow = λ s. (omega (arith, s.0, length-append list (t ∷ [])), subst (λ (l : Lists). AreShallow fs l) (sym on.beneath) s.1);
     }
 
-pub enters : (fs : List Frame) (held : Lists) (work : List Reading) (t : Token) → FramesStand fs held work → AsksCopied (asks_in fs held) → Enters fs held work t
+pub enters : (fs : List Frame) (held : Lists) (work : List Reading) (t : Token) → AreFramesOf fs held work → AsksCopied (asks_in fs held) → Enters fs held work t
 enters [] held work t stands e = absurd cc
 enters (f ∷ fs) held [] t stands e = absurd stands
 enters (f ∷ fs) held (r ∷ rs) t stands e =

@@ -5,7 +5,7 @@ use Rattle.equivalents.specs.Locations.{SeenValue}
 use Rattle.rows.specs.declared.words.Datum.TheVariants as datum
 use Rattle.rows.specs.declared.words.Value.{Value}
 use Rattle.rows.specs.declared.words.Value.TheVariants as value
-use Rattle.rows.specs.Readings.{Tok, Told, Fetched, Ask, Done}
+use Rattle.rows.specs.Readings.{Tok, Noted, Fetched, Ask, Done}
 use Rattle.plain_readings.specs.Integers.{integer, is_digit}
 use Rattle.plain_readings.specs.Factors.{is_point, as_factor}
 use Rattle.plain_readings.specs.Weights.{value_weight, ask_weight, IsNoted}
@@ -14,7 +14,7 @@ use Rattle.scan_numbers.specs.FactorResumes.{resume_at, resume_factor}
 use Rattle.scan_numbers.specs.declared.number.NumberScan.{NumberScan}
 use Rattle.scan_numbers.specs.declared.factor.FactorScan.{FactorScan}
 use Rattle.reading_frames.specs.Weights.{IsEnd}
-use Rattle.reading_frames.proofs.Integers.{Most, signs_fed, integer_light, integer_fed, integer_told, integer_fetched, integer_unended}
+use Rattle.reading_frames.proofs.Integers.{Most, signs_fed, integer_light, integer_fed, integer_noted, integer_fetched, integer_unended}
 
 done_weight : (decimal point : Bool) (v : Value) (back : Bool) → ask_weight value_weight (as_factor decimal point (Done v back)) ≡ value_weight
 done_weight decimal point (value.Plain (datum.Number n)) back = refl
@@ -59,14 +59,14 @@ fed_at (Some decimal) point s x = omega (arith, weighs decimal (is_point x) (num
 pub factor_fed : (s : FactorScan) (x : Seen) → Most 59 (resume_factor s (Tok x ∷ []))
 factor_fed s x = fed_at s.decimal s.point s.scan x
 
-told_at : (o : Option Bool) (point : Bool) (s : NumberScan) → IsNoted (resume_at o point s []) →
-    ask_weight value_weight (resume_at o point s (Told ∷ [])) < ask_weight value_weight (resume_at o point s [])
-told_at None point s h = absurd h
-told_at (Some decimal) point s h =
-    omega (arith, weighs decimal point (number.resume s []), weighs decimal false (number.resume s (Told ∷ [])), integer_told s (noted decimal point (number.resume s []) h))
+noted_at : (o : Option Bool) (point : Bool) (s : NumberScan) → IsNoted (resume_at o point s []) →
+    ask_weight value_weight (resume_at o point s (Noted ∷ [])) < ask_weight value_weight (resume_at o point s [])
+noted_at None point s h = absurd h
+noted_at (Some decimal) point s h =
+    omega (arith, weighs decimal point (number.resume s []), weighs decimal false (number.resume s (Noted ∷ [])), integer_noted s (noted decimal point (number.resume s []) h))
 
-pub factor_told : (s : FactorScan) → IsNoted (resume_factor s []) → ask_weight value_weight (resume_factor s (Told ∷ [])) < ask_weight value_weight (resume_factor s [])
-factor_told s h = told_at s.decimal s.point s.scan h
+pub factor_noted : (s : FactorScan) → IsNoted (resume_factor s []) → ask_weight value_weight (resume_factor s (Noted ∷ [])) < ask_weight value_weight (resume_factor s [])
+factor_noted s h = noted_at s.decimal s.point s.scan h
 
 fetched_at : (o : Option Bool) (point : Bool) (s : NumberScan) (v : SeenValue) → Most 58 (resume_at o point s (Fetched v ∷ []))
 fetched_at None point s v = omega arith

@@ -3,15 +3,15 @@ use Rattle.std.proofs.Common.{List, [], ◌∷◌, sym, ◌∙◌, append_assoc,
 use Rattle.rows.specs.Readings.{Fed}
 use Rattle.plain_readings.specs.Readings.{Kind, Reading, opened, fed_with}
 use Rattle.reading_frames.specs.Views.{Lists}
-use Rattle.reading_frames.specs.Stands.{FramesStand, Begins, GoesOn}
+use Rattle.reading_frames.specs.Frames.{AreFramesOf, Begins, GoesOn}
 use Rattle.reading_frames.specs.declared.frame.Frame.{Frame}
 
-pub begun : (k : Kind) (f : Frame) (fs : List Frame) (held new : Lists) (work : List Reading) → Begins k f held new → FramesStand fs held work → FramesStand (f ∷ fs) new (opened k work)
+pub begun : (k : Kind) (f : Frame) (fs : List Frame) (held new : Lists) (work : List Reading) → Begins k f held new → AreFramesOf fs held work → AreFramesOf (f ∷ fs) new (opened k work)
 begun k f fs held new work b stands =
-    (record { goes_on = b.asks; builds_on = b.lists_are; holds = b.holds; checks = b.checks; framed = b.framed }, subst (λ (l : Lists). FramesStand fs l work) (sym b.beneath) stands)
+    (record { goes_on = b.asks; builds_on = b.lists_are; holds = b.holds; checks = b.checks; framed = b.framed }, subst (λ (l : Lists). AreFramesOf fs l work) (sym b.beneath) stands)
 
 pub fed_on : (old new : Frame) (fs : List Frame) (held held' : Lists) (y : Fed) (work : List Reading) →
-    GoesOn old new held held' y → FramesStand (old ∷ fs) held work → FramesStand (new ∷ fs) held' (fed_with y work)
+    GoesOn old new held held' y → AreFramesOf (old ∷ fs) held work → AreFramesOf (new ∷ fs) held' (fed_with y work)
 fed_on old new fs held held' y [] on stands = absurd stands
 fed_on old new fs held held' y (r ∷ rs) on stands = (
   record {
@@ -21,5 +21,5 @@ fed_on old new fs held held' y (r ∷ rs) on stands = (
     checks = stands.0.checks ∙ sym on.checks;
     framed = stands.0.framed;
   },
-  subst (λ (l : Lists). FramesStand fs l rs) (sym on.beneath) stands.1,
+  subst (λ (l : Lists). AreFramesOf fs l rs) (sym on.beneath) stands.1,
 )

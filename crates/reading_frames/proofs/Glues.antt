@@ -11,7 +11,7 @@ use Rattle.rows.specs.declared.internal.Bank.TheVariants as bank
 use Rattle.rows.specs.Internal.{is_mu}
 use Rattle.rows.specs.Tokens.{is_at_most}
 use Rattle.rows.specs.Arithmetic.{glue_at}
-use Rattle.plain_readings.specs.Glues.{Measured, Numbered, Found, Told, Fetched, Answer, More, Begins, Fetches, Tells, Done, is_part, with_number, valued, signed_glue}
+use Rattle.plain_readings.specs.Glues.{Measured, Numbered, Found, Noted, Fetched, Answer, More, Begins, Fetches, Tells, Done, is_part, with_number, valued, signed_glue}
 use Rattle.plain_readings.specs.Measures.{glue_ask, glue_value}
 use Rattle.plain_readings.specs.Weights.{value_weight, ask_weight, IsNoted}
 use Rattle.scan_glue.specs.GlueResumes.{resume_at, resume}
@@ -52,22 +52,22 @@ glue_light s = light_at s.mu s.negative s.place
 
 -- BEHIND A NOTE
 
-told_at : (mu negative : Bool) (p : GluePlace) → IsNoted (glue_ask (resume_at mu negative p [])) → answer_weight (resume_at mu negative p (Told ∷ [])) < answer_weight (resume_at mu negative p [])
-told_at mu negative place.Signs h = absurd h
-told_at mu negative (place.Numbered b) h = absurd h
-told_at mu negative (place.BadNumber (bank.Codes c) n) h = omega arith
-told_at mu negative (place.BadNumber (bank.Registers c) n) h = omega arith
-told_at mu negative (place.Fetching l) h = absurd h
-told_at mu negative (place.Incompatible g) h = omega arith
-told_at mu negative place.Width h = absurd h
-told_at mu negative (place.Plus g) h = absurd h
-told_at mu negative (place.Stretch g) h = absurd h
-told_at mu negative (place.Minus g) h = absurd h
-told_at mu negative (place.Shrink g) h = absurd h
-told_at mu negative (place.Ended g internal) h = absurd h
+noted_at : (mu negative : Bool) (p : GluePlace) → IsNoted (glue_ask (resume_at mu negative p [])) → answer_weight (resume_at mu negative p (Noted ∷ [])) < answer_weight (resume_at mu negative p [])
+noted_at mu negative place.Signs h = absurd h
+noted_at mu negative (place.Numbered b) h = absurd h
+noted_at mu negative (place.BadNumber (bank.Codes c) n) h = omega arith
+noted_at mu negative (place.BadNumber (bank.Registers c) n) h = omega arith
+noted_at mu negative (place.Fetching l) h = absurd h
+noted_at mu negative (place.Incompatible g) h = omega arith
+noted_at mu negative place.Width h = absurd h
+noted_at mu negative (place.Plus g) h = absurd h
+noted_at mu negative (place.Stretch g) h = absurd h
+noted_at mu negative (place.Minus g) h = absurd h
+noted_at mu negative (place.Shrink g) h = absurd h
+noted_at mu negative (place.Ended g internal) h = absurd h
 
-pub glue_told : (s : GlueScan) → IsNoted (glue_ask (resume s [])) → answer_weight (resume s (Told ∷ [])) < answer_weight (resume s [])
-glue_told s h = told_at s.mu s.negative s.place h
+pub glue_noted : (s : GlueScan) → IsNoted (glue_ask (resume s [])) → answer_weight (resume s (Noted ∷ [])) < answer_weight (resume s [])
+glue_noted s h = noted_at s.mu s.negative s.place h
 
 -- BEHIND WHAT STANDS AT A LOCATION
 

@@ -16,7 +16,7 @@ use Rattle.plain_readings.specs.Lists.{built}
 use Rattle.plain_readings.specs.Readings.{Reading, lists, kept_list}
 use Rattle.reading_frames.specs.Views.{Lists, top_list}
 use Rattle.reading_frames.specs.Resumes.{building, build_at, name_list_at, file_list_at, list_count, listed_count, listed_lists}
-use Rattle.reading_frames.specs.Stands.{FrameStands, AreHeld}
+use Rattle.reading_frames.specs.Frames.{IsFrameOf, AreHeld}
 use Rattle.reading_frames.specs.declared.command.CommandScan.TheVariants as command
 use Rattle.reading_frames.specs.declared.frame.Frame.{Frame}
 use Rattle.reading_frames.specs.declared.frame.Frame.TheVariants.{Command, Integer, Factor, Dimension, Glue, Keyword, Build, Spelling, FileName, Behind, Skips}
@@ -113,13 +113,13 @@ built_now (FileName scan) held h = ap (λ (l : List Token). l ∷ []) (file_now 
 built_now (Behind c x) held h = refl
 built_now (Skips scan) held h = refl
 
-lists_built : (f : Frame) (held : Lists) (r : Reading) → FrameStands f held r → lists r.kind r.fed ≡ building f held []
+lists_built : (f : Frame) (held : Lists) (r : Reading) → IsFrameOf f held r → lists r.kind r.fed ≡ building f held []
 lists_built f held r stands = ap (lists r.kind) (sym (append-nil r.fed)) ∙ stands.builds_on []
 
-pub lists_counted : (f : Frame) (held : Lists) (r : Reading) → FrameStands f held r → length (lists r.kind r.fed) ≡ list_count f
+pub lists_counted : (f : Frame) (held : Lists) (r : Reading) → IsFrameOf f held r → length (lists r.kind r.fed) ≡ list_count f
 lists_counted f held r stands = ap (λ (l : Lists). length l) (lists_built f held r stands) ∙ built_length f held
 
-pub are_held : (f : Frame) (held : Lists) (r : Reading) → FrameStands f held r → AreHeld f held r
+pub are_held : (f : Frame) (held : Lists) (r : Reading) → IsFrameOf f held r → AreHeld f held r
 are_held f held r stands = record {
   first =
       lists_built f held r stands ∙ built_now f held stands.holds ∙ ap (λ (n : ℕ). take n held) (sym (lists_counted f held r stands));

@@ -9,7 +9,7 @@ use Rattle.rows.specs.declared.internal.Bank.TheVariants as bank
 use Rattle.rows.specs.declared.internal.Internal.{Internal}
 use Rattle.rows.specs.declared.internal.Internal.TheVariants as internal
 use Rattle.rows.specs.Internal.{internal_of, is_mu}
-use Rattle.rows.specs.Readings.{Tok, Told, Fetched, Ask}
+use Rattle.rows.specs.Readings.{Tok, Noted, Fetched, Ask}
 use Rattle.plain_readings.specs.Integers.{is_digit, digit_of, is_minus, is_plus, greatest_integer, digits, too_big, missing, code_of, behind_code, internal_integer, by_meaning, unsigned, integer}
 use Rattle.plain_readings.specs.Weights.{value_weight, ask_weight, IsNoted}
 use Rattle.scan_numbers.specs.Views.{radix_number}
@@ -98,25 +98,25 @@ integer_fed s x = fed_at s.negative s.place x
 
 -- Behind a note
 
-told_at : (negative : Bool) (p : Place) → IsNoted (resume_at negative p []) → ask_weight value_weight (resume_at negative p (Told ∷ [])) < ask_weight value_weight (resume_at negative p [])
-told_at negative place.Signs h = absurd h
-told_at negative place.Quote h = absurd h
-told_at negative (place.First radix) h = absurd h
-told_at negative (place.Digits radix n) h = absurd h
-told_at negative (place.TooBig radix) h = omega arith
-told_at negative (place.Dropped radix) h = absurd h
-told_at negative (place.Behind code) h = absurd h
-told_at negative place.NoNumber h = omega arith
-told_at negative place.NoCode h = omega arith
-told_at negative (place.Numbered b) h = absurd h
-told_at negative (place.BadNumber (bank.Codes kind) n) h = omega arith
-told_at negative (place.BadNumber (bank.Registers kind) n) h = omega arith
-told_at negative (place.Fetching l) h = absurd h
-told_at negative (place.MuFound n) h = omega arith
-told_at negative (place.Ended n back) h = absurd h
+noted_at : (negative : Bool) (p : Place) → IsNoted (resume_at negative p []) → ask_weight value_weight (resume_at negative p (Noted ∷ [])) < ask_weight value_weight (resume_at negative p [])
+noted_at negative place.Signs h = absurd h
+noted_at negative place.Quote h = absurd h
+noted_at negative (place.First radix) h = absurd h
+noted_at negative (place.Digits radix n) h = absurd h
+noted_at negative (place.TooBig radix) h = omega arith
+noted_at negative (place.Dropped radix) h = absurd h
+noted_at negative (place.Behind code) h = absurd h
+noted_at negative place.NoNumber h = omega arith
+noted_at negative place.NoCode h = omega arith
+noted_at negative (place.Numbered b) h = absurd h
+noted_at negative (place.BadNumber (bank.Codes kind) n) h = omega arith
+noted_at negative (place.BadNumber (bank.Registers kind) n) h = omega arith
+noted_at negative (place.Fetching l) h = absurd h
+noted_at negative (place.MuFound n) h = omega arith
+noted_at negative (place.Ended n back) h = absurd h
 
-pub integer_told : (s : NumberScan) → IsNoted (resume s []) → ask_weight value_weight (resume s (Told ∷ [])) < ask_weight value_weight (resume s [])
-integer_told s h = told_at s.negative s.place h
+pub integer_noted : (s : NumberScan) → IsNoted (resume s []) → ask_weight value_weight (resume s (Noted ∷ [])) < ask_weight value_weight (resume s [])
+integer_noted s h = noted_at s.negative s.place h
 
 -- Behind what stands at a location
 

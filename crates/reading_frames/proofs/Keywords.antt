@@ -4,7 +4,7 @@ use Rattle.std.proofs.lemmas.List.{length-drop}
 use Rattle.tex_defs.specs.declared.Token.{Token}
 use Rattle.equivalents.specs.declared.values.Loc.{Loc}
 use Rattle.rows.specs.declared.words.Keyword.{Keyword}
-use Rattle.rows.specs.Readings.{Told, Fetches}
+use Rattle.rows.specs.Readings.{Noted, Fetches}
 use Rattle.plain_readings.specs.Keywords.{letters, giving_back, keyword_from}
 use Rattle.plain_readings.specs.Weights.{value_weight, ask_weight, IsNoted}
 use Rattle.plain_readings.proofs.Keywords.{letters_few}
@@ -49,18 +49,18 @@ from_unnoted : (cs : List ℕ) (ts : List Token) → IsNoted (keyword_from cs ts
 from_unnoted [] ts h = h
 from_unnoted (c ∷ cs) ts h = h
 
-giving_told : (ts : List Token) → IsNoted (giving_back ts []) → ask_weight value_weight (giving_back ts (Told ∷ [])) < ask_weight value_weight (giving_back ts [])
-giving_told [] h = absurd h
-giving_told (t ∷ []) h = omega arith
-giving_told (t ∷ u ∷ ts) h = omega arith
+giving_noted : (ts : List Token) → IsNoted (giving_back ts []) → ask_weight value_weight (giving_back ts (Noted ∷ [])) < ask_weight value_weight (giving_back ts [])
+giving_noted [] h = absurd h
+giving_noted (t ∷ []) h = omega arith
+giving_noted (t ∷ u ∷ ts) h = omega arith
 
-told_at : (w : Keyword) (ts : List Token) (p : KeywordPlace) → IsNoted (resume_at w ts p []) → ask_weight value_weight (resume_at w ts p (Told ∷ [])) < ask_weight value_weight (resume_at w ts p [])
-told_at w ts (Letters n) h = absurd (from_unnoted (drop n (letters w)) (kept n ts) h)
-told_at w ts (PutsBack n) h = giving_told (kept n ts) h
-told_at w ts (Ended found) h = absurd h
+noted_at : (w : Keyword) (ts : List Token) (p : KeywordPlace) → IsNoted (resume_at w ts p []) → ask_weight value_weight (resume_at w ts p (Noted ∷ [])) < ask_weight value_weight (resume_at w ts p [])
+noted_at w ts (Letters n) h = absurd (from_unnoted (drop n (letters w)) (kept n ts) h)
+noted_at w ts (PutsBack n) h = giving_noted (kept n ts) h
+noted_at w ts (Ended found) h = absurd h
 
-pub keyword_told : (s : KeywordScan) → IsNoted (resume s []) → ask_weight value_weight (resume s (Told ∷ [])) < ask_weight value_weight (resume s [])
-keyword_told s h = told_at s.keyword s.tokens s.place h
+pub keyword_noted : (s : KeywordScan) → IsNoted (resume s []) → ask_weight value_weight (resume s (Noted ∷ [])) < ask_weight value_weight (resume s [])
+keyword_noted s h = noted_at s.keyword s.tokens s.place h
 
 -- NOTHING IS FETCHED
 

@@ -4,7 +4,7 @@ use Rattle.tex_defs.specs.declared.Token.{Token}
 use Rattle.tex_defs.specs.declared.Seen.{Seen}
 use Rattle.tex_syntax.specs.declared.words.Want.{Want}
 use Rattle.rows.specs.declared.words.Datum.{Datum}
-use Rattle.rows.specs.declared.words.Kind.{Kind}
+use Rattle.rows.specs.declared.words.Phrase.{Phrase}
 use Rattle.rows.specs.declared.internal.Bank.{Bank}
 use Rattle.rows.specs.declared.stage.Stage.{Stage}
 use Rattle.rows.specs.declared.stage.Start.{Start}
@@ -18,10 +18,10 @@ use Rattle.rows.specs.declared.stage.Next.TheVariants as next
 use Rattle.rows.specs.declared.stage.Note.{Note}
 use Rattle.rows.specs.declared.stage.Note.TheVariants as note
 use Rattle.rows.specs.declared.command.Call.{Call}
-use Rattle.rows.specs.Readings.{Fed, Tok, Val, Told, Ask, Acts, ActsOn, Defines, Ends}
+use Rattle.rows.specs.Readings.{Fed, Tok, Val, Noted, Ask, Acts, ActsOn, Defines, Ends}
 use Rattle.rows.specs.Table.{stages_of, stages_left}
 use Rattle.rows.specs.Stages.{start, on_token, on_value, numbered_by}
-use Rattle.rows.specs.Run.{Outcome, Asks, Takes, Passes, Gathers, Makes, Becomes, comes, due, noted, valued, inner, begins, numbers, met_with, looks, again, started, behind, run, no_turn, turned}
+use Rattle.rows.specs.Run.{StageOutcome, Asks, Takes, Passes, Gathers, Makes, Becomes, comes, due, noted, valued, inner, begins, numbers, met_with, looks, again, started, behind, run, no_turn, turned}
 use Rattle.row_frames.specs.declared.frame.RowFrame.{RowFrame}
 use Rattle.row_frames.specs.declared.turn.Kept.{Kept}
 use Rattle.row_frames.specs.declared.turn.Kept.TheVariants as kept
@@ -42,7 +42,7 @@ due_goes_on (note.Relaxes c n) over = over
 
 module _ (more : List Fed) where
   -- what a stage comes to, and what it comes to where more comes
-  abbrev Same : Outcome → Outcome → Type 0
+  abbrev Same : StageOutcome → StageOutcome → Type 0
   Same (Asks a) o = IsOver a → o ≡ Asks a
   Same (Takes d fed) o = o ≡ Takes d (fed ++ more)
   Same (Passes fed) o = o ≡ Passes (fed ++ more)
@@ -58,7 +58,7 @@ module _ (more : List Fed) where
 
   noted_same : (n : Note) (m : Next) (fed : List Fed) → Same (noted n m fed) (noted n m (fed ++ more))
   noted_same n m [] = λ over. absurd (due_goes_on n over)
-  noted_same n m (Told ∷ fed) = comes_same m fed
+  noted_same n m (Noted ∷ fed) = comes_same m fed
   noted_same n m (y ∷ fed) = λ over. refl
 
   valued_same : (g : Got) (ts : List Token) (fed : List Fed) → Same (valued g ts fed) (valued g ts (fed ++ more))
@@ -67,12 +67,12 @@ module _ (more : List Fed) where
   valued_same got.Gathers ts fed = refl
   valued_same got.Defines ts fed = refl
 
-  inner_same : (s : Stage) (k : Kind) (fed : List Fed) → Same (inner s k fed) (inner s k (fed ++ more))
+  inner_same : (s : Stage) (k : Phrase) (fed : List Fed) → Same (inner s k fed) (inner s k (fed ++ more))
   inner_same s k [] = λ over. absurd over
   inner_same s k (Val v ts ∷ fed) = valued_same (on_value s v) ts fed
   inner_same s k (y ∷ fed) = λ over. refl
 
-  begins_same : (s : Stage) (k : Kind) (fed : List Fed) → Same (begins s k fed) (begins s k (fed ++ more))
+  begins_same : (s : Stage) (k : Phrase) (fed : List Fed) → Same (begins s k fed) (begins s k (fed ++ more))
   begins_same s k [] = λ over. absurd over
   begins_same s k (Tok x ∷ fed) = inner_same s k fed
   begins_same s k (Val v ts ∷ fed) = valued_same (on_value s v) ts fed
@@ -83,7 +83,7 @@ module _ (more : List Fed) where
   numbers_same b (Val v ts ∷ fed) = valued_same (numbered_by b v) ts fed
   numbers_same b (y ∷ fed) = λ over. refl
 
-  met_same : (s : Stage) (x : Seen) (m : Met) (skipped skipped' : Call → Outcome) (retried retried' : Note → Outcome) (fed : List Fed) →
+  met_same : (s : Stage) (x : Seen) (m : Met) (skipped skipped' : Call → StageOutcome) (retried retried' : Note → StageOutcome) (fed : List Fed) →
       ((c : Call) → Same (skipped c) (skipped' c)) → ((n : Note) → Same (retried n) (retried' n)) →
       Same (met_with s (Tok x) m skipped retried fed) (met_with s (Tok x) m skipped' retried' (fed ++ more))
   met_same s x (met.Takes d) skipped skipped' retried retried' fed h i = refl
@@ -106,7 +106,7 @@ module _ (more : List Fed) where
 
     again_same : (s : Stage) (c : Call) (want : Want) (n : Note) (fed : List Fed) → Same (again s c want n fed) (again s c want n (fed ++ more))
     again_same s c want n [] = λ over. absurd (due_goes_on n over)
-    again_same s c want n (Told ∷ fed) = looks_same s c want fed
+    again_same s c want n (Noted ∷ fed) = looks_same s c want fed
     again_same s c want n (y ∷ fed) = λ over. refl
 
   started_same : (s : Stage) (c : Call) (begun : Start) (fed : List Fed) → Same (started s c begun fed) (started s c begun (fed ++ more))
@@ -124,7 +124,7 @@ module _ (more : List Fed) where
   module _ (turn : Call → List Fed → Ask) (turns : (c : Call) (fed : List Fed) → IsOver (turn c fed) → turn c (fed ++ more) ≡ turn c fed) where
     behind_same : (c : Call) (ds : List Datum) (onward : List Datum → List Fed → Ask) →
         ((es : List Datum) (fed : List Fed) → IsOver (onward es fed) → onward es (fed ++ more) ≡ onward es fed) →
-        (o p : Outcome) → Same o p → IsOver (behind turn c ds onward o) → behind turn c ds onward p ≡ behind turn c ds onward o
+        (o p : StageOutcome) → Same o p → IsOver (behind turn c ds onward o) → behind turn c ds onward p ≡ behind turn c ds onward o
     behind_same c ds onward h (Asks a) p same over = ap (behind turn c ds onward) (same over)
     behind_same c ds onward h (Takes d fed) p same over = ap (behind turn c ds onward) same ∙ h (ds ++ d ∷ []) fed over
     behind_same c ds onward h (Passes fed) p same over = ap (behind turn c ds onward) same ∙ h ds fed over

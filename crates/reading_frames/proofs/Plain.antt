@@ -18,7 +18,7 @@ use Rattle.rows.specs.Table.{stages_left}
 use Rattle.rows.specs.Tokens.{is_at_most, is_up_to}
 use Rattle.rows.specs.Stages.{start, on_datum, numbered_by}
 use Rattle.rows.specs.Arithmetic.{number_in}
-use Rattle.rows.specs.Run.{Outcome, valued, started, behind, run}
+use Rattle.rows.specs.Run.{StageOutcome, valued, started, behind, run}
 use Rattle.row_frames.specs.declared.frame.RowFrame.{RowFrame}
 use Rattle.row_frames.specs.declared.turn.Kept.{Kept}
 use Rattle.row_frames.specs.declared.turn.Kept.TheVariants as kept
@@ -65,7 +65,7 @@ module _ (d : Datum) (ts us : List Token) (fed : List Fed) where
   row_same : (turn : Call → List Fed → Ask) (c : Call) (ss : List Stage) (ds : List Datum) (k : Kept) →
       resume_row turn c ss ds k (Val (Plain d) ts ∷ fed) ≡ resume_row turn c ss ds k (Val (Plain d) us ∷ fed)
   row_same turn c [] ds k = refl
-  row_same turn c (s ∷ ss) ds k = ap (λ (o : Outcome). behind turn c ds (λ es more. run turn c ss es more) o) (within_same s c ds k)
+  row_same turn c (s ∷ ss) ds k = ap (λ (o : StageOutcome). behind turn c ds (λ es more. run turn c ss es more) o) (within_same s c ds k)
 
 pub plain_value : (f : RowFrame) (d : Datum) (ts us : List Token) (fed : List Fed) → resume f (Val (Plain d) ts ∷ fed) ≡ resume f (Val (Plain d) us ∷ fed)
 plain_value f d ts us fed = row_same d ts us fed (λ c more. turn_of f.is_turned c more) f.call (stages_left f.left) (values f.read) f.kept

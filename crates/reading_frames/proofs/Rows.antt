@@ -6,7 +6,7 @@ use Rattle.tex_syntax.specs.declared.words.Want.{Want}
 use Rattle.tex_syntax.specs.declared.words.Report.{Report}
 use Rattle.rows.specs.declared.words.Datum.{Datum}
 use Rattle.rows.specs.declared.words.Value.{Value}
-use Rattle.rows.specs.declared.words.Kind.{Kind}
+use Rattle.rows.specs.declared.words.Phrase.{Phrase}
 use Rattle.rows.specs.declared.stage.Stage.{Stage}
 use Rattle.rows.specs.declared.stage.Start.{Start}
 use Rattle.rows.specs.declared.stage.Start.TheVariants.{Looks, Begins}
@@ -17,11 +17,11 @@ use Rattle.rows.specs.declared.stage.Next.TheVariants as next
 use Rattle.rows.specs.declared.command.Call.{Call}
 use Rattle.rows.specs.declared.command.Effect.{Effect}
 use Rattle.rows.specs.declared.command.Effect.TheVariants.{Unassigned}
-use Rattle.rows.specs.Readings.{Fed, Val, Told, Ask, More, Inner, Acts, ActsOn, Defines, Ends, Tells}
+use Rattle.rows.specs.Readings.{Fed, Val, Noted, Ask, More, Inner, Acts, ActsOn, Defines, Ends, Tells}
 use Rattle.rows.specs.Table.{stages_of, stages_left}
 use Rattle.rows.specs.Stages.{start, on_value, numbered_by, name}
-use Rattle.rows.specs.Effects.{effect_of, as_definition}
-use Rattle.rows.specs.Run.{Outcome, Asks, Takes, Passes, Gathers, Makes, Becomes, comes, valued, started, behind, run, no_turn}
+use Rattle.rows.specs.Effects.{command_effect, as_definition}
+use Rattle.rows.specs.Run.{StageOutcome, Asks, Takes, Passes, Gathers, Makes, Becomes, comes, valued, started, behind, run, no_turn}
 use Rattle.row_frames.specs.declared.frame.RowFrame.{RowFrame}
 use Rattle.row_frames.specs.declared.turn.Kept.{Kept}
 use Rattle.row_frames.specs.declared.turn.Kept.TheVariants as kept
@@ -31,14 +31,14 @@ use Rattle.row_frames.specs.Resumes.{within, resume_row, turn_of, resume}
 module _
     (P : Ask → Type 0)
     (more : (want : Want) → P (More want))
-    (begin : (k : Kind) → P (Inner k false))
+    (begin : (k : Phrase) → P (Inner k false))
     (act : (c : Call) (e : Effect) → P (Acts c e))
     (act_on : (c : Call) (e : Effect) (ts : List Token) → P (ActsOn c e ts))
     (define : (c : Call) (n : Name) (ts : List Token) → P (Defines c n ts))
     (end : P Ends)
   where
     -- what comes of a stage behind the last item
-    abbrev Fits : Outcome → Type 0
+    abbrev Fits : StageOutcome → Type 0
     Fits (Asks a) = P a
     Fits (Takes d fed) = fed ≡ []
     Fits (Passes fed) = fed ≡ []
@@ -51,22 +51,22 @@ module _
     start_fits s c (Begins k) = begin k
 
     module _ (turn : Call → List Fed → Ask) (turns : (c : Call) → P (turn c [])) where
-      behind_fits : (c : Call) (ds : List Datum) (onward : List Datum → List Fed → Ask) → ((es : List Datum) → P (onward es [])) → (o : Outcome) → Fits o → P (behind turn c ds onward o)
+      behind_fits : (c : Call) (ds : List Datum) (onward : List Datum → List Fed → Ask) → ((es : List Datum) → P (onward es [])) → (o : StageOutcome) → Fits o → P (behind turn c ds onward o)
       behind_fits c ds onward h (Asks a) fits = fits
       behind_fits c ds onward h (Takes d fed) e = subst (λ (l : List Fed). P (onward (ds ++ d ∷ []) l)) (sym e) (h (ds ++ d ∷ []))
       behind_fits c ds onward h (Passes fed) e = subst (λ (l : List Fed). P (onward ds l)) (sym e) (h ds)
-      behind_fits c ds onward h (Gathers ts) fits = act_on c (effect_of c ds) ts
+      behind_fits c ds onward h (Gathers ts) fits = act_on c (command_effect c ds) ts
       behind_fits c ds onward h (Makes ts) fits = define (as_definition c) (name 0 ds) ts
       behind_fits c ds onward h (Becomes d fed) e = subst (λ (l : List Fed). P (turn d l)) (sym e) (turns d)
 
       run_fits : (c : Call) (ss : List Stage) (ds : List Datum) → P (run turn c ss ds [])
-      run_fits c [] ds = act c (effect_of c ds)
+      run_fits c [] ds = act c (command_effect c ds)
       run_fits c (s ∷ ss) ds =
           behind_fits c ds (λ es fed. run turn c ss es fed) (λ es. run_fits c ss es) (started s c (start s c ds) []) (start_fits s c (start s c ds))
 
       row_fits : (y : Fed) → ((s : Stage) (c : Call) (ds : List Datum) (k : Kept) → Fits (within s c ds k (y ∷ []))) →
           (c : Call) (ss : List Stage) (ds : List Datum) (k : Kept) → P (resume_row turn c ss ds k (y ∷ []))
-      row_fits y h c [] ds k = act c (effect_of c ds)
+      row_fits y h c [] ds k = act c (command_effect c ds)
       row_fits y h c (s ∷ ss) ds k = behind_fits c ds (λ es fed. run turn c ss es fed) (λ es. run_fits c ss es) (within s c ds k (y ∷ [])) (h s c ds k)
 
     turn_fits : (b : Bool) (c : Call) → P (turn_of b c [])
@@ -84,20 +84,20 @@ module _
     comes_fits (next.Unassigned c) = act c Unassigned
     comes_fits (next.Becomes c) = refl
 
-    start_told : (s : Stage) (c : Call) (begun : Start) → Fits (started s c begun (Told ∷ []))
-    start_told s c (Looks want) = end
-    start_told s c (Begins k) = end
+    start_noted : (s : Stage) (c : Call) (begun : Start) → Fits (started s c begun (Noted ∷ []))
+    start_noted s c (Looks want) = end
+    start_noted s c (Begins k) = end
 
-    within_told : (s : Stage) (c : Call) (ds : List Datum) (k : Kept) → Fits (within s c ds k (Told ∷ []))
-    within_told s c ds kept.Start = start_told s c (start s c ds)
-    within_told s c ds (kept.Looking d want) = end
-    within_told s c ds (kept.Within k) = end
-    within_told s c ds (kept.Numbered b) = end
-    within_told s c ds (kept.Noting n m) = comes_fits m
-    within_told s c ds (kept.Retrying d want n) = more want
+    within_noted : (s : Stage) (c : Call) (ds : List Datum) (k : Kept) → Fits (within s c ds k (Noted ∷ []))
+    within_noted s c ds kept.Start = start_noted s c (start s c ds)
+    within_noted s c ds (kept.Looking d want) = end
+    within_noted s c ds (kept.Within k) = end
+    within_noted s c ds (kept.Numbered b) = end
+    within_noted s c ds (kept.Noting n m) = comes_fits m
+    within_noted s c ds (kept.Retrying d want n) = more want
 
-    pub told_holds : (f : RowFrame) → P (resume f (Told ∷ []))
-    told_holds f = frame_fits Told within_told f
+    pub noted_holds : (f : RowFrame) → P (resume f (Noted ∷ []))
+    noted_holds f = frame_fits Noted within_noted f
 
     -- BEHIND A VALUE
 

@@ -1,7 +1,7 @@
 -- Each rule without a step makes a stack lighter.
 use Rattle.std.proofs.Common.{◌≡◌, ◌≤◌, ◌<◌, ℕ, ◌+◌, true, List, [], ◌∷◌, drop, Option, Some, arith, ap, subst}
-use Rattle.rows.specs.declared.words.Kind.{Kind}
-use Rattle.rows.specs.declared.words.Kind.TheVariants as kind
+use Rattle.rows.specs.declared.words.Phrase.{Phrase}
+use Rattle.rows.specs.declared.words.Phrase.TheVariants as phrase
 use Rattle.rows.specs.Readings.{Ask, Inner, Done, Acts, ActsOn, Defines, Ends}
 use Rattle.plain_readings.specs.Weights.{act_frame, value_frame, act_weight, ask_weight}
 use Rattle.plain_readings.proofs.Weights.{heavy}
@@ -19,18 +19,18 @@ weighs fs a e = ap (λ (o : Option Ask). asked_weight (innermost_end fs) o) e
 
 -- WHAT BEGINS WITHIN ANOTHER
 
-begun_light : (k : Kind) → IsInner k → opening_frame (Reads k) + begun_weight (Reads k) < 11
-begun_light (kind.Command c) h = absurd h
+begun_light : (k : Phrase) → IsInner k → opening_frame (Reads k) + begun_weight (Reads k) < 11
+begun_light (phrase.Command c) h = absurd h
 begun_light k h = omega arith
 
-with_light : (n : ℕ) (k : Kind) → IsInner k → opening_frame (Reads k) + begun_with_weight (Reads k) < ask_weight n (Inner k true)
-with_light n (kind.Command c) h = absurd h
-with_light n (kind.Dimension k) h = omega arith
-with_light n (kind.Glue mu) h = omega arith
+with_light : (n : ℕ) (k : Phrase) → IsInner k → opening_frame (Reads k) + begun_with_weight (Reads k) < ask_weight n (Inner k true)
+with_light n (phrase.Command c) h = absurd h
+with_light n (phrase.Dimension k) h = omega arith
+with_light n (phrase.Glue mu) h = omega arith
 with_light n k h = omega arith
 
 pub openings : (o : Opening) → opening_frame o ≤ act_frame
-openings (Reads (kind.Command c)) = omega arith
+openings (Reads (phrase.Command c)) = omega arith
 openings (Reads k) = omega arith
 openings (Spelling c) = omega arith
 openings (FileName c) = omega arith

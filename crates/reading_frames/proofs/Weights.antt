@@ -18,7 +18,7 @@ use Rattle.rows.specs.Run.{row as row_asked}
 use Rattle.equivalents.specs.declared.values.Loc.{Loc}
 use Rattle.tex_defs.specs.declared.Seen.{Seen}
 use Rattle.equivalents.specs.Locations.{SeenValue}
-use Rattle.rows.specs.Readings.{Fed, Tok, Val, Told, Fetched, Ask, Inner, Fetches}
+use Rattle.rows.specs.Readings.{Fed, Tok, Val, Noted, Fetched, Ask, Inner, Fetches}
 use Rattle.row_frames.specs.declared.frame.RowFrame.{RowFrame}
 use Rattle.row_frames.specs.Resumes as row
 use Rattle.plain_readings.specs.Readings.{Reads}
@@ -47,8 +47,8 @@ use Rattle.reading_frames.specs.Weights.{frame_end, own_weight, asks_weight, inn
 use Rattle.reading_frames.specs.declared.ask.Opening.{Opening}
 use Rattle.reading_frames.specs.declared.ask.Opening.TheVariants as opening
 use Rattle.rows.specs.declared.command.Call.{Call}
-use Rattle.rows.specs.declared.words.Kind.{Kind}
-use Rattle.rows.specs.declared.words.Kind.TheVariants as kind
+use Rattle.rows.specs.declared.words.Phrase.{Phrase}
+use Rattle.rows.specs.declared.words.Phrase.TheVariants as phrase
 use Rattle.reading_frames.specs.declared.command.CommandScan.{CommandScan}
 use Rattle.reading_frames.specs.declared.command.CommandScan.TheVariants as command
 use Rattle.reading_frames.specs.declared.spelling.SpellPlace.{SpellPlace}
@@ -62,13 +62,13 @@ use Rattle.reading_frames.specs.declared.text.BuildPlace.TheVariants as at
 use Rattle.reading_frames.specs.declared.text.BuildScan.{BuildScan}
 use Rattle.reading_frames.specs.declared.frame.Frame.{Frame}
 use Rattle.reading_frames.specs.declared.frame.Frame.TheVariants.{Command, Integer, Factor, Dimension, Glue, Keyword, Build, Spelling, FileName, Behind, Skips}
-use Rattle.reading_frames.proofs.Rows.{told_holds, value_holds}
+use Rattle.reading_frames.proofs.Rows.{noted_holds, value_holds}
 use Rattle.reading_frames.proofs.Asking.{frame_asks}
-use Rattle.reading_frames.proofs.Keywords.{keyword_light, keyword_small, keyword_told, keyword_unfetched, keyword_unended}
-use Rattle.reading_frames.proofs.Integers.{integer_light, integer_fed, integer_told, integer_fetched, integer_unended}
-use Rattle.reading_frames.proofs.Factors.{factor_light, factor_fed, factor_told, factor_fetched, factor_unended}
-use Rattle.reading_frames.proofs.Dimens.{dimension_light, dimension_told, dimension_fetched, dimension_valued, dimension_unended}
-use Rattle.reading_frames.proofs.Glues.{glue_light, glue_told, glue_fetched, glue_valued, glue_unended}
+use Rattle.reading_frames.proofs.Keywords.{keyword_light, keyword_small, keyword_noted, keyword_unfetched, keyword_unended}
+use Rattle.reading_frames.proofs.Integers.{integer_light, integer_fed, integer_noted, integer_fetched, integer_unended}
+use Rattle.reading_frames.proofs.Factors.{factor_light, factor_fed, factor_noted, factor_fetched, factor_unended}
+use Rattle.reading_frames.proofs.Dimens.{dimension_light, dimension_noted, dimension_fetched, dimension_valued, dimension_unended}
+use Rattle.reading_frames.proofs.Glues.{glue_light, glue_noted, glue_fetched, glue_valued, glue_unended}
 
 -- a report, by what may follow it
 report_light : (report : Report) → after report + fetching_behind report ≤ 3
@@ -80,9 +80,9 @@ report_light report = omega arith
 
 -- COMMANDS
 
-row_told : (f : RowFrame) → ask_weight behind_weight (row.resume f (Told ∷ [])) ≤ behind_weight
-row_told f =
-    told_holds (λ (a : Ask). ask_weight behind_weight a ≤ behind_weight) (λ want. omega arith) (λ k. omega arith) (λ c e. effect_light e) (λ c e ts. omega arith) (λ c n ts. omega arith)
+row_noted : (f : RowFrame) → ask_weight behind_weight (row.resume f (Noted ∷ [])) ≤ behind_weight
+row_noted f =
+    noted_holds (λ (a : Ask). ask_weight behind_weight a ≤ behind_weight) (λ want. omega arith) (λ k. omega arith) (λ c e. effect_light e) (λ c e ts. omega arith) (λ c n ts. omega arith)
     (omega arith) f
 
 row_valued : (f : RowFrame) (v : Value) (ts : List Token) → ask_weight behind_weight (row.resume f (Val v ts ∷ [])) ≤ 64
@@ -90,12 +90,12 @@ row_valued f v ts =
     value_holds (λ (a : Ask). ask_weight behind_weight a ≤ 64) (λ want. omega arith) (λ k. omega arith) (λ c e. omega (arith, effect_light e)) (λ c e ts. omega arith)
     (λ c n ts. omega arith) (omega arith) (λ report. omega (arith, report_light report)) v ts f
 
-pub command_told : (s : CommandScan) → IsNoted (resume_command s [] []) → ask_weight behind_weight (resume_command s [] (Told ∷ [])) < ask_weight behind_weight (resume_command s [] [])
-command_told (command.Reads f) h = omega (arith, row_told f, note_heavy behind_weight (row.resume f []) h)
-command_told (command.Acts c e) h = absurd h
-command_told (command.ActsOn c e b) h = absurd h
-command_told (command.Defines c n b) h = absurd h
-command_told command.Ended h = absurd h
+pub command_noted : (s : CommandScan) → IsNoted (resume_command s [] []) → ask_weight behind_weight (resume_command s [] (Noted ∷ [])) < ask_weight behind_weight (resume_command s [] [])
+command_noted (command.Reads f) h = omega (arith, row_noted f, note_heavy behind_weight (row.resume f []) h)
+command_noted (command.Acts c e) h = absurd h
+command_noted (command.ActsOn c e b) h = absurd h
+command_noted (command.Defines c n b) h = absurd h
+command_noted command.Ended h = absurd h
 
 command_valued : (s : CommandScan) (v : Value) (ts : List Token) → ask_weight behind_weight (resume_command s [] (Val v ts ∷ [])) ≤ 64
 command_valued (command.Reads f) v ts = row_valued f v ts
@@ -161,30 +161,30 @@ build_same : (m : Manner) (p : BuildPlace) (list : List Token) → ask_weight va
 build_same m (at.At s) list = stage_same m s list
 build_same m at.Whole list = refl
 
-stage_told : (m : Manner) (s : Stage) → IsNoted (build_ask (stages.resume m s [] [])) →
-    ask_weight value_weight (build_ask (stages.resume m s [] (build.Told ∷ []))) < ask_weight value_weight (build_ask (stages.resume m s [] []))
-stage_told m stage.First h = absurd h
-stage_told m stage.FirstMissing h = omega arith
-stage_told m (stage.Parameters count) h = absurd h
-stage_told m (stage.Place count character) h = absurd h
-stage_told m (stage.Misnumbered count character) h = omega arith
-stage_told m (stage.Tenth count) h = omega arith
-stage_told m stage.BodyMissing h = omega arith
-stage_told m (stage.InBody b depth) h = absurd h
-stage_told m (stage.Reference b depth character) h = absurd h
-stage_told m (stage.Illegal b depth character) h = omega arith
+stage_noted : (m : Manner) (s : Stage) → IsNoted (build_ask (stages.resume m s [] [])) →
+    ask_weight value_weight (build_ask (stages.resume m s [] (build.Noted ∷ []))) < ask_weight value_weight (build_ask (stages.resume m s [] []))
+stage_noted m stage.First h = absurd h
+stage_noted m stage.FirstMissing h = omega arith
+stage_noted m (stage.Parameters count) h = absurd h
+stage_noted m (stage.Place count character) h = absurd h
+stage_noted m (stage.Misnumbered count character) h = omega arith
+stage_noted m (stage.Tenth count) h = omega arith
+stage_noted m stage.BodyMissing h = omega arith
+stage_noted m (stage.InBody b depth) h = absurd h
+stage_noted m (stage.Reference b depth character) h = absurd h
+stage_noted m (stage.Illegal b depth character) h = omega arith
 
-build_told_at : (m : Manner) (p : BuildPlace) → IsNoted (build_ask (build_at m p [] [])) →
-    ask_weight value_weight (build_ask (build_at m p [] (Told ∷ []))) < ask_weight value_weight (build_ask (build_at m p [] []))
-build_told_at m (at.At s) h = stage_told m s h
-build_told_at m at.Whole h = absurd h
+build_noted_at : (m : Manner) (p : BuildPlace) → IsNoted (build_ask (build_at m p [] [])) →
+    ask_weight value_weight (build_ask (build_at m p [] (Noted ∷ []))) < ask_weight value_weight (build_ask (build_at m p [] []))
+build_noted_at m (at.At s) h = stage_noted m s h
+build_noted_at m at.Whole h = absurd h
 
-pub build_told : (s new : BuildScan) (list : List Token) → resume_build s [] (Told ∷ []) ≡ resume_build new list [] → IsNoted (build_ask (resume_build s [] [])) →
+pub build_noted : (s new : BuildScan) (list : List Token) → resume_build s [] (Noted ∷ []) ≡ resume_build new list [] → IsNoted (build_ask (resume_build s [] [])) →
     ask_weight value_weight (build_ask (resume_build new [] [])) < ask_weight value_weight (build_ask (resume_build s [] []))
-build_told s new list e h =
-    let same : ask_weight value_weight (build_ask (resume_build s [] (Told ∷ []))) ≡ ask_weight value_weight (build_ask (resume_build new [] [])) =
+build_noted s new list e h =
+    let same : ask_weight value_weight (build_ask (resume_build s [] (Noted ∷ []))) ≡ ask_weight value_weight (build_ask (resume_build new [] [])) =
     ap (λ a. ask_weight value_weight (build_ask a)) e ∙ build_same new.manner new.place list in
-    omega (arith, same, build_told_at s.manner s.place h)
+    omega (arith, same, build_noted_at s.manner s.place h)
 
 -- `\csname`
 
@@ -211,10 +211,10 @@ skip_light_at c aim skip.Stopped = omega arith
 
 -- ALL
 
-inner_light : (k : Kind) (begins : Bool) → ask_weight behind_weight (Inner k begins) ≤ 92
+inner_light : (k : Phrase) (begins : Bool) → ask_weight behind_weight (Inner k begins) ≤ 92
 inner_light k false = omega arith
-inner_light (kind.Dimension k) true = omega arith
-inner_light (kind.Glue mu) true = omega arith
+inner_light (phrase.Dimension k) true = omega arith
+inner_light (phrase.Glue mu) true = omega arith
 inner_light k true = omega arith
 
 due_light : (n : Note) → ask_weight behind_weight (due n) ≤ 92
@@ -305,43 +305,43 @@ keyword_fed f s new is more = omega (arith, ap fed_weight is, more, keyword_ligh
 
 -- BEHIND A NOTE a frame that reported weighs less.
 
-pub command_falls : (f : Frame) (s new : CommandScan) (p : Head) → f ≡ Command s p → resume_command s [] (Told ∷ []) ≡ resume_command new [] [] → IsNoted (resume f [] []) →
+pub command_falls : (f : Frame) (s new : CommandScan) (p : Head) → f ≡ Command s p → resume_command s [] (Noted ∷ []) ≡ resume_command new [] [] → IsNoted (resume f [] []) →
     asks_weight (Command new p) < asks_weight f
 command_falls f s new p is e =
     subst (λ (g : Frame). IsNoted (resume g [] []) → asks_weight (Command new p) < asks_weight g) (sym is)
     (λ (h : IsNoted (resume_command s [] [])).
-    let same : ask_weight behind_weight (resume_command s [] (Told ∷ [])) ≡ ask_weight behind_weight (resume_command new [] []) = ap (λ (a : Ask). ask_weight behind_weight a) e in
-    omega (arith, same, command_told s h))
+    let same : ask_weight behind_weight (resume_command s [] (Noted ∷ [])) ≡ ask_weight behind_weight (resume_command new [] []) = ap (λ (a : Ask). ask_weight behind_weight a) e in
+    omega (arith, same, command_noted s h))
 
-pub keyword_falls : (f : Frame) (s new : KeywordScan) → f ≡ Keyword s → ((fed : List Fed) → keyword.resume s (Told ∷ fed) ≡ keyword.resume new fed) → IsNoted (resume f [] []) →
+pub keyword_falls : (f : Frame) (s new : KeywordScan) → f ≡ Keyword s → ((fed : List Fed) → keyword.resume s (Noted ∷ fed) ≡ keyword.resume new fed) → IsNoted (resume f [] []) →
     asks_weight (Keyword new) < asks_weight f
 keyword_falls f s new is e =
     subst (λ (g : Frame). IsNoted (resume g [] []) → asks_weight (Keyword new) < asks_weight g) (sym is)
-    (λ (h : IsNoted (keyword.resume s [])). let same = ap (λ (a : Ask). ask_weight value_weight a) (e []) in omega (arith, same, keyword_told s h))
+    (λ (h : IsNoted (keyword.resume s [])). let same = ap (λ (a : Ask). ask_weight value_weight a) (e []) in omega (arith, same, keyword_noted s h))
 
-pub number_falls : (f : Frame) (s new : NumberScan) → f ≡ Integer s → ((fed : List Fed) → number.resume s (Told ∷ fed) ≡ number.resume new fed) → IsNoted (resume f [] []) →
+pub number_falls : (f : Frame) (s new : NumberScan) → f ≡ Integer s → ((fed : List Fed) → number.resume s (Noted ∷ fed) ≡ number.resume new fed) → IsNoted (resume f [] []) →
     asks_weight (Integer new) < asks_weight f
 number_falls f s new is e =
     subst (λ (g : Frame). IsNoted (resume g [] []) → asks_weight (Integer new) < asks_weight g) (sym is)
-    (λ (h : IsNoted (number.resume s [])). let same = ap (λ (a : Ask). ask_weight value_weight a) (e []) in omega (arith, same, integer_told s h))
+    (λ (h : IsNoted (number.resume s [])). let same = ap (λ (a : Ask). ask_weight value_weight a) (e []) in omega (arith, same, integer_noted s h))
 
-pub fraction_falls : (f : Frame) (s new : FactorScan) → f ≡ Factor s → ((fed : List Fed) → factor.resume_factor s (Told ∷ fed) ≡ factor.resume_factor new fed) → IsNoted (resume f [] []) →
+pub fraction_falls : (f : Frame) (s new : FactorScan) → f ≡ Factor s → ((fed : List Fed) → factor.resume_factor s (Noted ∷ fed) ≡ factor.resume_factor new fed) → IsNoted (resume f [] []) →
     asks_weight (Factor new) < asks_weight f
 fraction_falls f s new is e =
     subst (λ (g : Frame). IsNoted (resume g [] []) → asks_weight (Factor new) < asks_weight g) (sym is)
-    (λ (h : IsNoted (factor.resume_factor s [])). let same = ap (λ (a : Ask). ask_weight value_weight a) (e []) in omega (arith, same, factor_told s h))
+    (λ (h : IsNoted (factor.resume_factor s [])). let same = ap (λ (a : Ask). ask_weight value_weight a) (e []) in omega (arith, same, factor_noted s h))
 
-pub dimension_falls : (f : Frame) (s new : DimenScan) → f ≡ Dimension s → ((fed : List dimens.Fed) → dimen.resume s (dimens.Told ∷ fed) ≡ dimen.resume new fed) → IsNoted (resume f [] []) →
+pub dimension_falls : (f : Frame) (s new : DimenScan) → f ≡ Dimension s → ((fed : List dimens.Fed) → dimen.resume s (dimens.Noted ∷ fed) ≡ dimen.resume new fed) → IsNoted (resume f [] []) →
     asks_weight (Dimension new) < asks_weight f
 dimension_falls f s new is e =
     subst (λ (g : Frame). IsNoted (resume g [] []) → asks_weight (Dimension new) < asks_weight g) (sym is)
-    (λ (h : IsNoted (dimen_ask (dimen.resume s []))). let same = ap (λ (a : dimens.Answer). ask_weight value_weight (dimen_ask a)) (e []) in omega (arith, same, dimension_told s h))
+    (λ (h : IsNoted (dimen_ask (dimen.resume s []))). let same = ap (λ (a : dimens.Answer). ask_weight value_weight (dimen_ask a)) (e []) in omega (arith, same, dimension_noted s h))
 
-pub glue_falls : (f : Frame) (s new : GlueScan) → f ≡ Glue s → ((fed : List glues.Fed) → glue.resume s (glues.Told ∷ fed) ≡ glue.resume new fed) → IsNoted (resume f [] []) →
+pub glue_falls : (f : Frame) (s new : GlueScan) → f ≡ Glue s → ((fed : List glues.Fed) → glue.resume s (glues.Noted ∷ fed) ≡ glue.resume new fed) → IsNoted (resume f [] []) →
     asks_weight (Glue new) < asks_weight f
 glue_falls f s new is e =
     subst (λ (g : Frame). IsNoted (resume g [] []) → asks_weight (Glue new) < asks_weight g) (sym is)
-    (λ (h : IsNoted (glue_ask (glue.resume s []))). let same = ap (λ (a : glues.Answer). ask_weight value_weight (glue_ask a)) (e []) in omega (arith, same, glue_told s h))
+    (λ (h : IsNoted (glue_ask (glue.resume s []))). let same = ap (λ (a : glues.Answer). ask_weight value_weight (glue_ask a)) (e []) in omega (arith, same, glue_noted s h))
 
 -- BEHIND WHAT STANDS AT A LOCATION a frame that asked for it weighs less.
 
@@ -376,20 +376,20 @@ skip_fetched f s new v is e l asks =
 pub keyword_fetched : (f : Frame) (s new : KeywordScan) → f ≡ Keyword s → (l : Loc) → resume f [] [] ≡ Fetches l → asks_weight (Keyword new) < asks_weight f
 keyword_fetched f s new is l e = absurd (keyword_unfetched s l (sym (ap (λ (g : Frame). resume g [] []) is) ∙ e))
 
-pub build_falls : (f : Frame) (s new : BuildScan) (list : List Token) → f ≡ Build s → resume_build s [] (Told ∷ []) ≡ resume_build new list [] → IsNoted (resume f [] []) →
+pub build_falls : (f : Frame) (s new : BuildScan) (list : List Token) → f ≡ Build s → resume_build s [] (Noted ∷ []) ≡ resume_build new list [] → IsNoted (resume f [] []) →
     asks_weight (Build new) < asks_weight f
 build_falls f s new list is e =
     subst (λ (g : Frame). IsNoted (resume g [] []) → asks_weight (Build new) < asks_weight g) (sym is)
-    (λ (h : IsNoted (build_ask (resume_build s [] []))). build_told s new list e h)
+    (λ (h : IsNoted (build_ask (resume_build s [] []))). build_noted s new list e h)
 
 -- A READING THAT BEGINS
 
-pub command_begun : (c : Call) (s : CommandScan) (h : Head) (o : Opening) → o ≡ opening.Reads (kind.Command c) → ((held : Lists) (fed : List Fed) → row_asked c fed ≡ resume_command s held fed) →
+pub command_begun : (c : Call) (s : CommandScan) (h : Head) (o : Opening) → o ≡ opening.Reads (phrase.Command c) → ((held : Lists) (fed : List Fed) → row_asked c fed ≡ resume_command s held fed) →
     asks_weight (Command s h) ≤ begun_weight o
 command_begun c s h o is e =
     let same : ask_weight behind_weight (row_asked c []) ≡ ask_weight behind_weight (resume_command s [] []) = ap (λ (a : Ask). ask_weight behind_weight a) (e [] []) in
     let most : begun_weight o ≡ 11 = ap begun_weight is in
-    omega (arith, same, most, begins_light (Reads (kind.Command c)) tt)
+    omega (arith, same, most, begins_light (Reads (phrase.Command c)) tt)
 
 -- AN END WITHOUT A VALUE
 

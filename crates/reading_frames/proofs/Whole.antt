@@ -3,10 +3,10 @@ use Rattle.std.proofs.Common.{◌≡◌, ◌≤◌, ℕ, zero, suc, List, [], �
 use Rattle.reading_frames.specs.Views.{Lists}
 use Rattle.reading_frames.specs.Resumes.{list_count}
 use Rattle.reading_frames.specs.Stack.{innermost_lists, innermost_count, lists_beneath}
-use Rattle.reading_frames.specs.Stands.{opened_lists}
+use Rattle.reading_frames.specs.Frames.{opened_lists}
 use Rattle.reading_frames.specs.declared.ask.Opening.{Opening}
 use Rattle.reading_frames.specs.declared.ask.Opening.TheVariants.{Reads, Spelling, FileName, Behind, Skips}
-use Rattle.rows.specs.declared.words.Kind.TheVariants.{Command, Integer, Factor, Dimension, Glue, Keyword, Text, Definition}
+use Rattle.rows.specs.declared.words.Phrase.TheVariants.{Command, Integer, Factor, Dimension, Glue, Keyword, Text, Definition}
 use Rattle.reading_frames.specs.declared.frame.Frame.{Frame}
 use Rattle.reading_frames.proofs.Held.{built_now}
 

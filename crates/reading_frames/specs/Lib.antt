@@ -1,5 +1,5 @@
 pub mod Views
 pub mod Resumes
-pub mod Stands
+pub mod Frames
 pub mod Stack
 pub mod Weights

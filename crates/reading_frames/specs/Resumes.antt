@@ -5,7 +5,7 @@ use Rattle.tex_syntax.specs.declared.words.Scanned.{Scanned}
 use Rattle.tex_syntax.specs.declared.words.Scanned.TheVariants as scanned
 use Rattle.tex_syntax.specs.declared.words.Manner.{Manner}
 use Rattle.tex_syntax.specs.declared.words.Want.{Want}
-use Rattle.tex_syntax.specs.declared.words.Want.TheVariants.{Copied, Expanded, Nonblank, Raw}
+use Rattle.tex_syntax.specs.declared.words.Want.TheVariants.{Expanded, Nonblank}
 use Rattle.plain_state.specs.Definitions as build
 use Rattle.list_builder.specs.Stages as stages
 use Rattle.list_builder.specs.declared.stage.Stage.{Stage}
@@ -161,18 +161,17 @@ build_at m place.Whole list fed = build.Done list
 abbrev pub resume_build : BuildScan → List Token → List Fed → build.Answer
 resume_build scan list fed = build_at scan.manner scan.place list fed
 
--- what is wanted where a body is read: in an expanded one a token, with those of a list copied, and else one as it stands
-abbrev pub stage_want : (expanded : Bool) → Stage → Option Want
-stage_want true (stage.InBody b depth) = Some Copied
-stage_want false (stage.InBody b depth) = Some Raw
-stage_want expanded s = None
+-- what is wanted, where the next token of the body itself is
+abbrev pub stage_want : Manner → Stage → Option Want
+stage_want m (stage.InBody b depth) = Some (build.body_want m)
+stage_want m s = None
 
-abbrev pub place_want : Bool → BuildPlace → Option Want
-place_want expanded (place.At s) = stage_want expanded s
-place_want expanded place.Whole = None
+abbrev pub place_want : Manner → BuildPlace → Option Want
+place_want m (place.At s) = stage_want m s
+place_want m place.Whole = None
 
-abbrev pub body_want : BuildScan → Option Want
-body_want scan = place_want scan.manner.expanded scan.place
+abbrev pub next_in_body : BuildScan → Option Want
+next_in_body scan = place_want scan.manner scan.place
 
 -- the groups that are open in it
 abbrev pub groups_at : BuildPlace → ℕ

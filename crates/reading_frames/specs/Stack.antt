@@ -12,8 +12,8 @@ use Rattle.plain_readings.specs.Readings.{Reading, ask, fed_with}
 use Rattle.plain_readings.specs.Scanning.{Status, Scans, SkipsText, Unguarded, Scanning}
 use Rattle.plain_readings.specs.Scanning as machine
 use Rattle.reading_frames.specs.Views.{Lists, top_list, ask_of}
-use Rattle.reading_frames.specs.Resumes.{resume, building, list_count, frame_status, groups, body_want}
-use Rattle.reading_frames.specs.Stands.{FramesStand, AreShallow}
+use Rattle.reading_frames.specs.Resumes.{resume, building, list_count, frame_status, groups, next_in_body}
+use Rattle.reading_frames.specs.Frames.{AreFramesOf, AreShallow}
 use Rattle.reading_frames.specs.declared.ask.Ask.{Ask}
 use Rattle.reading_frames.specs.declared.ask.Found.{Found}
 use Rattle.reading_frames.specs.declared.ask.Found.TheVariants.{Builds, SkippedText}
@@ -53,9 +53,9 @@ abbrev pub asked_of : Lists → Option Ask → Option reading.Ask
 asked_of held None = None
 asked_of held (Some a) = Some (ask_of held a)
 
--- what the innermost wants, where it reads a body
+-- what the innermost wants, where the next token of the body itself is wanted
 abbrev pub frame_body : Frame → Option Want
-frame_body (Build scan) = body_want scan
+frame_body (Build scan) = next_in_body scan
 frame_body f = None
 
 abbrev pub innermost_body : List Frame → Option Want
@@ -124,13 +124,13 @@ abbrev pub AsksCopied : Option reading.Ask → Type 0
 AsksCopied o = o ≡ Some (More Copied)
 
 pub record Enters (fs : List Frame) (held : Lists) (work : List Reading) (t : Token) : Type 0 where
-  pub stands : FramesStand fs (grow_first t held) (fed_with (Verbatim t) work)
+  pub stands : AreFramesOf fs (grow_first t held) (fed_with (Verbatim t) work)
   pub copies : AsksCopied (asks_in fs (grow_first t held))
   pub beneath : lists_beneath fs (grow_first t held) ≡ lists_beneath fs held
   pub shallow : AreShallow fs held → AreShallow fs (grow_first t held)
 
 abbrev pub TokensEnter : Type 0
-TokensEnter = (fs : List Frame) (held : Lists) (work : List Reading) (t : Token) → FramesStand fs held work → AsksCopied (asks_in fs held) → Enters fs held work t
+TokensEnter = (fs : List Frame) (held : Lists) (work : List Reading) (t : Token) → AreFramesOf fs held work → AsksCopied (asks_in fs held) → Enters fs held work t
 
 -- THE BRACES: where each group has its brace in its list, no more groups are open than the list on top has tokens.
 abbrev pub GroupsHaveBraces : Type 0

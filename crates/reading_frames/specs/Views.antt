@@ -42,12 +42,12 @@ on_top g held = put g.second (put g.first held)
 abbrev pub grown : Grown → List Token → List Token
 grown g list = with_cell (with_cell list g.first) g.second
 
-abbrev pub kind_of : Opening → Kind
-kind_of (Reads k) = kind.Reads k
-kind_of (Spelling c) = kind.Spelling c
-kind_of (FileName c) = kind.FileName c
-kind_of (Behind c x) = kind.Behind c x
-kind_of (Skips c aim line) = kind.Skips c aim line
+abbrev pub reading_kind : Opening → Kind
+reading_kind (Reads k) = kind.Reads k
+reading_kind (Spelling c) = kind.Spelling c
+reading_kind (FileName c) = kind.FileName c
+reading_kind (Behind c x) = kind.Behind c x
+reading_kind (Skips c aim line) = kind.Skips c aim line
 
 abbrev pub ask_of : Lists → Ask → reading.Ask
 ask_of held (More want) = reading.More want

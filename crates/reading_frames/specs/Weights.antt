@@ -2,14 +2,14 @@
 use Rattle.std.specs.Prelude.{ℕ, ◌+◌, ◌<◌, ◌≤◌, ◌≡◌, Bool, true, false, List, [], ◌∷◌, Option, Some, None, drop}
 use Rattle.tex_defs.specs.declared.Seen.{Seen}
 use Rattle.rows.specs.declared.words.Value.{Value}
-use Rattle.rows.specs.declared.words.Kind.{Kind}
-use Rattle.rows.specs.declared.words.Kind.TheVariants as kind
+use Rattle.rows.specs.declared.words.Phrase.{Phrase}
+use Rattle.rows.specs.declared.words.Phrase.TheVariants as phrase
 use Rattle.rows.specs.declared.command.Call.{Call}
 use Rattle.rows.specs.declared.command.Effect.TheVariants.{ExpandBehind}
 use Rattle.rows.specs.Readings.{Ask, Inner, Done, Acts, ActsOn, Defines, Ends}
 use Rattle.plain_readings.specs.Weights.{frame_weight, value_frame, act_frame, value_weight, act_weight, behind_weight, end_weight, ask_weight, IsNoted}
 use Rattle.scan_dimens.specs.Resumes.{kept_in}
-use Rattle.reading_frames.specs.Views.{kind_of}
+use Rattle.reading_frames.specs.Views.{reading_kind}
 use Rattle.reading_frames.specs.Resumes.{resume}
 use Rattle.reading_frames.specs.Stack.{Stack, asks_in}
 use Rattle.reading_frames.specs.declared.ask.Opening.{Opening}
@@ -35,7 +35,7 @@ frames_weight (f ∷ fs) = own_weight f + frames_weight fs
 
 -- what begins: as much as the reading of the machine
 abbrev pub opening_frame : Opening → ℕ
-opening_frame o = frame_weight (kind_of o)
+opening_frame o = frame_weight (reading_kind o)
 
 -- WHAT THE INNERMOST ASKS FOR
 
@@ -51,7 +51,7 @@ frame_end f = behind_weight
 
 -- and of what begins: as much as the end of the reading of the machine
 abbrev pub opening_end : Opening → ℕ
-opening_end o = end_weight (kind_of o)
+opening_end o = end_weight (reading_kind o)
 
 abbrev pub innermost_end : List Frame → ℕ
 innermost_end [] = 0
@@ -73,14 +73,14 @@ stack_weight s = frames_weight s.frames + innermost_weight s.frames
 
 -- the most that a reading asks for at first weighs, and behind the token with which it begins
 abbrev pub begun_weight : Opening → ℕ
-begun_weight (Reads (kind.Command c)) = 11
+begun_weight (Reads (phrase.Command c)) = 11
 begun_weight (Behind c x) = act_weight
 begun_weight o = 0
 
 abbrev pub begun_with_weight : Opening → ℕ
-begun_with_weight (Reads (kind.Command c)) = 92
-begun_with_weight (Reads (kind.Dimension k)) = 70
-begun_with_weight (Reads (kind.Glue mu)) = 81
+begun_with_weight (Reads (phrase.Command c)) = 92
+begun_with_weight (Reads (phrase.Dimension k)) = 70
+begun_with_weight (Reads (phrase.Glue mu)) = 81
 begun_with_weight (Reads k) = 59
 begun_with_weight o = 92
 
@@ -113,8 +113,8 @@ IsReported None = ⊥
 IsReported (Some a) = IsNoted a
 
 -- what another reading begins, and is no command
-abbrev pub IsInner : Kind → Type 0
-IsInner (kind.Command c) = ⊥
+abbrev pub IsInner : Phrase → Type 0
+IsInner (phrase.Command c) = ⊥
 IsInner k = Unit {0}
 
 -- an act or another end without a value
@@ -130,10 +130,10 @@ IsEnd a = ⊥
 -- waits in its place, perhaps with an expansion above it; a note comes, or what stands at a location.
 pub record StacksFall (old new : Stack) : Type 0 where
   pub begun :
-      (k : Kind) → IsInner k → asks_in old.frames [] ≡ Some (Inner k false) → frames_weight new.frames ≤ frames_weight old.frames + opening_frame (Reads k) →
+      (k : Phrase) → IsInner k → asks_in old.frames [] ≡ Some (Inner k false) → frames_weight new.frames ≤ frames_weight old.frames + opening_frame (Reads k) →
       innermost_weight new.frames ≤ begun_weight (Reads k) → stack_weight new < stack_weight old
   pub begun_with :
-      (k : Kind) → IsInner k → asks_in old.frames [] ≡ Some (Inner k true) → frames_weight new.frames ≤ frames_weight old.frames + opening_frame (Reads k) →
+      (k : Phrase) → IsInner k → asks_in old.frames [] ≡ Some (Inner k true) → frames_weight new.frames ≤ frames_weight old.frames + opening_frame (Reads k) →
       innermost_weight new.frames ≤ begun_with_weight (Reads k) → stack_weight new < stack_weight old
   pub valued :
       (v : Value) (back : Bool) → asks_in old.frames [] ≡ Some (Done v back) → frames_weight new.frames ≤ frames_weight (drop 1 old.frames) →

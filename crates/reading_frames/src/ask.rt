@@ -1,7 +1,7 @@
 // What may be opened, what an open reading asks for, what goes onto its list, and what is read at a check.
 use conditionals::Aim;
 use equivalents::Loc;
-use rows::{Call, Effect, Kind, Value};
+use rows::{Call, Effect, Phrase, Value};
 use tex_defs::{Name, Seen, Token};
 use tex_syntax::{Report, Scanned, Want};
 
@@ -9,7 +9,7 @@ use tex_syntax::{Report, Scanned, Want};
 /// that is skipped.
 #[derive(Clone, Copy)]
 pub enum Opening {
-    Reads(Kind),
+    Reads(Phrase),
     Spelling(Call),
     FileName(Call),
     /// The command is `\expandafter`.
@@ -24,7 +24,7 @@ pub enum Opening {
 pub enum Ask {
     More(Want),
     /// An inner reading, and whether it begins with the last token.
-    Inner(Kind, bool),
+    Inner(Phrase, bool),
     /// It is done, with this value, and whether the last token is put back.
     Done(Value, bool),
     /// The command does this, and ends.

@@ -2,8 +2,8 @@
 ghost use Rattle.std.specs.Prelude.{◌≡◌, ◌+◌, List, [], ◌∷◌, IfSome, None, true, false};
 ghost use Rattle.tex_defs.specs.declared.Token.{Token};
 ghost use Rattle.rows.specs.declared.words.Value.TheVariants as value_of;
-ghost use Rattle.rows.specs.Readings.{Fed, Tok, Told, Fetched, Val};
-ghost use Rattle.rows.specs.Run.{row, due};
+ghost use Rattle.rows.specs.Readings.{Fed, Tok, Noted, Fetched, Val};
+ghost use Rattle.rows.specs.Run.{row};
 ghost use Rattle.row_frames.specs.Views as rows_view;
 ghost use Rattle.row_frames.specs.Resumes as rows_resume;
 ghost use Rattle.plain_readings.specs.Readings.{kept_list};
@@ -13,8 +13,8 @@ ghost use Rattle.reading_frames.specs.Resumes as resumes;
 
 use crate::ask::Ask;
 use equivalents::Val as StoredValue;
-use row_frames::{Kept, RowFrame};
-use rows::{Call, Effect, Kind, Note, Value};
+use row_frames::{Kept, RowFrame, note_due};
+use rows::{Call, Effect, Phrase, Value};
 use tex_defs::{Name, Seen};
 
 /// Where a command stands: in its row, or at what it does at its end. The list with which it does this is the one on top, if it is listed, and
@@ -36,29 +36,14 @@ fn of_row(asked: row_frames::Ask) -> Ask
 {
     match asked {
         row_frames::Ask::More(want) => Ask::More(want),
-        row_frames::Ask::Inner(kind, begins) => Ask::Inner(kind, begins.is_some()),
+        row_frames::Ask::Inner(phrase, begins) => Ask::Inner(phrase, begins),
         row_frames::Ask::Acts(call, effect) => Ask::Acts(call, effect),
         row_frames::Ask::ActsOn(call, effect) => Ask::ActsOn(call, effect, false),
         row_frames::Ask::Defines(call, name) => Ask::Defines(call, name, false),
         row_frames::Ask::Ends => Ask::Ends,
-        row_frames::Ask::Tells(report, back) => Ask::Tells(report, back.is_some()),
-        row_frames::Ask::Inserts(token, report, back) => {
-            Ask::Inserts(token, report, back.is_some())
-        }
+        row_frames::Ask::Tells(report, back) => Ask::Tells(report, back),
+        row_frames::Ask::Inserts(token, report, back) => Ask::Inserts(token, report, back),
         row_frames::Ask::Relaxes(call, name) => Ask::Relaxes(call, name),
-    }
-}
-
-/// The note that is due.
-fn of_note(note: Note) -> Ask
-    ensures is { (held : Lists) → ask_of held result ≡ due note }
-    ensures owns { Owns result 0 }
-    ensures found { IsFetchedAt result }
-{
-    match note {
-        Note::Tells(report, back) => Ask::Tells(report, back),
-        Note::Inserts(token, report, back) => Ask::Inserts(token, report, back),
-        Note::Relaxes(call, name) => Ask::Relaxes(call, name),
     }
 }
 
@@ -77,9 +62,9 @@ fn asked_in(row: &RowFrame) -> Ask
         Kept::Start => of_row(row.first_ask()),
         Kept::Looking(_, want) => Ask::More(want),
         Kept::Within(kind) => Ask::Inner(kind, true),
-        Kept::Numbered(_) => Ask::Inner(Kind::Integer, false),
-        Kept::Noting(note, _) => of_note(note),
-        Kept::Retrying(_, _, note) => of_note(note),
+        Kept::Numbered(_) => Ask::Inner(Phrase::Integer, false),
+        Kept::Noting(note, _) => of_row(note_due(note)),
+        Kept::Retrying(_, _, note) => of_row(note_due(note)),
     }
 }
 
@@ -165,13 +150,13 @@ impl CommandScan {
     }
 
     /// Goes on behind its note.
-    pub fn told(&mut self)
-        ensures asks { (held : Lists) (fed : List Fed) → resume_command self.old held (Told ∷ fed) ≡ resume_command self.new held fed }
-        ensures lists { (held : Lists) (fed : List Fed) → command_lists self.old held (Told ∷ fed) ≡ command_lists self.new held fed }
+    pub fn noted(&mut self)
+        ensures asks { (held : Lists) (fed : List Fed) → resume_command self.old held (Noted ∷ fed) ≡ resume_command self.new held fed }
+        ensures lists { (held : Lists) (fed : List Fed) → command_lists self.old held (Noted ∷ fed) ≡ command_lists self.new held fed }
         ensures count { command_count self.new ≡ command_count self.old }
     {
         match self {
-            CommandScan::Reads(row) => match over_behind(row, row_frames::Fed::Told, false) {
+            CommandScan::Reads(row) => match over_behind(row, row_frames::Fed::Noted, false) {
                 Some(over) => *self = over,
                 None => {}
             },

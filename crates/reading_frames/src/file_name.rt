@@ -4,7 +4,7 @@ ghost use Rattle.tex_defs.specs.declared.Token.{Token};
 ghost use Rattle.tex_syntax.specs.declared.words.Want.TheVariants.{Nonblank};
 ghost use Rattle.rows.specs.declared.words.Value.{Value};
 ghost use Rattle.equivalents.specs.Locations.{SeenValue};
-ghost use Rattle.rows.specs.Readings.{Fed, Tok, Told, Val, Fetched};
+ghost use Rattle.rows.specs.Readings.{Fed, Tok, Noted, Val, Fetched};
 ghost use Rattle.plain_readings.specs.FileNames as names;
 ghost use Rattle.plain_readings.specs.FileNames.{file_naming, file_characters};
 ghost use Rattle.reading_frames.specs.Views.{ask_of, IsFetchedAt, grown, Lists, top_list};
@@ -115,8 +115,8 @@ impl FileScan {
     /// A note, a value or what stands at a location came, for which it never asks.
     #[tactic(auto, using(crate::proofs::Growing::append_nil))]
     pub fn stop(&mut self)
-        ensures told { (list : List Token) (fed : List Fed) → resume_file self.old list (Told ∷ fed) ≡ resume_file self.new list fed }
-        ensures told_builds { (list : List Token) (fed : List Fed) → file_list self.old list (Told ∷ fed) ≡ file_list self.new list fed }
+        ensures noted { (list : List Token) (fed : List Fed) → resume_file self.old list (Noted ∷ fed) ≡ resume_file self.new list fed }
+        ensures noted_builds { (list : List Token) (fed : List Fed) → file_list self.old list (Noted ∷ fed) ≡ file_list self.new list fed }
         ensures asks { (v : Value) (ts list : List Token) (fed : List Fed) → resume_file self.old list (Val v ts ∷ fed) ≡ resume_file self.new list fed }
         ensures builds { (v : Value) (ts list : List Token) (fed : List Fed) → file_list self.old list (Val v ts ∷ fed) ≡ file_list self.new list fed }
         ensures fetched { (v : SeenValue) (list : List Token) (fed : List Fed) → resume_file self.old list (Fetched v ∷ fed) ≡ resume_file self.new list fed }

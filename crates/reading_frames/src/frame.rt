@@ -3,9 +3,9 @@ ghost use Rattle.std.specs.Prelude.{◌≡◌, ◌≤◌, ◌<◌, ◌+◌, ◌^
 ghost use Rattle.tex_defs.specs.declared.Token.{Token};
 ghost use Rattle.rows.specs.declared.words.Value.TheVariants as value_of;
 ghost use Rattle.equivalents.specs.declared.values.Loc.{Loc as Location};
-ghost use Rattle.rows.specs.Readings.{Fed, Tok, Told, Val, Fetched, Fetches};
-ghost use Rattle.reading_frames.specs.Views.{ask_of, has_no_token, kind_of, IsFetchedAt, Lists, on_top, top_list};
-ghost use Rattle.reading_frames.specs.Stands.{Begins, opened_lists};
+ghost use Rattle.rows.specs.Readings.{Fed, Tok, Noted, Val, Fetched, Fetches};
+ghost use Rattle.reading_frames.specs.Views.{ask_of, has_no_token, reading_kind, IsFetchedAt, Lists, on_top, top_list};
+ghost use Rattle.reading_frames.specs.Frames.{Begins, opened_lists};
 ghost use Rattle.reading_frames.specs.Resumes.{resume, building, list_count, below, frame_status, groups, read_at, reads_unguarded, token_count, with_list, Owns};
 ghost use Rattle.reading_frames.specs.Weights.{asks_weight, begun_weight, begun_with_weight, fed_weight, frame_end, opening_end, opening_frame, own_weight, put_count};
 ghost use Rattle.plain_readings.specs.Measures.{dimen_ask, dimen_inner, glue_ask, glue_inner};
@@ -24,7 +24,7 @@ use crate::spelling::SpellScan;
 use crate::text::BuildScan;
 use equivalents::Val as StoredValue;
 use row_frames::reads_under_normal;
-use rows::{Call, Datum, Effect, Head, Kind, Value};
+use rows::{Call, Datum, Effect, Head, Phrase, Value};
 use scan_dimens::{DimenAsk, DimenScan, KeywordAsk, KeywordScan};
 use scan_glue::{GlueAsk, GlueScan};
 use scan_numbers::{FactorAsk, FactorScan, NumberScan};
@@ -62,7 +62,7 @@ fn of_number(asked: scan_numbers::Ask) -> Ask
 {
     match asked {
         scan_numbers::Ask::More(want) => Ask::More(want),
-        scan_numbers::Ask::Begins => Ask::Inner(Kind::Integer, false),
+        scan_numbers::Ask::Begins => Ask::Inner(Phrase::Integer, false),
         scan_numbers::Ask::Fetches(loc) => Ask::Fetches(loc),
         scan_numbers::Ask::Tells(report, back) => Ask::Tells(report, back),
         scan_numbers::Ask::Done(n, back) => Ask::Done(Value::Plain(Datum::Number(n)), back),
@@ -77,7 +77,7 @@ fn of_factor(asked: FactorAsk) -> Ask
 {
     match asked {
         FactorAsk::More(want) => Ask::More(want),
-        FactorAsk::Begins => Ask::Inner(Kind::Integer, false),
+        FactorAsk::Begins => Ask::Inner(Phrase::Integer, false),
         FactorAsk::Fetches(loc) => Ask::Fetches(loc),
         FactorAsk::Tells(report, back) => Ask::Tells(report, back),
         FactorAsk::Done(n, point, back) => Ask::Done(Value::Plain(Datum::Factor(n, point)), back),
@@ -85,13 +85,13 @@ fn of_factor(asked: FactorAsk) -> Ask
 }
 
 // What a dimension reads within.
-fn dimen_kind(inner: scan_dimens::Inner) -> Kind
+fn dimen_kind(inner: scan_dimens::Inner) -> Phrase
     ensures { result ≡ dimen_inner (dimens.inner_of inner) }
 {
     match inner {
-        scan_dimens::Inner::Factor => Kind::Factor,
-        scan_dimens::Inner::Number => Kind::Integer,
-        scan_dimens::Inner::Key(keyword) => Kind::Keyword(keyword),
+        scan_dimens::Inner::Factor => Phrase::Factor,
+        scan_dimens::Inner::Number => Phrase::Integer,
+        scan_dimens::Inner::Key(keyword) => Phrase::Keyword(keyword),
     }
 }
 
@@ -112,13 +112,13 @@ fn of_dimension(asked: DimenAsk) -> Ask
 }
 
 // What glue reads within.
-fn glue_kind(inner: scan_glue::Inner) -> Kind
+fn glue_kind(inner: scan_glue::Inner) -> Phrase
     ensures { result ≡ glue_inner (glues.inner_of inner) }
 {
     match inner {
-        scan_glue::Inner::Dimension(kind) => Kind::Dimension(kind),
-        scan_glue::Inner::Number => Kind::Integer,
-        scan_glue::Inner::Key(keyword) => Kind::Keyword(keyword),
+        scan_glue::Inner::Dimension(kind) => Phrase::Dimension(kind),
+        scan_glue::Inner::Number => Phrase::Integer,
+        scan_glue::Inner::Key(keyword) => Phrase::Keyword(keyword),
     }
 }
 
@@ -153,7 +153,7 @@ fn of_keyword(asked: KeywordAsk) -> Ask
 impl Frame {
     /// A reading begins; one that builds a list has one of no token on top.
     pub fn begin(opening: Opening) -> Frame
-        ensures begins { (held : Lists) → Begins (kind_of opening) result held (opened_lists opening held) }
+        ensures begins { (held : Lists) → Begins (reading_kind opening) result held (opened_lists opening held) }
         ensures shallow { groups result ≡ 0 }
         ensures own { own_weight result ≡ opening_frame opening }
         ensures ends { frame_end result ≡ opening_end opening }
@@ -162,18 +162,18 @@ impl Frame {
         ensures unread { put_count result ≡ 0 }
     {
         match opening {
-            Opening::Reads(Kind::Command(call)) => {
+            Opening::Reads(Phrase::Command(call)) => {
                 Frame::Command(CommandScan::new(call), call.head)
             }
-            Opening::Reads(Kind::Integer) => Frame::Integer(NumberScan::new()),
-            Opening::Reads(Kind::Factor) => Frame::Factor(FactorScan::new()),
-            Opening::Reads(Kind::Dimension(kind)) => Frame::Dimension(DimenScan::new(kind)),
-            Opening::Reads(Kind::Glue(mu)) => Frame::Glue(GlueScan::new(mu)),
-            Opening::Reads(Kind::Keyword(word)) => Frame::Keyword(KeywordScan::new(word)),
-            Opening::Reads(Kind::Text(name, expanded)) => {
+            Opening::Reads(Phrase::Integer) => Frame::Integer(NumberScan::new()),
+            Opening::Reads(Phrase::Factor) => Frame::Factor(FactorScan::new()),
+            Opening::Reads(Phrase::Dimension(kind)) => Frame::Dimension(DimenScan::new(kind)),
+            Opening::Reads(Phrase::Glue(mu)) => Frame::Glue(GlueScan::new(mu)),
+            Opening::Reads(Phrase::Keyword(word)) => Frame::Keyword(KeywordScan::new(word)),
+            Opening::Reads(Phrase::Text(name, expanded)) => {
                 Frame::Build(BuildScan::text(name, expanded))
             }
-            Opening::Reads(Kind::Definition(name, expanded)) => {
+            Opening::Reads(Phrase::Definition(name, expanded)) => {
                 Frame::Build(BuildScan::definition(name, expanded))
             }
             Opening::Spelling(call) => Frame::Spelling(SpellScan::new(call)),
@@ -285,12 +285,12 @@ impl Frame {
 
     /// Goes on behind its report, the token that was put back, the name that became `\relax` or the magnification that was checked.
     #[tactic(auto, using(crate::proofs::Growing::top_grown, crate::proofs::Growing::beneath_grown, crate::proofs::Growing::grown_held))]
-    pub fn told(&mut self) -> Grown
+    pub fn noted(&mut self) -> Grown
         ensures own { own_weight self.new ≡ own_weight self.old }
         ensures ends { frame_end self.new ≡ frame_end self.old }
         ensures weight { IsNoted (resume self.old [] []) → asks_weight self.new < asks_weight self.old }
-        ensures asks { (held : Lists) (fed : List Fed) → resume self.old held (Told ∷ fed) ≡ resume self.new (on_top result held) fed }
-        ensures builds { (held : Lists) (fed : List Fed) → building self.old held (Told ∷ fed) ≡ building self.new (on_top result held) fed }
+        ensures asks { (held : Lists) (fed : List Fed) → resume self.old held (Noted ∷ fed) ≡ resume self.new (on_top result held) fed }
+        ensures builds { (held : Lists) (fed : List Fed) → building self.old held (Noted ∷ fed) ≡ building self.new (on_top result held) fed }
         ensures holds { (held : Lists) → list_count self.old ≤ length held → list_count self.new ≤ length (on_top result held) }
         ensures beneath { (held : Lists) → below self.new (on_top result held) ≡ below self.old held }
         ensures checks { frame_status self.new ≡ frame_status self.old }
@@ -299,32 +299,32 @@ impl Frame {
     {
         match self {
             Frame::Command(scan, _) => {
-                scan.told();
+                scan.noted();
                 Grown::none()
             }
             Frame::Integer(scan) => {
-                scan.told();
+                scan.noted();
                 Grown::none()
             }
             Frame::Factor(scan) => {
-                scan.told();
+                scan.noted();
                 Grown::none()
             }
             Frame::Dimension(scan) => {
-                scan.told();
+                scan.noted();
                 Grown::none()
             }
             Frame::Glue(scan) => {
-                scan.told();
+                scan.noted();
                 Grown::none()
             }
             Frame::Keyword(scan) => {
-                scan.told();
+                scan.noted();
                 Grown::none()
             }
-            Frame::Build(scan) => scan.told(),
+            Frame::Build(scan) => scan.noted(),
             Frame::Spelling(scan) => {
-                scan.told();
+                scan.noted();
                 Grown::none()
             }
             Frame::FileName(scan) => {

@@ -1,5 +1,5 @@
 // How frames stand for readings: the functions have no bodies, their contracts are the laws.
-ghost use Rattle.reading_frames.specs.Stands.{ReadingsBegin, ReadingsAreFed, ReadingsEnd, ListsAreHeld};
+ghost use Rattle.reading_frames.specs.Frames.{ReadingsBegin, ReadingsAreFed, ReadingsEnd, ListsAreHeld};
 ghost use Rattle.reading_frames.specs.Stack.{GroupsHaveBraces, TokensEnter};
 ghost use Rattle.reading_frames.specs.Weights.{RulesAreLight, WeightsAreSmall};
 

@@ -3,13 +3,13 @@ ghost use Rattle.std.specs.Prelude.{◌≡◌, ◌≤◌, ◌<◌, ◌+◌, ◌-
 ghost use Rattle.tex_defs.specs.declared.Token.{Token};
 ghost use Rattle.rows.specs.declared.words.Value.TheVariants as value_of;
 ghost use Rattle.equivalents.specs.declared.values.Loc.{Loc};
-ghost use Rattle.rows.specs.Readings.{Fed, Tok, Told, Val, Fetched, Fetches};
+ghost use Rattle.rows.specs.Readings.{Fed, Tok, Noted, Val, Fetched, Fetches};
 ghost use Rattle.plain_readings.specs.Readings.{Reading, lists, opened, opened_with, fed_with};
 ghost use Rattle.plain_readings.specs.Scanning.{scanning};
 ghost use Rattle.plain_readings.specs.Weights.{value_frame, act_frame, value_weight, act_weight};
-ghost use Rattle.reading_frames.specs.Views.{has_no_token, kind_of, IsFetchedAt, Lists, on_top};
+ghost use Rattle.reading_frames.specs.Views.{has_no_token, reading_kind, IsFetchedAt, Lists, on_top};
 ghost use Rattle.reading_frames.specs.Resumes.{with_list, listed_count, token_count, Owns};
-ghost use Rattle.reading_frames.specs.Stands.{FramesStand, AreShallow, opened_lists};
+ghost use Rattle.reading_frames.specs.Frames.{AreFramesOf, AreShallow, opened_lists};
 ghost use Rattle.reading_frames.specs.Stack.{Stack, innermost_body, AsksCopied, depth_full, asks_in, asked_in, asked_of, innermost_groups, innermost_count, innermost_lists, innermost_of, with_innermost, lists_beneath, found_in, innermost_found, scanning_of};
 ghost use Rattle.reading_frames.specs.declared.ask.Ask.TheVariants as asks;
 ghost use Rattle.reading_frames.specs.Weights.{frames_weight, opening_frame, opening_end, innermost_weight, innermost_end, innermost_fed, innermost_puts, begun_weight, begun_with_weight, IsReported};
@@ -126,23 +126,24 @@ impl Readings {
     /// Whether the innermost is an expanded text or the body of an expanded macro, which asks for a token that is copied.
     pub fn copies(&self) -> bool
         ensures asks { (held : Lists) → MatchBool result (AsksCopied (asks_in self.now.frames held)) (AsksCopied (asks_in self.now.frames held) → ⊥) }
-        ensures stands { (held : Lists) (work : List Reading) → FramesStand self.now.frames held work → MatchBool result (AsksCopied (asked_in work)) (AsksCopied (asked_in work) → ⊥) }
+        ensures stands { (held : Lists) (work : List Reading) → AreFramesOf self.now.frames held work → MatchBool result (AsksCopied (asked_in work)) (AsksCopied (asked_in work) → ⊥) }
     {
         matches!(self.ask(), Some(Ask::More(Want::Copied)))
     }
 
-    /// What the innermost asks for, where it reads the body of a text or of a macro: a token. Most tokens of lists that are built come there.
+    /// What the innermost asks for, where the next token of the body itself is wanted, of a text or of a macro. Most tokens of lists that are built
+    /// come there.
     #[inline(always)]
     pub fn body_want(&self) -> Option<Want>
         ensures is { result ≡ innermost_body self.now.frames }
         ensures asks { IfSome result (λ want. (held : Lists) → asked_of held (Some (asks.More want)) ≡ asks_in self.now.frames held) }
-        ensures stands { IfSome result (λ want. (held : Lists) (work : List Reading) → FramesStand self.now.frames held work → asked_of held (Some (asks.More want)) ≡ asked_in work) }
+        ensures stands { IfSome result (λ want. (held : Lists) (work : List Reading) → AreFramesOf self.now.frames held work → asked_of held (Some (asks.More want)) ≡ asked_in work) }
     {
         let Some(frame) = &self.innermost else {
             return None;
         };
         if let Frame::Build(scan) = frame {
-            return scan.body_want();
+            return scan.next_in_body();
         }
         None
     }
@@ -150,7 +151,7 @@ impl Readings {
     /// What the innermost asks for.
     pub fn ask(&self) -> Option<Ask>
         ensures asks { (held : Lists) → asked_of held result ≡ asks_in self.now.frames held }
-        ensures stands { (held : Lists) (work : List Reading) → FramesStand self.now.frames held work → asked_of held result ≡ asked_in work }
+        ensures stands { (held : Lists) (work : List Reading) → AreFramesOf self.now.frames held work → asked_of held result ≡ asked_in work }
         ensures least { IfSome result (λ a. 1 ≤ length self.now.frames) }
         ensures owns { IfSome result (λ a. Owns a (innermost_count self.now.frames)) }
         ensures found { IfSome result (λ a. IsFetchedAt a) }
@@ -170,7 +171,7 @@ impl Readings {
     /// # Errors
     /// As many are open as there may be. Nothing has changed then.
     pub fn begin(&mut self, opening: Opening) -> Result<(), Full>
-        ensures begins { OnOk result ((held : Lists) (work : List Reading) → FramesStand self.old.frames held work → FramesStand self.new.frames (opened_lists opening held) (opened (kind_of opening) work)) }
+        ensures begins { OnOk result ((held : Lists) (work : List Reading) → AreFramesOf self.old.frames held work → AreFramesOf self.new.frames (opened_lists opening held) (opened (reading_kind opening) work)) }
         ensures shallow { OnOk result ((held : Lists) → AreShallow self.old.frames held → AreShallow self.new.frames (opened_lists opening held)) }
         ensures room { OnOk result (length self.old.frames < self.old.size) }
         ensures count { OnOk result (length self.new.frames ≡ length self.old.frames + 1) }
@@ -182,10 +183,10 @@ impl Readings {
         ensures groups { OnOk result (innermost_groups self.new.frames ≡ 0) }
         ensures unread { OnOk result (innermost_puts self.new.frames ≡ 0) }
         ensures rest { OnOk result (drop 1 self.new.frames ≡ self.old.frames) }
-        ensures builds { OnOk result ((held : Lists) (fed : List Fed) → lists (kind_of opening) fed ≡ innermost_lists self.new.frames (opened_lists opening held) fed) }
+        ensures builds { OnOk result ((held : Lists) (fed : List Fed) → lists (reading_kind opening) fed ≡ innermost_lists self.new.frames (opened_lists opening held) fed) }
         ensures beneath { OnOk result ((held : Lists) → lists_beneath self.new.frames (opened_lists opening held) ≡ held) }
         ensures holds { OnOk result ((held : Lists) → innermost_count self.new.frames ≤ length (opened_lists opening held)) }
-        ensures lists { OnOk result ((held : Lists) → lists (kind_of opening) [] ++ held ≡ opened_lists opening held) }
+        ensures lists { OnOk result ((held : Lists) → lists (reading_kind opening) [] ++ held ≡ opened_lists opening held) }
         ensures full { IfErr result (λ full. full ≡ depth_full self.old) }
         ensures refused { IfErr result (λ full. length self.old.frames ≡ self.old.size) }
         ensures unchanged { IfErr result (λ full. self.new ≡ self.old) }
@@ -210,7 +211,7 @@ impl Readings {
     /// # Errors
     /// As many are open as there may be. Nothing has changed then.
     pub fn begin_with(&mut self, opening: Opening, x: Seen) -> Result<Grown, Full>
-        ensures begins { IfOk result (λ grown. (held : Lists) (work : List Reading) → FramesStand self.old.frames held work → FramesStand self.new.frames (on_top grown (opened_lists opening held)) (opened_with (kind_of opening) (Tok x) work)) }
+        ensures begins { IfOk result (λ grown. (held : Lists) (work : List Reading) → AreFramesOf self.old.frames held work → AreFramesOf self.new.frames (on_top grown (opened_lists opening held)) (opened_with (reading_kind opening) (Tok x) work)) }
         ensures shallow { IfOk result (λ grown. (held : Lists) → AreShallow self.old.frames held → AreShallow self.new.frames (on_top grown (opened_lists opening held))) }
         ensures room { OnOk result (length self.old.frames < self.old.size) }
         ensures count { OnOk result (length self.new.frames ≡ length self.old.frames + 1) }
@@ -221,7 +222,7 @@ impl Readings {
         ensures read { OnOk result (innermost_puts self.new.frames ≤ 1) }
         ensures rest { OnOk result (drop 1 self.new.frames ≡ self.old.frames) }
         ensures beneath { IfOk result (λ grown. (held : Lists) → lists_beneath self.new.frames (on_top grown (opened_lists opening held)) ≡ held) }
-        ensures lists { IfOk result (λ grown. (held : Lists) → lists (kind_of opening) (Tok x ∷ []) ++ held ≡ on_top grown (opened_lists opening held)) }
+        ensures lists { IfOk result (λ grown. (held : Lists) → lists (reading_kind opening) (Tok x ∷ []) ++ held ≡ on_top grown (opened_lists opening held)) }
         ensures listed { IfOk result (λ grown. 1 ≤ token_count grown → (held : Lists) → opened_lists opening held ≡ [] ∷ held) }
         ensures full { IfErr result (λ full. full ≡ depth_full self.old) }
         ensures refused { IfErr result (λ full. length self.old.frames ≡ self.old.size) }
@@ -239,7 +240,7 @@ impl Readings {
         requires { innermost_groups self.old.frames + 1 < 2 ^ 64 }
         ensures ends { innermost_end self.new.frames ≡ innermost_end self.old.frames }
         ensures weight { innermost_weight self.new.frames ≤ innermost_fed self.old.frames }
-        ensures stands { (held : Lists) (work : List Reading) → FramesStand self.old.frames held work → FramesStand self.new.frames (on_top result held) (fed_with (Tok x) work) }
+        ensures stands { (held : Lists) (work : List Reading) → AreFramesOf self.old.frames held work → AreFramesOf self.new.frames (on_top result held) (fed_with (Tok x) work) }
         ensures count { length self.new.frames ≡ length self.old.frames }
         ensures frames { frames_weight self.new.frames ≡ frames_weight self.old.frames }
         ensures size { self.new.size ≡ self.old.size }
@@ -258,16 +259,16 @@ impl Readings {
     }
 
     /// The innermost goes on behind its report, the token that was put back, the name that became `\relax` or the magnification that was checked.
-    pub fn told(&mut self) -> Grown
+    pub fn noted(&mut self) -> Grown
         ensures ends { innermost_end self.new.frames ≡ innermost_end self.old.frames }
         ensures weight { IsReported (asks_in self.old.frames []) → innermost_weight self.new.frames < innermost_weight self.old.frames }
-        ensures stands { (held : Lists) (work : List Reading) → FramesStand self.old.frames held work → FramesStand self.new.frames (on_top result held) (fed_with Told work) }
+        ensures stands { (held : Lists) (work : List Reading) → AreFramesOf self.old.frames held work → AreFramesOf self.new.frames (on_top result held) (fed_with Noted work) }
         ensures count { length self.new.frames ≡ length self.old.frames }
         ensures frames { frames_weight self.new.frames ≡ frames_weight self.old.frames }
         ensures size { self.new.size ≡ self.old.size }
         ensures shallow { (held : Lists) → AreShallow self.old.frames held → AreShallow self.new.frames (on_top result held) }
         ensures rest { drop 1 self.new.frames ≡ drop 1 self.old.frames }
-        ensures built { (held : Lists) → innermost_lists self.old.frames held (Told ∷ []) ≡ innermost_lists self.new.frames (on_top result held) [] }
+        ensures built { (held : Lists) → innermost_lists self.old.frames held (Noted ∷ []) ≡ innermost_lists self.new.frames (on_top result held) [] }
         ensures beneath { (held : Lists) → lists_beneath self.new.frames (on_top result held) ≡ lists_beneath self.old.frames held }
         ensures holds { (held : Lists) → innermost_count self.old.frames ≤ length held → innermost_count self.new.frames ≤ length (on_top result held) }
         ensures listed { 1 ≤ token_count result → innermost_count self.old.frames ≡ 1 }
@@ -275,13 +276,13 @@ impl Readings {
         let Some(frame) = self.innermost.as_mut() else {
             return Grown::none();
         };
-        frame.told()
+        frame.noted()
     }
 
     /// The innermost takes the value of the reading that ended above it, and says whether it keeps the list that came with it, which may
     /// have no token: if so, that is on top.
     pub fn feed_value(&mut self, value: Value, is_empty: bool) -> bool
-        ensures stands { (ts : List Token) → is_empty ≡ has_no_token ts → (held : Lists) (work : List Reading) → FramesStand self.old.frames held work → FramesStand self.new.frames (with_list result ts held) (fed_with (Val value ts) work) }
+        ensures stands { (ts : List Token) → is_empty ≡ has_no_token ts → (held : Lists) (work : List Reading) → AreFramesOf self.old.frames held work → AreFramesOf self.new.frames (with_list result ts held) (fed_with (Val value ts) work) }
         ensures kept { result ≡ true → is_empty ≡ false }
         ensures list { result ≡ true → value ≡ value_of.List }
         ensures ends { innermost_end self.new.frames ≡ innermost_end self.old.frames }
@@ -302,7 +303,7 @@ impl Readings {
     pub fn fetched(&mut self, value: StoredValue<()>)
         ensures ends { innermost_end self.new.frames ≡ innermost_end self.old.frames }
         ensures weight { (l : Loc) → asks_in self.old.frames [] ≡ Some (Fetches l) → innermost_weight self.new.frames < innermost_weight self.old.frames }
-        ensures stands { (held : Lists) (work : List Reading) → FramesStand self.old.frames held work → FramesStand self.new.frames held (fed_with (Fetched value) work) }
+        ensures stands { (held : Lists) (work : List Reading) → AreFramesOf self.old.frames held work → AreFramesOf self.new.frames held (fed_with (Fetched value) work) }
         ensures count { length self.new.frames ≡ length self.old.frames }
         ensures frames { frames_weight self.new.frames ≡ frames_weight self.old.frames }
         ensures size { self.new.size ≡ self.old.size }
@@ -329,7 +330,7 @@ impl Readings {
     #[tactic(auto, using(crate::proofs::Weights::small))]
     pub fn end(&mut self) -> bool
         ensures list { listed_count result ≡ innermost_count self.old.frames }
-        ensures stands { (held : Lists) (work : List Reading) → FramesStand self.old.frames held work → FramesStand self.new.frames (lists_beneath self.old.frames held) (drop 1 work) }
+        ensures stands { (held : Lists) (work : List Reading) → AreFramesOf self.old.frames held work → AreFramesOf self.new.frames (lists_beneath self.old.frames held) (drop 1 work) }
         ensures shallow { (held : Lists) → AreShallow self.old.frames held → AreShallow self.new.frames (lists_beneath self.old.frames held) }
         ensures count { length self.new.frames ≡ length self.old.frames - 1 }
         ensures frames { frames_weight self.new.frames ≡ frames_weight (drop 1 self.old.frames) }
@@ -345,7 +346,7 @@ impl Readings {
     #[tactic(auto, using(crate::proofs::Scanning::scans, crate::proofs::Scanning::unguarded_found, crate::proofs::Scanning::beneath_found))]
     pub fn scanned(&self) -> Option<Found>
         ensures is { result ≡ found_in self.now.frames }
-        ensures scans { (held : Lists) (work : List Reading) → FramesStand self.now.frames held work → scanning work held ≡ scanning_of held result }
+        ensures scans { (held : Lists) (work : List Reading) → AreFramesOf self.now.frames held work → scanning work held ≡ scanning_of held result }
     {
         let Some(frame) = &self.innermost else {
             return None;

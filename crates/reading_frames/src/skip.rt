@@ -3,7 +3,7 @@ ghost use Rattle.std.specs.Prelude.{◌≡◌, List, [], ◌∷◌};
 ghost use Rattle.tex_defs.specs.declared.Token.{Token};
 ghost use Rattle.rows.specs.declared.words.Value.{Value};
 ghost use Rattle.equivalents.specs.Locations.{SeenValue};
-ghost use Rattle.rows.specs.Readings.{Fed, Tok, Told, Val, Fetched};
+ghost use Rattle.rows.specs.Readings.{Fed, Tok, Noted, Val, Fetched};
 ghost use Rattle.plain_readings.specs.Skips.{skipping};
 ghost use Rattle.reading_frames.specs.Views.{ask_of, IsFetchedAt, Lists};
 ghost use Rattle.reading_frames.specs.Resumes.{resume_skip, Owns};
@@ -79,7 +79,7 @@ impl SkipScan {
 
     /// A note, a value or what stands at a location came, for which it never asks.
     pub fn stop(&mut self)
-        ensures told { (fed : List Fed) → resume_skip self.old (Told ∷ fed) ≡ resume_skip self.new fed }
+        ensures noted { (fed : List Fed) → resume_skip self.old (Noted ∷ fed) ≡ resume_skip self.new fed }
         ensures asks { (v : Value) (ts : List Token) (fed : List Fed) → resume_skip self.old (Val v ts ∷ fed) ≡ resume_skip self.new fed }
         ensures fetched { (v : SeenValue) (fed : List Fed) → resume_skip self.old (Fetched v ∷ fed) ≡ resume_skip self.new fed }
         ensures line { self.new.line ≡ self.old.line }

@@ -3,7 +3,7 @@ ghost use Rattle.std.specs.Prelude.{◌≡◌, List, [], ◌∷◌};
 ghost use Rattle.tex_defs.specs.declared.Token.{Token};
 ghost use Rattle.rows.specs.declared.words.Value.{Value};
 ghost use Rattle.equivalents.specs.Locations.{SeenValue};
-ghost use Rattle.rows.specs.Readings.{Fed, Tok, Told, Val, Fetched};
+ghost use Rattle.rows.specs.Readings.{Fed, Tok, Noted, Val, Fetched};
 ghost use Rattle.rows.specs.Tokens as tokens;
 ghost use Rattle.plain_readings.specs.Spelling as names;
 ghost use Rattle.plain_readings.specs.Spelling.{spelling, characters};
@@ -109,9 +109,9 @@ impl SpellScan {
 
     /// Goes on behind its report.
     #[tactic(auto, using(crate::proofs::Growing::append_nil))]
-    pub fn told(&mut self)
-        ensures asks { (list : List Token) (fed : List Fed) → resume_name self.old list (Told ∷ fed) ≡ resume_name self.new list fed }
-        ensures builds { (list : List Token) (fed : List Fed) → name_list self.old list (Told ∷ fed) ≡ name_list self.new list fed }
+    pub fn noted(&mut self)
+        ensures asks { (list : List Token) (fed : List Fed) → resume_name self.old list (Noted ∷ fed) ≡ resume_name self.new list fed }
+        ensures builds { (list : List Token) (fed : List Fed) → name_list self.old list (Noted ∷ fed) ≡ name_list self.new list fed }
     {
         match self.place {
             SpellPlace::Inside => self.place = SpellPlace::Stopped,

@@ -3,12 +3,12 @@ ghost use Rattle.std.specs.Prelude.{◌≡◌, ◌≤◌, ◌<◌, ◌+◌, ◌^
 ghost use Rattle.tex_defs.specs.declared.Name.{Name};
 ghost use Rattle.tex_defs.specs.declared.Token.{Token};
 ghost use Rattle.tex_syntax.specs.declared.words.Scanned.{Scanned};
-ghost use Rattle.rows.specs.Readings.{Fed, Tok, Told, Val};
+ghost use Rattle.rows.specs.Readings.{Fed, Tok, Noted, Val};
 ghost use Rattle.plain_readings.specs.Lists as lists;
 ghost use Rattle.plain_readings.specs.Lists.{build_ask, build_fed};
 ghost use Rattle.list_builder.specs.Stages as stages;
 ghost use Rattle.reading_frames.specs.Views.{ask_of, IsFetchedAt, grown, Lists, top_list};
-ghost use Rattle.reading_frames.specs.Resumes.{resume_build, body_want, groups_in, built_as, token_count, Owns};
+ghost use Rattle.reading_frames.specs.Resumes.{resume_build, next_in_body, groups_in, built_as, token_count, Owns};
 ghost use Rattle.reading_frames.specs.declared.ask.Ask.TheVariants as asks;
 
 use crate::ask::{Ask, Grown};
@@ -74,10 +74,11 @@ impl BuildScan {
         }
     }
 
-    /// What it asks for where it reads the body of a text or of a macro: a token, expanded or not.
+    /// What it asks for where the next token of the body itself is wanted, of a text or of a macro. Behind a parameter character that may yet
+    /// stand for a parameter another is.
     #[inline(always)]
-    pub fn body_want(&self) -> Option<Want>
-        ensures is { result ≡ body_want self.now }
+    pub fn next_in_body(&self) -> Option<Want>
+        ensures is { result ≡ next_in_body self.now }
         ensures asks { IfSome result (λ want. (held : Lists) → ask_of held (asks.More want) ≡ build_ask (resume_build self.now (top_list held) [])) }
     {
         match self.place {
@@ -161,14 +162,14 @@ impl BuildScan {
     }
 
     /// Goes on behind its report.
-    pub fn told(&mut self) -> Grown
+    pub fn noted(&mut self) -> Grown
         ensures what { self.new.defines ≡ self.old.defines }
         ensures name { self.new.manner.name ≡ self.old.manner.name }
-        ensures goes_on { (list : List Token) (fed : List Fed) → resume_build self.old list (Told ∷ fed) ≡ resume_build self.new (grown result list) fed }
+        ensures goes_on { (list : List Token) (fed : List Fed) → resume_build self.old list (Noted ∷ fed) ≡ resume_build self.new (grown result list) fed }
         ensures shallow { groups_in self.new ≤ groups_in self.old + token_count result }
     {
         match self.place {
-            BuildPlace::At(stage) => self.go(stage.told()),
+            BuildPlace::At(stage) => self.go(stage.noted()),
             BuildPlace::Whole => Grown::none(),
         }
     }

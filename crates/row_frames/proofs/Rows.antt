@@ -7,7 +7,7 @@ use Rattle.rows.specs.declared.command.Row.{Row}
 use Rattle.rows.specs.declared.command.Row.TheVariants.{One, Two, Three, Four}
 use Rattle.rows.specs.Readings.{Fed, Ask}
 use Rattle.rows.specs.Table.{stages_in, stages_left, first_in, rest_in}
-use Rattle.rows.specs.Run.{Outcome, Takes, Passes, behind, run}
+use Rattle.rows.specs.Run.{StageOutcome, Takes, Passes, behind, run}
 use Rattle.row_frames.specs.declared.turn.Kept.{Kept}
 use Rattle.row_frames.specs.declared.turn.Kept.TheVariants as kept
 use Rattle.row_frames.specs.Resumes.{within, resume_row}
@@ -33,7 +33,7 @@ module _ (turn : Call → List Fed → Ask) (c : Call) (left : Option Row) (stag
   abbrev pub Next : List Datum → List Fed → Ask
   Next es fed = resume_row turn c (stages_left next) es kept.Start fed
 
-  by_stage : (fed : List Fed) (o : Outcome) → within s c ds k (y ∷ fed) ≡ o → At fed ≡ behind turn c ds (λ es more. run turn c (rest_in stages) es more) o
+  by_stage : (fed : List Fed) (o : StageOutcome) → within s c ds k (y ∷ fed) ≡ o → At fed ≡ behind turn c ds (λ es more. run turn c (rest_in stages) es more) o
   by_stage fed o e =
       ap (λ (l : Option Row). resume_row turn c (stages_left l) ds k (y ∷ fed)) some
       ∙ ap (λ (t : Stage). behind turn c ds (λ es more. run turn c (rest_in stages) es more) (within t c ds k (y ∷ fed))) (sym first)

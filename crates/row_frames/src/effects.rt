@@ -122,8 +122,8 @@ fn comes_to(action: Action, read: &Data) -> Effect
 }
 
 /// What a command does.
-pub fn effect_of(call: Call, read: &Data) -> Effect
-    ensures { result ≡ effects.effect_of call (values read.now) }
+pub fn command_effect(call: Call, read: &Data) -> Effect
+    ensures { result ≡ effects.command_effect call (values read.now) }
 {
     comes_to(row_of(call.head).1, read)
 }

@@ -4,7 +4,7 @@ ghost use Rattle.rows.specs.Table.{stages_left};
 ghost use Rattle.row_frames.specs.Data.{values};
 
 use crate::data::{Data, name};
-use crate::effects::{as_definition, effect_of};
+use crate::effects::{as_definition, command_effect};
 use crate::turn::{Ask, Fed, Kept, Turn, opening, take};
 use rows::{Call, Effect, Row, row_of};
 
@@ -27,7 +27,7 @@ impl RowFrame {
     ghost use Rattle.rows.specs.Readings as reading;
     ghost use Rattle.rows.specs.Table.{stages_of};
     ghost use Rattle.rows.specs.Run.{row, run};
-    ghost use Rattle.row_frames.specs.Views.{ask_of, fed_of, GivesBack, IsOpen};
+    ghost use Rattle.row_frames.specs.Views.{ask_of, fed_of, IsOpen};
     ghost use Rattle.row_frames.specs.Resumes.{resume, turn_of};
     ghost use Rattle.row_frames.specs.declared.turn.Kept.TheVariants as kept_at;
 
@@ -59,11 +59,10 @@ impl RowFrame {
     /// What a command asks for that stands before a stage, or behind the last.
     pub fn first_ask(&self) -> Ask
         ensures asks { self.now.kept ≡ kept_at.Start → (ts : List Token) → resume self.now [] ≡ ask_of ts result }
-        ensures back { (y : reading.Fed) → GivesBack result y }
     {
         match self.left {
             Some(stages) => opening(stages.first(), self.call, &self.read),
-            None => Ask::Acts(self.call, effect_of(self.call, &self.read)),
+            None => Ask::Acts(self.call, command_effect(self.call, &self.read)),
         }
     }
 
@@ -71,7 +70,6 @@ impl RowFrame {
     fn go_on_as(&mut self, call: Call) -> Ask
         ensures answer { (ts : List Token) → turn_of self.old.is_turned call [] ≡ ask_of ts result }
         ensures goes_on { IsOpen result → (fed : List reading.Fed) → turn_of self.old.is_turned call fed ≡ resume self.new fed }
-        ensures back { (y : reading.Fed) → GivesBack result y }
     {
         if self.is_turned {
             return Ask::Ends;
@@ -84,11 +82,10 @@ impl RowFrame {
     pub fn feed(&mut self, y: Fed) -> Ask
         ensures answer { (ts : List Token) → resume self.old (fed_of ts y ∷ []) ≡ ask_of ts result }
         ensures goes_on { IsOpen result → (ts : List Token) (fed : List reading.Fed) → resume self.old (fed_of ts y ∷ fed) ≡ resume self.new fed }
-        ensures back { (ts : List Token) → GivesBack result (fed_of ts y) }
     {
         let stages = match self.left {
             Some(stages) => stages,
-            None => return Ask::Acts(self.call, effect_of(self.call, &self.read)),
+            None => return Ask::Acts(self.call, command_effect(self.call, &self.read)),
         };
         match take(stages.first(), self.call, &self.read, self.kept, y) {
             Turn::Stays(kept, ask) => {
@@ -111,7 +108,7 @@ impl RowFrame {
                 self.kept = Kept::Start;
                 self.feed(y)
             }
-            Turn::Gathers => Ask::ActsOn(self.call, effect_of(self.call, &self.read)),
+            Turn::Gathers => Ask::ActsOn(self.call, command_effect(self.call, &self.read)),
             Turn::Defines => Ask::Defines(as_definition(self.call), name(self.read.first())),
             Turn::Becomes(call) => self.go_on_as(call),
             Turn::Unassigned(call) => Ask::Acts(call, Effect::Unassigned),

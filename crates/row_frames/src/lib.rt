@@ -7,13 +7,11 @@
 mod conditions;
 mod data;
 mod effects;
-mod feeding;
 mod frame;
 mod stages;
 mod turn;
 
 pub use data::Data;
 pub use effects::reads_under_normal;
-pub use feeding::replay;
 pub use frame::RowFrame;
-pub use turn::{Ask, Fed, Kept};
+pub use turn::{Ask, Fed, Kept, note_due};

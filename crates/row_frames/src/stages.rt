@@ -10,7 +10,7 @@ ghost use Rattle.row_frames.specs.Data.{values};
 
 use crate::data::{Data, location, name};
 use rows::{
-    Bank, Call, Complaint, Datum, DimenKind, Got, Head, Internal, Kind, Met, Next, Note, Prefix,
+    Bank, Call, Complaint, Datum, DimenKind, Got, Head, Internal, Met, Next, Note, Phrase, Prefix,
     Relation, Stage, Start, Value, byte_of, find_row, list_of, number_in, value_of, value_stage,
     variable_of,
 };
@@ -157,8 +157,8 @@ fn new_name(call: Call, x: Seen) -> Met
 }
 
 /// What a token stands for; of another one comes what is given.
-fn standing(otherwise: Met, stands: Option<Internal>) -> Met
-    ensures { result ≡ stages.standing otherwise stands }
+fn internal_met(otherwise: Met, stands: Option<Internal>) -> Met
+    ensures { result ≡ stages.internal_met otherwise stands }
 {
     match stands {
         Some(Internal::Given(n)) => Met::Takes(Datum::Number(i32::from(n))),
@@ -191,7 +191,7 @@ fn variable(call: Call, x: Seen) -> Met
 {
     let note = unusable_behind(primitive_number(call.head), x);
     let refused = Met::Notes(note, Next::Unassigned(call));
-    standing(refused, variable_of(x.meaning))
+    internal_met(refused, variable_of(x.meaning))
 }
 
 /// What stands for a number, a dimension, glue or a list of tokens; another token counts as 0, and the report names `\the`.
@@ -200,7 +200,7 @@ fn internal(call: Call, x: Seen) -> Met
 {
     let zero = Next::Takes(Datum::Number(0));
     let refused = Met::Notes(unusable_behind(THE, x), zero);
-    standing(refused, value_of(x.meaning))
+    internal_met(refused, value_of(x.meaning))
 }
 
 /// Whether it means `\relax`.
@@ -221,8 +221,8 @@ fn token_list(call: Call, x: Seen) -> Met
     if means_relax(x.meaning) {
         return Met::Skips(call);
     }
-    let text = Met::Begins(Kind::Text(call.name, false));
-    standing(text, list_of(x.meaning))
+    let text = Met::Begins(Phrase::Text(call.name, false));
+    internal_met(text, list_of(x.meaning))
 }
 
 /// The number of a register or of a character; one out of its range is reported, and the location is that of 0.
@@ -480,16 +480,16 @@ pub fn on_value(stage: Stage, value: Value) -> Got
 }
 
 /// The reading that a value is: a number, a dimension or glue.
-fn value_kind(stage: Stage) -> Kind
-    ensures { result ≡ stages.value_kind stage }
+fn value_phrase(stage: Stage) -> Phrase
+    ensures { result ≡ stages.value_phrase stage }
 {
     match stage {
-        Stage::Dimension => Kind::Dimension(DimenKind {
+        Stage::Dimension => Phrase::Dimension(DimenKind {
             mu: false,
             infinite: false,
         }),
-        Stage::Glue(mu) => Kind::Glue(mu),
-        _ => Kind::Integer,
+        Stage::Glue(mu) => Phrase::Glue(mu),
+        _ => Phrase::Integer,
     }
 }
 
@@ -498,19 +498,21 @@ pub fn start(stage: Stage, call: Call, read: &Data) -> Start
     ensures { result ≡ stages.start stage call (values read.now) }
 {
     match stage {
-        Stage::Number | Stage::NumberTo(..) | Stage::NumberUpTo(_) => Start::Begins(Kind::Integer),
-        Stage::Dimension | Stage::Glue(_) => Start::Begins(value_kind(stage)),
-        Stage::Amount => Start::Begins(value_kind(value_stage(location(read.first())))),
+        Stage::Number | Stage::NumberTo(..) | Stage::NumberUpTo(_) => Start::Begins(
+            Phrase::Integer,
+        ),
+        Stage::Dimension | Stage::Glue(_) => Start::Begins(value_phrase(stage)),
+        Stage::Amount => Start::Begins(value_phrase(value_stage(location(read.first())))),
         Stage::Equals | Stage::NonblankToken | Stage::Relation => Start::Looks(Want::Nonblank),
         Stage::ControlSequence | Stage::NewName | Stage::LetEquals => Start::Looks(Want::Raw),
         Stage::Variable | Stage::InternalValue => Start::Looks(Want::Expanded),
         Stage::ExpandedToken => Start::Looks(Want::Expanded),
-        Stage::Keyword(keyword) => Start::Begins(Kind::Keyword(keyword)),
+        Stage::Keyword(keyword) => Start::Begins(Phrase::Keyword(keyword)),
         Stage::Space | Stage::AnyToken => Start::Looks(Want::Raw),
         Stage::UnenteredToken => Start::Looks(Want::Unentered),
-        Stage::Text(expanded) => Start::Begins(Kind::Text(call.name, expanded)),
+        Stage::Text(expanded) => Start::Begins(Phrase::Text(call.name, expanded)),
         Stage::MacroText(expanded) => {
-            Start::Begins(Kind::Definition(name(read.first()), expanded))
+            Start::Begins(Phrase::Definition(name(read.first()), expanded))
         }
         Stage::TokenList | Stage::Prefixes(_) => Start::Looks(Want::Command),
     }

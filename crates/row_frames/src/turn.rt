@@ -1,5 +1,5 @@
 // What a frame is fed with, what it asks for, and what a stage makes of what it is fed with.
-ghost use Rattle.std.specs.Prelude.{MatchBool, ◌≡◌, List, [], ◌∷◌};
+ghost use Rattle.std.specs.Prelude.{◌≡◌, List, [], ◌∷◌};
 ghost use Rattle.tex_defs.specs.declared.Token.{Token};
 ghost use Rattle.rows.specs.declared.words.Datum.{Datum};
 ghost use Rattle.rows.specs.declared.stage.Stage.{Stage};
@@ -8,14 +8,14 @@ ghost use Rattle.rows.specs.Readings.{Tok, Val};
 ghost use Rattle.rows.specs.Readings as reading;
 ghost use Rattle.rows.specs.Run.{Asks, looks, again, begins, inner, numbers, noted, valued, comes, due};
 ghost use Rattle.row_frames.specs.Data.{values};
-ghost use Rattle.row_frames.specs.Views.{ask_of, fed_of, GivesBack, IsOpen};
+ghost use Rattle.row_frames.specs.Views.{ask_of, fed_of, IsOpen};
 ghost use Rattle.row_frames.specs.declared.turn.Kept.TheVariants as kept_at;
 ghost use Rattle.row_frames.specs.Resumes.{within, IsTurn};
 
 use crate::data::Data;
 use crate::stages::{numbered_by, on_token, on_value, start};
 use equivalents::Val as StoredValue;
-use rows::{Bank, Call, Datum, Effect, Got, Kind, Met, Next, Note, Stage, Start, Value};
+use rows::{Bank, Call, Datum, Effect, Got, Met, Next, Note, Phrase, Stage, Start, Value};
 use tex_defs::{Name, Seen, Token};
 use tex_syntax::{Report, Want};
 
@@ -26,7 +26,7 @@ pub enum Fed {
     /// The value of an inner reading; its list of tokens is kept by whoever feeds the frame.
     Value(Value),
     /// A report was written, or a name made `\relax`.
-    Told,
+    Noted,
     /// What stands at a location, which no command asks for.
     Fetched(StoredValue<()>),
 }
@@ -35,8 +35,8 @@ pub enum Fed {
 #[derive(Clone, Copy)]
 pub enum Ask {
     More(Want),
-    /// An inner reading, and the token with which it begins.
-    Inner(Kind, Option<Seen>),
+    /// An inner reading, and whether it begins with the last token.
+    Inner(Phrase, bool),
     /// The command does this, and ends.
     Acts(Call, Effect),
     /// The command does this with the list that was read last, and ends.
@@ -45,25 +45,12 @@ pub enum Ask {
     Defines(Call, Name),
     /// The command ends.
     Ends,
-    /// A report, and the token that is given back before it.
-    Tells(Report, Option<Seen>),
-    /// A token that is inserted, the report behind it, and the token that is given back before.
-    Inserts(Token, Report, Option<Seen>),
+    /// A report, and whether the last token is given back before it.
+    Tells(Report, bool),
+    /// A token that is inserted, the report behind it, and whether the last token is given back before.
+    Inserts(Token, Report, bool),
     /// The name becomes `\relax`, by this command.
     Relaxes(Call, Name),
-}
-
-impl Ask {
-    /// Whether the command goes on.
-    pub fn is_open(&self) -> bool
-        ensures { MatchBool result (IsOpen self.now) (IsOpen self.now → ⊥) }
-    {
-        match self {
-            Ask::Acts(..) | Ask::ActsOn(..) => false,
-            Ask::Defines(..) | Ask::Ends => false,
-            _ => true,
-        }
-    }
 }
 
 /// Where in its stage a command stands.
@@ -74,7 +61,7 @@ pub enum Kept {
     /// It looks at a token, in this call.
     Looking(Call, Want),
     /// An inner reading goes on, which began with the token that the stage before left.
-    Within(Kind),
+    Within(Phrase),
     /// An integer goes on, the number of a register or of a character, whose location is read.
     Numbered(Bank),
     /// The note comes, and then this.
@@ -102,16 +89,13 @@ pub enum Turn {
     Ends,
 }
 
-/// The note that comes behind this token, which may be given back.
-fn note_due(note: Note, x: Seen) -> Ask
-    ensures is { (ts : List Token) → ask_of ts result ≡ due note }
-    ensures back { GivesBack result (Tok x) }
+/// What a note asks for.
+pub fn note_due(note: Note) -> Ask
+    ensures { (ts : List Token) → ask_of ts result ≡ due note }
 {
     match note {
-        Note::Tells(report, back) => Ask::Tells(report, if back { Some(x) } else { None }),
-        Note::Inserts(token, report, back) => {
-            Ask::Inserts(token, report, if back { Some(x) } else { None })
-        }
+        Note::Tells(report, back) => Ask::Tells(report, back),
+        Note::Inserts(token, report, back) => Ask::Inserts(token, report, back),
         Note::Relaxes(call, name) => Ask::Relaxes(call, name),
     }
 }
@@ -137,10 +121,12 @@ fn look(stage: Stage, call: Call, want: Want, x: Seen) -> Turn
         Met::Passes => Turn::Passes,
         Met::Leaves => Turn::Leaves,
         Met::Skips(call) => Turn::Stays(Kept::Looking(call, want), Ask::More(want)),
-        Met::Notes(note, next) => Turn::Stays(Kept::Noting(note, next), note_due(note, x)),
-        Met::Retries(note) => Turn::Stays(Kept::Retrying(call, want, note), note_due(note, x)),
-        Met::Numbers(bank) => { Turn::Stays(Kept::Numbered(bank), Ask::Inner(Kind::Integer, None)) }
-        Met::Begins(kind) => Turn::Stays(Kept::Within(kind), Ask::Inner(kind, Some(x))),
+        Met::Notes(note, next) => Turn::Stays(Kept::Noting(note, next), note_due(note)),
+        Met::Retries(note) => Turn::Stays(Kept::Retrying(call, want, note), note_due(note)),
+        Met::Numbers(bank) => {
+            Turn::Stays(Kept::Numbered(bank), Ask::Inner(Phrase::Integer, false))
+        }
+        Met::Begins(kind) => Turn::Stays(Kept::Within(kind), Ask::Inner(kind, true)),
         Met::Becomes(call) => Turn::Becomes(call),
     }
 }
@@ -153,7 +139,7 @@ fn gain(got: Got, value: Value) -> Turn
         Got::Takes(datum) => Turn::Takes(datum),
         Got::Tells(report, next) => {
             let note = Note::Tells(report, false);
-            Turn::Stays(Kept::Noting(note, next), Ask::Tells(report, None))
+            Turn::Stays(Kept::Noting(note, next), Ask::Tells(report, false))
         }
         Got::Gathers => Turn::Gathers,
         Got::Defines => Turn::Defines,
@@ -167,31 +153,31 @@ fn looked(stage: Stage, call: Call, want: Want, y: Fed) -> Turn
     match y {
         Fed::Token(x) => look(stage, call, want, x),
         Fed::Value(_) => Turn::Ends,
-        Fed::Told => Turn::Ends,
+        Fed::Noted => Turn::Ends,
         Fed::Fetched(_) => Turn::Ends,
     }
 }
 
 /// What is made of what comes where a stage is an inner reading.
-fn begun(stage: Stage, kind: Kind, y: Fed) -> Turn
+fn begun(stage: Stage, kind: Phrase, y: Fed) -> Turn
     ensures { (c : Call) (ds : List Datum) (ts : List Token) → IsTurn stage c ds ts (fed_of ts y) (λ fed. begins stage kind (fed_of ts y ∷ fed)) result }
 {
     match y {
-        Fed::Token(x) => Turn::Stays(Kept::Within(kind), Ask::Inner(kind, Some(x))),
+        Fed::Token(_) => Turn::Stays(Kept::Within(kind), Ask::Inner(kind, true)),
         Fed::Value(value) => gain(on_value(stage, value), value),
-        Fed::Told => Turn::Ends,
+        Fed::Noted => Turn::Ends,
         Fed::Fetched(_) => Turn::Ends,
     }
 }
 
 /// What is made of what comes in an inner reading that began with a token.
-fn behind(stage: Stage, kind: Kind, y: Fed) -> Turn
+fn behind(stage: Stage, kind: Phrase, y: Fed) -> Turn
     ensures { (c : Call) (ds : List Datum) (ts : List Token) → IsTurn stage c ds ts (fed_of ts y) (λ fed. inner stage kind (fed_of ts y ∷ fed)) result }
 {
     match y {
         Fed::Value(value) => gain(on_value(stage, value), value),
         Fed::Token(_) => Turn::Ends,
-        Fed::Told => Turn::Ends,
+        Fed::Noted => Turn::Ends,
         Fed::Fetched(_) => Turn::Ends,
     }
 }
@@ -203,17 +189,17 @@ fn numbered(bank: Bank, y: Fed) -> Turn
     match y {
         Fed::Value(value) => gain(numbered_by(bank, value), value),
         Fed::Token(_) => Turn::Ends,
-        Fed::Told => Turn::Ends,
+        Fed::Noted => Turn::Ends,
         Fed::Fetched(_) => Turn::Ends,
     }
 }
 
 /// What is made of what comes at a note.
-fn told(note: Note, next: Next, y: Fed) -> Turn
+fn noted(note: Note, next: Next, y: Fed) -> Turn
     ensures { (s : Stage) (c : Call) (ds : List Datum) (ts : List Token) → IsTurn s c ds ts (fed_of ts y) (λ fed. noted note next (fed_of ts y ∷ fed)) result }
 {
     match y {
-        Fed::Told => behind_note(next),
+        Fed::Noted => behind_note(next),
         Fed::Token(_) => Turn::Ends,
         Fed::Value(_) => Turn::Ends,
         Fed::Fetched(_) => Turn::Ends,
@@ -221,11 +207,11 @@ fn told(note: Note, next: Next, y: Fed) -> Turn
 }
 
 /// What is made of what comes at a note behind which the stage is read again.
-fn retold(stage: Stage, call: Call, want: Want, note: Note, y: Fed) -> Turn
+fn looks_again(stage: Stage, call: Call, want: Want, note: Note, y: Fed) -> Turn
     ensures { (d : Call) (ds : List Datum) (ts : List Token) → IsTurn stage d ds ts (fed_of ts y) (λ fed. again stage call want note (fed_of ts y ∷ fed)) result }
 {
     match y {
-        Fed::Told => Turn::Stays(Kept::Looking(call, want), Ask::More(want)),
+        Fed::Noted => Turn::Stays(Kept::Looking(call, want), Ask::More(want)),
         Fed::Token(_) => Turn::Ends,
         Fed::Value(_) => Turn::Ends,
         Fed::Fetched(_) => Turn::Ends,
@@ -244,8 +230,8 @@ pub fn take(stage: Stage, call: Call, read: &Data, kept: Kept, y: Fed) -> Turn
         Kept::Looking(call, want) => looked(stage, call, want, y),
         Kept::Within(kind) => behind(stage, kind, y),
         Kept::Numbered(bank) => numbered(bank, y),
-        Kept::Noting(note, next) => told(note, next, y),
-        Kept::Retrying(call, want, note) => retold(stage, call, want, note, y),
+        Kept::Noting(note, next) => noted(note, next, y),
+        Kept::Retrying(call, want, note) => looks_again(stage, call, want, note, y),
     }
 }
 
@@ -253,10 +239,9 @@ pub fn take(stage: Stage, call: Call, read: &Data, kept: Kept, y: Fed) -> Turn
 pub fn opening(stage: Stage, call: Call, read: &Data) -> Ask
     ensures asks { (ts : List Token) → within stage call (values read.now) kept_at.Start [] ≡ Asks (ask_of ts result) }
     ensures open { IsOpen result }
-    ensures back { (y : reading.Fed) → GivesBack result y }
 {
     match start(stage, call, read) {
         Start::Looks(want) => Ask::More(want),
-        Start::Begins(kind) => Ask::Inner(kind, None),
+        Start::Begins(kind) => Ask::Inner(kind, false),
     }
 }

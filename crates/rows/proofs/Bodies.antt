@@ -7,8 +7,8 @@ use Rattle.rows.specs.declared.words.Value.{Value}
 use Rattle.rows.specs.declared.words.Value.TheVariants as value
 use Rattle.rows.specs.declared.words.Datum.{Datum}
 use Rattle.rows.specs.declared.words.Datum.TheVariants as datum
-use Rattle.rows.specs.declared.words.Kind.{Kind}
-use Rattle.rows.specs.declared.words.Kind.TheVariants.{Integer, Definition}
+use Rattle.rows.specs.declared.words.Phrase.{Phrase}
+use Rattle.rows.specs.declared.words.Phrase.TheVariants.{Integer, Definition}
 use Rattle.rows.specs.declared.internal.Bank.{Bank}
 use Rattle.rows.specs.declared.stage.Stage.{Stage}
 use Rattle.rows.specs.declared.stage.Stage.TheVariants.{MacroText, NumberTo, NumberUpTo}
@@ -23,13 +23,13 @@ use Rattle.rows.specs.declared.stage.Next.TheVariants as next
 use Rattle.rows.specs.declared.stage.Note.{Note}
 use Rattle.rows.specs.declared.stage.Note.TheVariants as note
 use Rattle.rows.specs.declared.command.Call.{Call}
-use Rattle.rows.specs.Readings.{Fed, Tok, Val, Told, Ask, More, Inner, Defines}
+use Rattle.rows.specs.Readings.{Fed, Tok, Val, Noted, Ask, More, Inner, Defines}
 use Rattle.rows.specs.Stages.{start, on_token, on_value, on_datum, numbered_by}
 use Rattle.rows.specs.Arithmetic.{number_in}
 use Rattle.rows.specs.Tokens.{is_at_most, is_up_to}
 use Rattle.std.specs.Prelude.{if◌then◌else◌}
 use Rattle.rows.specs.Table.{stages_of}
-use Rattle.rows.specs.Run.{Outcome, Asks, Takes, Passes, Gathers, Makes, Becomes, comes, due, noted, valued, inner, begins, numbers, met_with, looks, again, started, behind, run, no_turn, turned, row}
+use Rattle.rows.specs.Run.{StageOutcome, Asks, Takes, Passes, Gathers, Makes, Becomes, comes, due, noted, valued, inner, begins, numbers, met_with, looks, again, started, behind, run, no_turn, turned, row}
 use Rattle.rows.specs.Laws.{HasBody, Brings}
 
 -- A STAGE THAT IS FED WITH ONE MORE
@@ -46,7 +46,7 @@ IsPlain (Defines c n ts) = ⊥
 IsPlain a = Unit {0}
 
 -- what comes where a stage asked for this
-abbrev Follows : Fed → Ask → Outcome → Type 0
+abbrev Follows : Fed → Ask → StageOutcome → Type 0
 Follows y a (Asks b) = IsPlain b
 Follows y a (Takes d fed) = IsSuited fed
 Follows y a (Passes fed) = IsSuited fed
@@ -55,7 +55,7 @@ Follows y a (Makes ts) = Brings y a → ts ≢ []
 Follows y a (Becomes c fed) = IsSuited fed
 
 -- what came of a stage, and what comes of it with one more
-abbrev Extends : Fed → Outcome → Outcome → Type 0
+abbrev Extends : Fed → StageOutcome → StageOutcome → Type 0
 Extends y (Asks a) o = Follows y a o
 Extends y (Takes d fed) o = o ≡ Takes d (fed ++ y ∷ [])
 Extends y (Passes fed) o = o ≡ Passes (fed ++ y ∷ [])
@@ -81,9 +81,9 @@ comes_more y (next.Unassigned c) fed = tt
 comes_more y (next.Becomes c) fed = refl
 
 noted_more : (y : Fed) (n : Note) (m : Next) (fed : List Fed) → Extends y (noted n m fed) (noted n m (fed ++ y ∷ []))
-noted_more Told n m [] = comes_first Told (due n) m
+noted_more Noted n m [] = comes_first Noted (due n) m
 noted_more y n m [] = tt
-noted_more y n m (Told ∷ fed) = comes_more y m fed
+noted_more y n m (Noted ∷ fed) = comes_more y m fed
 noted_more y n m (z ∷ fed) = tt
 
 valued_more : (y : Fed) (g : Got) (ts : List Token) (fed : List Fed) → Extends y (valued g ts fed) (valued g ts (fed ++ y ∷ []))
@@ -93,7 +93,7 @@ valued_more y got.Gathers ts fed = refl
 valued_more y got.Defines ts fed = refl
 
 -- the list of a macro is that of a definition
-abbrev Fits : Stage → Kind → Type 0
+abbrev Fits : Stage → Phrase → Type 0
 Fits (MacroText expanded) (Definition n whole) = Unit {0}
 Fits (MacroText expanded) k = ⊥
 Fits s k = Unit {0}
@@ -118,7 +118,7 @@ value_plain y a (got.Tells report m) ts h = tt
 value_plain y a got.Gathers ts h = tt
 value_plain y a got.Defines ts h = absurd h
 
-macro_first : (v : Value) (ts : List Token) (expanded : Bool) (k : Kind) (b : Bool) → Fits (MacroText expanded) k → Follows (Val v ts) (Inner k b) (valued (on_value (MacroText expanded) v) ts [])
+macro_first : (v : Value) (ts : List Token) (expanded : Bool) (k : Phrase) (b : Bool) → Fits (MacroText expanded) k → Follows (Val v ts) (Inner k b) (valued (on_value (MacroText expanded) v) ts [])
 macro_first value.List ts expanded (Definition n whole) b fits = λ h. h
 macro_first (value.Plain d) ts expanded (Definition n whole) b fits = tt
 macro_first v ts expanded k b fits = absurd fits
@@ -132,18 +132,18 @@ datum_plain (NumberTo greatest complaint) d = got_if (is_at_most greatest (numbe
 datum_plain (NumberUpTo greatest) d = got_if (is_up_to greatest (number_in d)) _ _ tt tt
 datum_plain s d = tt
 
-value_first : (s : Stage) (k : Kind) (b : Bool) (v : Value) (ts : List Token) → Fits s k → Follows (Val v ts) (Inner k b) (valued (on_value s v) ts [])
+value_first : (s : Stage) (k : Phrase) (b : Bool) (v : Value) (ts : List Token) → Fits s k → Follows (Val v ts) (Inner k b) (valued (on_value s v) ts [])
 value_first (MacroText expanded) k b v ts fits = macro_first v ts expanded k b fits
 value_first s k b (value.Plain d) ts fits = value_plain (Val (value.Plain d) ts) (Inner k b) (on_datum s d) ts (datum_plain s d)
 value_first s k b value.List ts fits = tt
 
-inner_more : (y : Fed) (s : Stage) (k : Kind) → Fits s k → (fed : List Fed) → Extends y (inner s k fed) (inner s k (fed ++ y ∷ []))
+inner_more : (y : Fed) (s : Stage) (k : Phrase) → Fits s k → (fed : List Fed) → Extends y (inner s k fed) (inner s k (fed ++ y ∷ []))
 inner_more (Val v ts) s k fits [] = value_first s k true v ts fits
 inner_more y s k fits [] = tt
 inner_more y s k fits (Val v ts ∷ fed) = valued_more y (on_value s v) ts fed
 inner_more y s k fits (z ∷ fed) = tt
 
-begins_more : (y : Fed) (s : Stage) (k : Kind) → Fits s k → (fed : List Fed) → Extends y (begins s k fed) (begins s k (fed ++ y ∷ []))
+begins_more : (y : Fed) (s : Stage) (k : Phrase) → Fits s k → (fed : List Fed) → Extends y (begins s k fed) (begins s k (fed ++ y ∷ []))
 begins_more (Val v ts) s k fits [] = value_first s k false v ts fits
 begins_more y s k fits [] = tt
 begins_more y s k fits (Tok x ∷ fed) = inner_more y s k fits fed
@@ -161,12 +161,12 @@ numbers_more y bank [] = tt
 numbers_more y bank (Val v ts ∷ fed) = valued_more y (numbered_by bank v) ts fed
 numbers_more y bank (z ∷ fed) = tt
 
-met_fits : (s : Stage) (k : Kind) → FitsMet s (met.Begins k) → Fits s k
+met_fits : (s : Stage) (k : Phrase) → FitsMet s (met.Begins k) → Fits s k
 met_fits (MacroText expanded) k fits = absurd fits
 met_fits s k fits = tt
 
 module _ (s : Stage) (c : Call) (want : Want) (x : Seen) where
-  abbrev Met_of : Met → List Fed → Outcome
+  abbrev Met_of : Met → List Fed → StageOutcome
   Met_of m fed = met_with s (Tok x) m (λ d. looks s d want fed) (λ n. again s c want n fed) fed
 
   met_first : (m : Met) → Follows (Tok x) (More want) (Met_of m [])
@@ -200,9 +200,9 @@ mutual
   looks_more y s c want (z ∷ fed) = tt
 
   again_more : (y : Fed) (s : Stage) (c : Call) (want : Want) (n : Note) (fed : List Fed) → Extends y (again s c want n fed) (again s c want n (fed ++ y ∷ []))
-  again_more Told s c want n [] = tt
+  again_more Noted s c want n [] = tt
   again_more y s c want n [] = tt
-  again_more y s c want n (Told ∷ fed) = looks_more y s c want fed
+  again_more y s c want n (Noted ∷ fed) = looks_more y s c want fed
   again_more y s c want n (z ∷ fed) = tt
 
 abbrev FitsStart : Stage → Start → Type 0
@@ -229,13 +229,13 @@ small_body onward h more fed small = absurd small
 
 module _ (turn : Call → List Fed → Ask) (turn_more : (c : Call) (fed : List Fed) (y : Fed) → Keeps y (turn c fed) (turn c (fed ++ y ∷ [])))
     (turn_small : (c : Call) (fed : List Fed) → IsSuited fed → HasBody (turn c fed)) where
-  abbrev After : Call → List Datum → (onward : List Datum → List Fed → Ask) → Outcome → Ask
+  abbrev After : Call → List Datum → (onward : List Datum → List Fed → Ask) → StageOutcome → Ask
   After c ds onward o = behind turn c ds onward o
 
   module _ (c : Call) (ds : List Datum) (onward : List Datum → List Fed → Ask)
       (more : (es : List Datum) (fed : List Fed) (y : Fed) → Keeps y (onward es fed) (onward es (fed ++ y ∷ [])))
       (small : (es : List Datum) (fed : List Fed) → IsSuited fed → HasBody (onward es fed)) where
-    follows_body : (y : Fed) (a : Ask) (o : Outcome) → Follows y a o → Brings y a → HasBody (After c ds onward o)
+    follows_body : (y : Fed) (a : Ask) (o : StageOutcome) → Follows y a o → Brings y a → HasBody (After c ds onward o)
     follows_body y a (Asks (Defines d n ts)) f h = absurd f
     follows_body y a (Asks b) f h = tt
     follows_body y a (Takes d fed) f h = small (ds ++ d ∷ []) fed f
@@ -244,13 +244,13 @@ module _ (turn : Call → List Fed → Ask) (turn_more : (c : Call) (fed : List 
     follows_body y a (Makes ts) f h = f h
     follows_body y a (Becomes d fed) f h = turn_small d fed f
 
-    behind_more : (y : Fed) (o p : Outcome) → Extends y o p → Keeps y (After c ds onward o) (After c ds onward p)
+    behind_more : (y : Fed) (o p : StageOutcome) → Extends y o p → Keeps y (After c ds onward o) (After c ds onward p)
     behind_more y (Asks a) p e h i = follows_body y a p e h
-    behind_more y (Takes d fed) p e h i = subst (λ (o : Outcome). HasBody (After c ds onward o)) (sym e) (more (ds ++ d ∷ []) fed y h i)
-    behind_more y (Passes fed) p e h i = subst (λ (o : Outcome). HasBody (After c ds onward o)) (sym e) (more ds fed y h i)
-    behind_more y (Gathers ts) p e h i = subst (λ (o : Outcome). HasBody (After c ds onward o)) (sym e) tt
-    behind_more y (Makes ts) p e h i = subst (λ (o : Outcome). HasBody (After c ds onward o)) (sym e) i
-    behind_more y (Becomes d fed) p e h i = subst (λ (o : Outcome). HasBody (After c ds onward o)) (sym e) (turn_more d fed y h i)
+    behind_more y (Takes d fed) p e h i = subst (λ (o : StageOutcome). HasBody (After c ds onward o)) (sym e) (more (ds ++ d ∷ []) fed y h i)
+    behind_more y (Passes fed) p e h i = subst (λ (o : StageOutcome). HasBody (After c ds onward o)) (sym e) (more ds fed y h i)
+    behind_more y (Gathers ts) p e h i = subst (λ (o : StageOutcome). HasBody (After c ds onward o)) (sym e) tt
+    behind_more y (Makes ts) p e h i = subst (λ (o : StageOutcome). HasBody (After c ds onward o)) (sym e) i
+    behind_more y (Becomes d fed) p e h i = subst (λ (o : StageOutcome). HasBody (After c ds onward o)) (sym e) (turn_more d fed y h i)
 
   -- a row that was fed with nothing makes no macro
   first_body : (c : Call) (ss : List Stage) (ds : List Datum) → HasBody (run turn c ss ds [])

@@ -19,8 +19,8 @@ use Rattle.rows.specs.declared.words.Datum.{Datum}
 use Rattle.rows.specs.declared.words.Datum.TheVariants as datum
 use Rattle.rows.specs.declared.words.Value.{Value}
 use Rattle.rows.specs.declared.words.Value.TheVariants as value
-use Rattle.rows.specs.declared.words.Kind.{Kind}
-use Rattle.rows.specs.declared.words.Kind.TheVariants as kind
+use Rattle.rows.specs.declared.words.Phrase.{Phrase}
+use Rattle.rows.specs.declared.words.Phrase.TheVariants as phrase
 use Rattle.rows.specs.declared.stage.Stage.{Stage}
 use Rattle.rows.specs.declared.stage.Stage.TheVariants.{NumberTo, NumberUpTo, Equals, InternalValue, MacroText, TokenList, Variable}
 use Rattle.rows.specs.declared.stage.Start.{Start}
@@ -45,15 +45,15 @@ use Rattle.rows.specs.declared.command.Row.{Row}
 use Rattle.rows.specs.declared.command.TheConstants.{SYNTAX}
 use Rattle.rows.specs.declared.internal.Bank.{Bank}
 use Rattle.rows.specs.declared.internal.Bank.TheVariants as bank
-use Rattle.rows.specs.declared.internal.Internal.{Internal as Stands}
+use Rattle.rows.specs.declared.internal.Internal.{Internal}
 use Rattle.rows.specs.declared.internal.Internal.TheVariants as internal
 use Rattle.rows.specs.declared.command.Effect.TheVariants as effect
 use Rattle.rows.specs.Arithmetic.{number_in, glue_in}
 use Rattle.rows.specs.Effects.{comes_to, set_to, list_to, value_made, shows_datum}
 use Rattle.rows.specs.Internal.{byte_of, first_integer, last_integer, first_dimension, last_dimension, first_glue, last_glue, first_list, last_list, location_in, internal_of, internal_parameter, internal_primitive, is_glue, is_list, list_of, list_parameter, or_else, value_of, variable_of, variable_primitive}
-use Rattle.rows.specs.Readings.{Fed, Tok, Val, Told, Ask}
-use Rattle.rows.specs.Run.{Outcome, Asks, Takes, Passes, Gathers, Makes, Becomes, comes, due, noted, valued, inner, begins, numbers, met_with, looks, again, started, behind, run, no_turn, turned, row}
-use Rattle.rows.specs.Stages.{datum_at, location_read, start, standing, numbered_by, on_token, on_value, on_datum, on_list}
+use Rattle.rows.specs.Readings.{Fed, Tok, Val, Noted, Ask}
+use Rattle.rows.specs.Run.{StageOutcome, Asks, Takes, Passes, Gathers, Makes, Becomes, comes, due, noted, valued, inner, begins, numbers, met_with, looks, again, started, behind, run, no_turn, turned, row}
+use Rattle.rows.specs.Stages.{datum_at, location_read, start, internal_met, numbered_by, on_token, on_value, on_datum, on_list}
 use Rattle.rows.specs.Table.{stages_in, stages_of, find_row, parameter_row, row_among, row_or_token, action_of, assignment_to}
 use Rattle.rows.specs.Tests.{tested}
 use Rattle.rows.specs.Tokens.{is_at_most, is_up_to, is_equals}
@@ -119,7 +119,7 @@ GotFits s (got.Takes d) = IsRead s d
 GotFits s (got.Tells report m) = NextFits s m
 GotFits s g = Unit {0}
 
-abbrev Fits : Stage → Outcome → Type 0
+abbrev Fits : Stage → StageOutcome → Type 0
 Fits s (Asks a) = AsksSuited a
 Fits s (Takes d fed) = IsRead s d
 Fits s (Passes fed) = MayPass s
@@ -147,47 +147,47 @@ met_if s true l m h i = h
 met_if s false l m h i = i
 
 -- what a token stands for, where it is to be read
-abbrev StandingFits : Stage → Option Stands → Type 0
-StandingFits s (Some (internal.Given n)) = IsRead s (datum.Number (pos n))
-StandingFits s (Some (internal.At l)) = IsRead s (datum.At l)
-StandingFits s (Some (internal.Numbered b)) = (n : ℕ) → IsRead s (datum.At (location_in b n))
-StandingFits s None = Unit {0}
+abbrev InternalFits : Stage → Option Internal → Type 0
+InternalFits s (Some (internal.Given n)) = IsRead s (datum.Number (pos n))
+InternalFits s (Some (internal.At l)) = IsRead s (datum.At l)
+InternalFits s (Some (internal.Numbered b)) = (n : ℕ) → IsRead s (datum.At (location_in b n))
+InternalFits s None = Unit {0}
 
-standing_fits : (s : Stage) (otherwise : Met) (o : Option Stands) → MetFits s otherwise → StandingFits s o → MetFits s (standing otherwise o)
-standing_fits s otherwise (Some (internal.Given n)) h i = i
-standing_fits s otherwise (Some (internal.At l)) h i = i
-standing_fits s otherwise (Some (internal.Numbered b)) h i = i
-standing_fits s otherwise None h i = h
+internal_met_fits : (s : Stage) (otherwise : Met) (o : Option Internal) → MetFits s otherwise → InternalFits s o → MetFits s (internal_met otherwise o)
+internal_met_fits s otherwise (Some (internal.Given n)) h i = i
+internal_met_fits s otherwise (Some (internal.At l)) h i = i
+internal_met_fits s otherwise (Some (internal.Numbered b)) h i = i
+internal_met_fits s otherwise None h i = h
 
-stands_if : (s : Stage) (b : Bool) (l o : Option Stands) → (b ≡ true → StandingFits s l) → StandingFits s o → StandingFits s (if b then l else o)
-stands_if s true l o h i = h refl
-stands_if s false l o h i = i
+internal_if : (s : Stage) (b : Bool) (l o : Option Internal) → (b ≡ true → InternalFits s l) → InternalFits s o → InternalFits s (if b then l else o)
+internal_if s true l o h i = h refl
+internal_if s false l o h i = i
 
 -- the parameters are as many as there are locations of their kind
-parameter_varies : (n : ℕ) → StandingFits Variable (internal_parameter n)
+parameter_varies : (n : ℕ) → InternalFits Variable (internal_parameter n)
 parameter_varies n =
-    stands_if Variable (is_between first_integer last_integer n) _ _ (λ is. (grind (arith, nat_tests, is), λ m. tt))
-    (stands_if Variable (is_between first_dimension last_dimension n) _ _ (λ is. (grind (arith, nat_tests, is), λ m. tt))
-    (stands_if Variable (is_between first_glue last_glue n) _ _ (λ is. (grind (arith, nat_tests, is), λ g. tt)) tt))
+    internal_if Variable (is_between first_integer last_integer n) _ _ (λ is. (grind (arith, nat_tests, is), λ m. tt))
+    (internal_if Variable (is_between first_dimension last_dimension n) _ _ (λ is. (grind (arith, nat_tests, is), λ m. tt))
+    (internal_if Variable (is_between first_glue last_glue n) _ _ (λ is. (grind (arith, nat_tests, is), λ g. tt)) tt))
 
 -- the registers are variables, and no codes
-numbered_varies : (n : ℕ) → is_between 41 44 n ≡ true → StandingFits Variable (internal_primitive n)
+numbered_varies : (n : ℕ) → is_between 41 44 n ≡ true → InternalFits Variable (internal_primitive n)
 numbered_varies n among =
-    stands_if Variable (n == 35) _ _ (λ is. absurd (grind (arith, nat_tests, is, among)))
-    (stands_if Variable (n == 36) _ _ (λ is. absurd (grind (arith, nat_tests, is, among)))
-    (stands_if Variable (n == 37) _ _ (λ is. absurd (grind (arith, nat_tests, is, among)))
-    (stands_if Variable (n == 38) _ _ (λ is. absurd (grind (arith, nat_tests, is, among)))
-    (stands_if Variable (n == 39) _ _ (λ is. absurd (grind (arith, nat_tests, is, among)))
-    (stands_if Variable (n == 40) _ _ (λ is. absurd (grind (arith, nat_tests, is, among)))
-    (stands_if Variable (n == 41) _ _ (λ is. λ k. (tt, λ m. tt))
-    (stands_if Variable (n == 42) _ _ (λ is. λ k. (tt, λ m. tt))
-    (stands_if Variable (n == 43) _ _ (λ is. λ k. (tt, λ g. tt))
-    (stands_if Variable (n == 44) _ _ (λ is. λ k. (tt, λ g. tt)) (parameter_varies n))))))))))
+    internal_if Variable (n == 35) _ _ (λ is. absurd (grind (arith, nat_tests, is, among)))
+    (internal_if Variable (n == 36) _ _ (λ is. absurd (grind (arith, nat_tests, is, among)))
+    (internal_if Variable (n == 37) _ _ (λ is. absurd (grind (arith, nat_tests, is, among)))
+    (internal_if Variable (n == 38) _ _ (λ is. absurd (grind (arith, nat_tests, is, among)))
+    (internal_if Variable (n == 39) _ _ (λ is. absurd (grind (arith, nat_tests, is, among)))
+    (internal_if Variable (n == 40) _ _ (λ is. absurd (grind (arith, nat_tests, is, among)))
+    (internal_if Variable (n == 41) _ _ (λ is. λ k. (tt, λ m. tt))
+    (internal_if Variable (n == 42) _ _ (λ is. λ k. (tt, λ m. tt))
+    (internal_if Variable (n == 43) _ _ (λ is. λ k. (tt, λ g. tt))
+    (internal_if Variable (n == 44) _ _ (λ is. λ k. (tt, λ g. tt)) (parameter_varies n))))))))))
 
-variable_primitive_fits : (n : ℕ) → StandingFits Variable (variable_primitive n)
-variable_primitive_fits n = stands_if Variable (is_between 41 44 n) (internal_primitive n) (internal_parameter n) (numbered_varies n) (parameter_varies n)
+variable_primitive_fits : (n : ℕ) → InternalFits Variable (variable_primitive n)
+variable_primitive_fits n = internal_if Variable (is_between 41 44 n) (internal_primitive n) (internal_parameter n) (numbered_varies n) (parameter_varies n)
 
-variable_fits : (m : Meaning Unit) → StandingFits Variable (variable_of m)
+variable_fits : (m : Meaning Unit) → InternalFits Variable (variable_of m)
 variable_fits (means.Register register.Count n) = (tt, λ m. tt)
 variable_fits (means.Register register.Dimen n) = (tt, λ m. tt)
 variable_fits (means.Register register.Skip n) = (tt, λ g. tt)
@@ -196,26 +196,26 @@ variable_fits (means.Register register.Toks n) = tt
 variable_fits (means.Prim n) = variable_primitive_fits n
 variable_fits m = tt
 
-parameter_fits : (n : ℕ) → StandingFits InternalValue (internal_parameter n)
+parameter_fits : (n : ℕ) → InternalFits InternalValue (internal_parameter n)
 parameter_fits n =
-    stands_if InternalValue (is_between first_integer last_integer n) _ _ (λ is. grind (arith, nat_tests, is))
-    (stands_if InternalValue (is_between first_dimension last_dimension n) _ _ (λ is. grind (arith, nat_tests, is))
-    (stands_if InternalValue (is_between first_glue last_glue n) _ _ (λ is. grind (arith, nat_tests, is)) tt))
+    internal_if InternalValue (is_between first_integer last_integer n) _ _ (λ is. grind (arith, nat_tests, is))
+    (internal_if InternalValue (is_between first_dimension last_dimension n) _ _ (λ is. grind (arith, nat_tests, is))
+    (internal_if InternalValue (is_between first_glue last_glue n) _ _ (λ is. grind (arith, nat_tests, is)) tt))
 
-internal_primitive_fits : (n : ℕ) → StandingFits InternalValue (internal_primitive n)
+internal_primitive_fits : (n : ℕ) → InternalFits InternalValue (internal_primitive n)
 internal_primitive_fits n =
-    stands_if InternalValue (n == 35) _ _ (λ is. λ k. tt)
-    (stands_if InternalValue (n == 36) _ _ (λ is. λ k. tt)
-    (stands_if InternalValue (n == 37) _ _ (λ is. λ k. tt)
-    (stands_if InternalValue (n == 38) _ _ (λ is. λ k. tt)
-    (stands_if InternalValue (n == 39) _ _ (λ is. λ k. tt)
-    (stands_if InternalValue (n == 40) _ _ (λ is. λ k. tt)
-    (stands_if InternalValue (n == 41) _ _ (λ is. λ k. tt)
-    (stands_if InternalValue (n == 42) _ _ (λ is. λ k. tt)
-    (stands_if InternalValue (n == 43) _ _ (λ is. λ k. tt)
-    (stands_if InternalValue (n == 44) _ _ (λ is. λ k. tt) (parameter_fits n))))))))))
+    internal_if InternalValue (n == 35) _ _ (λ is. λ k. tt)
+    (internal_if InternalValue (n == 36) _ _ (λ is. λ k. tt)
+    (internal_if InternalValue (n == 37) _ _ (λ is. λ k. tt)
+    (internal_if InternalValue (n == 38) _ _ (λ is. λ k. tt)
+    (internal_if InternalValue (n == 39) _ _ (λ is. λ k. tt)
+    (internal_if InternalValue (n == 40) _ _ (λ is. λ k. tt)
+    (internal_if InternalValue (n == 41) _ _ (λ is. λ k. tt)
+    (internal_if InternalValue (n == 42) _ _ (λ is. λ k. tt)
+    (internal_if InternalValue (n == 43) _ _ (λ is. λ k. tt)
+    (internal_if InternalValue (n == 44) _ _ (λ is. λ k. tt) (parameter_fits n))))))))))
 
-internal_fits : (m : Meaning Unit) → StandingFits InternalValue (internal_of m)
+internal_fits : (m : Meaning Unit) → InternalFits InternalValue (internal_of m)
 internal_fits (means.CharGiven c) = tt
 internal_fits (means.MathGiven c) = tt
 internal_fits (means.Register register.Toks n) = tt
@@ -224,35 +224,35 @@ internal_fits (means.Prim n) = internal_primitive_fits n
 internal_fits m = tt
 
 -- a list of tokens
-list_parameter_fits : (n : ℕ) → StandingFits TokenList (list_parameter n)
-list_parameter_fits n = stands_if TokenList (is_between first_list last_list n) _ _ (λ is. (grind (arith, nat_tests, is), refl)) tt
+list_parameter_fits : (n : ℕ) → InternalFits TokenList (list_parameter n)
+list_parameter_fits n = internal_if TokenList (is_between first_list last_list n) _ _ (λ is. (grind (arith, nat_tests, is), refl)) tt
 
-list_of_fits : (m : Meaning Unit) → StandingFits TokenList (list_of m)
+list_of_fits : (m : Meaning Unit) → InternalFits TokenList (list_of m)
 list_of_fits (means.Register register.Toks n) = (tt, refl)
-list_of_fits (means.Prim n) = stands_if TokenList (n == 45) (Some (internal.Numbered (bank.Registers register.Toks))) (list_parameter n) (λ is. λ k. (tt, refl)) (list_parameter_fits n)
+list_of_fits (means.Prim n) = internal_if TokenList (n == 45) (Some (internal.Numbered (bank.Registers register.Toks))) (list_parameter n) (λ is. λ k. (tt, refl)) (list_parameter_fits n)
 list_of_fits m = tt
 
 -- is there
-list_is_there : (o : Option Stands) → StandingFits TokenList o → StandingFits InternalValue o
+list_is_there : (o : Option Internal) → InternalFits TokenList o → InternalFits InternalValue o
 list_is_there (Some (internal.Given n)) h = tt
 list_is_there (Some (internal.At l)) h = h.0
 list_is_there (Some (internal.Numbered b)) h = λ n. (h n).0
 list_is_there None h = tt
 
-or_else_fits : (s : Stage) (o p : Option Stands) → StandingFits s o → StandingFits s p → StandingFits s (or_else o p)
+or_else_fits : (s : Stage) (o p : Option Internal) → InternalFits s o → InternalFits s p → InternalFits s (or_else o p)
 or_else_fits s None p h i = i
 or_else_fits s (Some x) p h i = h
 
-value_of_fits : (m : Meaning Unit) → StandingFits InternalValue (value_of m)
+value_of_fits : (m : Meaning Unit) → InternalFits InternalValue (value_of m)
 value_of_fits m = or_else_fits InternalValue (internal_of m) (list_of m) (internal_fits m) (list_is_there (list_of m) (list_of_fits m))
 
 token_fits : (s : Stage) → MayLook s → (c : Call) (x : Seen) → MetFits s (on_token s c x)
 token_fits (NumberTo greatest complaint) look c x = absurd look
-token_fits Variable look c x = standing_fits Variable _ (variable_of x.meaning) tt (variable_fits x.meaning)
-token_fits InternalValue look c x = standing_fits InternalValue _ (value_of x.meaning) tt (value_of_fits x.meaning)
+token_fits Variable look c x = internal_met_fits Variable _ (variable_of x.meaning) tt (variable_fits x.meaning)
+token_fits InternalValue look c x = internal_met_fits InternalValue _ (value_of x.meaning) tt (value_of_fits x.meaning)
 token_fits TokenList look c x =
-    met_if TokenList (means_relax x.meaning) (met.Skips c) (standing (met.Begins (kind.Text c.name false)) (list_of x.meaning)) tt
-    (standing_fits TokenList (met.Begins (kind.Text c.name false)) (list_of x.meaning) tt (list_of_fits x.meaning))
+    met_if TokenList (means_relax x.meaning) (met.Skips c) (internal_met (met.Begins (phrase.Text c.name false)) (list_of x.meaning)) tt
+    (internal_met_fits TokenList (met.Begins (phrase.Text c.name false)) (list_of x.meaning) tt (list_of_fits x.meaning))
 token_fits Equals look c x = met_if Equals (is_equals x) met.Passes met.Leaves tt tt
 token_fits s look c x = any_met s tt tt (λ d. tt) (on_token s c x)
 
@@ -299,7 +299,7 @@ comes_fits s (next.Becomes c) h fed = tt
 
 noted_fits : (s : Stage) (n : Note) (m : Next) → NextFits s m → (fed : List Fed) → Fits s (noted n m fed)
 noted_fits s n m h [] = due_sets n
-noted_fits s n m h (Told ∷ fed) = comes_fits s m h fed
+noted_fits s n m h (Noted ∷ fed) = comes_fits s m h fed
 noted_fits s n m h (y ∷ fed) = tt
 
 valued_fits : (s : Stage) (g : Got) → GotFits s g → (ts : List Token) (fed : List Fed) → Fits s (valued g ts fed)
@@ -308,12 +308,12 @@ valued_fits s (got.Tells report m) h ts fed = noted_fits s (note.Tells report fa
 valued_fits s got.Gathers h ts fed = tt
 valued_fits s got.Defines h ts fed = tt
 
-inner_fits : (s : Stage) → MayBegin s → (k : Kind) (fed : List Fed) → Fits s (inner s k fed)
+inner_fits : (s : Stage) → MayBegin s → (k : Phrase) (fed : List Fed) → Fits s (inner s k fed)
 inner_fits s h k [] = tt
 inner_fits s h k (Val v ts ∷ fed) = valued_fits s (on_value s v) (value_fits s h v) ts fed
 inner_fits s h k (y ∷ fed) = tt
 
-begins_fits : (s : Stage) → MayBegin s → (k : Kind) (fed : List Fed) → Fits s (begins s k fed)
+begins_fits : (s : Stage) → MayBegin s → (k : Phrase) (fed : List Fed) → Fits s (begins s k fed)
 begins_fits s h k [] = tt
 begins_fits s h k (Tok x ∷ fed) = inner_fits s h k fed
 begins_fits s h k (Val v ts ∷ fed) = valued_fits s (on_value s v) (value_fits s h v) ts fed
@@ -324,7 +324,7 @@ numbers_fits s b h [] = tt
 numbers_fits s b h (Val v ts ∷ fed) = valued_fits s (numbered_by b v) (numbered_fits s b h v) ts fed
 numbers_fits s b h (y ∷ fed) = tt
 
-met_with_fits : (s : Stage) (x : Seen) (m : Met) → MetFits s m → (skipped : Call → Outcome) (retried : Note → Outcome) (fed : List Fed) → ((c : Call) → Fits s (skipped c)) → ((n : Note) → Fits s (retried n)) →
+met_with_fits : (s : Stage) (x : Seen) (m : Met) → MetFits s m → (skipped : Call → StageOutcome) (retried : Note → StageOutcome) (fed : List Fed) → ((c : Call) → Fits s (skipped c)) → ((n : Note) → Fits s (retried n)) →
     Fits s (met_with s (Tok x) m skipped retried fed)
 met_with_fits s x (met.Takes d) h skipped retried fed i j = h
 met_with_fits s x met.Passes h skipped retried fed i j = h
@@ -345,7 +345,7 @@ mutual
 
   again_fits : (s : Stage) → MayLook s → (c : Call) (want : Want) (n : Note) (fed : List Fed) → Fits s (again s c want n fed)
   again_fits s look c want n [] = due_sets n
-  again_fits s look c want n (Told ∷ fed) = looks_fits s look c want fed
+  again_fits s look c want n (Noted ∷ fed) = looks_fits s look c want fed
   again_fits s look c want n (y ∷ fed) = tt
 
 started_fits : (s : Stage) (c : Call) (b : Start) → StartFits s b → (fed : List Fed) → Fits s (started s c b fed)
@@ -361,7 +361,7 @@ ReadsSmall a (s ∷ ss) ds = IsSuited (comes_to a ds) × (((d : Datum) → IsRea
 
 module _ (turn : Call → List Fed → Ask) (turns : (c : Call) (fed : List Fed) → AsksSuited (turn c fed)) where
   behind_sets : (c : Call) (s : Stage) (ds : List Datum) (onward : List Datum → List Fed → Ask) → IsSuited (comes_to (action_of c.head) ds) → ((d : Datum) → IsRead s d → (fed : List Fed) → AsksSuited (onward (ds ++ d ∷ []) fed)) → (MayPass s → (fed : List Fed) → AsksSuited (onward ds fed)) →
-      (o : Outcome) → Fits s o → AsksSuited (behind turn c ds onward o)
+      (o : StageOutcome) → Fits s o → AsksSuited (behind turn c ds onward o)
   behind_sets c s ds onward now h i (Asks a) fits = fits
   behind_sets c s ds onward now h i (Takes d fed) fits = h d fits fed
   behind_sets c s ds onward now h i (Passes fed) fits = i fits fed
@@ -552,15 +552,15 @@ among_reads n [] h = refl
 among_reads n (first ∷ rows) h = found_if (first.0 == n) (all_read rows) (first.1, first.2) (row_among n rows) h (among_reads n rows)
 
 -- a parameter is one of those that there are, and read as it stands
-abbrev StandsRead : Option Stands → Type 0
-StandsRead (Some (internal.At l)) = found_reads (Some (assignment_to l)) ≡ true
-StandsRead o = Unit {0}
+abbrev InternalReads : Option Internal → Type 0
+InternalReads (Some (internal.At l)) = found_reads (Some (assignment_to l)) ≡ true
+InternalReads o = Unit {0}
 
-read_if : (b : Bool) (l o : Option Stands) → (b ≡ true → StandsRead l) → StandsRead o → StandsRead (if b then l else o)
+read_if : (b : Bool) (l o : Option Internal) → (b ≡ true → InternalReads l) → InternalReads o → InternalReads (if b then l else o)
 read_if true l o h i = h refl
 read_if false l o h i = i
 
-read_or_else : (o p : Option Stands) → StandsRead o → StandsRead p → StandsRead (or_else o p)
+read_or_else : (o p : Option Internal) → InternalReads o → InternalReads p → InternalReads (or_else o p)
 read_or_else None p h i = i
 read_or_else (Some x) p h i = h
 
@@ -568,14 +568,14 @@ and_true : (b : Bool) → b ≡ true → b && true ≡ true
 and_true true h = refl
 and_true false h = h
 
-parameter_is_read : (n : ℕ) → StandsRead (or_else (internal_parameter n) (list_parameter n))
+parameter_is_read : (n : ℕ) → InternalReads (or_else (internal_parameter n) (list_parameter n))
 parameter_is_read n = read_or_else (internal_parameter n) (list_parameter n)
     (read_if (is_between first_integer last_integer n) _ _ (λ is. grind (arith, nat_tests, is))
     (read_if (is_between first_dimension last_dimension n) _ _ (λ is. grind (arith, nat_tests, is))
     (read_if (is_between first_glue last_glue n) _ _ (λ is. grind (arith, nat_tests, is)) tt)))
     (read_if (is_between first_list last_list n) _ _ (λ is. and_true (nat_lt (n - first_list) 8) (grind (arith, nat_tests, is))) tt)
 
-parameter_among : (n : ℕ) (o : Option Stands) → StandsRead o → found_reads (parameter_row n o) ≡ true
+parameter_among : (n : ℕ) (o : Option Internal) → InternalReads o → found_reads (parameter_row n o) ≡ true
 parameter_among n (Some (internal.At l)) h = h
 parameter_among n (Some (internal.Given k)) h = among_reads n SYNTAX.now table_reads
 parameter_among n (Some (internal.Numbered b)) h = among_reads n SYNTAX.now table_reads

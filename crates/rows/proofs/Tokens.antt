@@ -6,8 +6,8 @@ use Rattle.tex_defs.specs.declared.Name.{Name}
 use Rattle.tex_defs.specs.declared.Seen.{Seen}
 use Rattle.plain_tokens.specs.Tokens.{is_space, is_space_token}
 use Rattle.plain_tokens.specs.Names.{means_relax}
-use Rattle.rows.specs.declared.words.Kind.{Kind}
-use Rattle.rows.specs.declared.words.Kind.TheVariants as kind
+use Rattle.rows.specs.declared.words.Phrase.{Phrase}
+use Rattle.rows.specs.declared.words.Phrase.TheVariants as phrase
 use Rattle.rows.specs.declared.words.Relation.{Relation as Relative}
 use Rattle.rows.specs.declared.internal.Internal.{Internal}
 use Rattle.rows.specs.declared.internal.Internal.TheVariants as internal
@@ -20,10 +20,10 @@ use Rattle.rows.specs.declared.command.Call.{Call}
 use Rattle.rows.specs.declared.command.Prefix.{Prefix}
 use Rattle.rows.specs.Tokens.{is_equals, name_to_assign}
 use Rattle.rows.specs.Internal.{variable_of, list_of, value_of}
-use Rattle.rows.specs.Stages.{nothing, named, newly_named, standing, unusable, unusable_behind, the_primitive, relation_of, related, also, prefix_of, is_definition, is_assignment, as_command, limit_refused, behind_prefixes, prefixed, on_token}
+use Rattle.rows.specs.Stages.{nothing, named, newly_named, internal_met, unusable, unusable_behind, the_primitive, relation_of, related, also, prefix_of, is_definition, is_assignment, as_command, limit_refused, behind_prefixes, prefixed, on_token}
 use Rattle.rows.specs.Laws.{rank}
 
-abbrev pub IsLow : Kind → Type 0
+abbrev pub IsLow : Phrase → Type 0
 IsLow k = rank k < 1
 
 abbrev pub MetLow : Met → Type 0
@@ -42,11 +42,11 @@ newly_named_low : (c : Call) (t : Token) (o : Option Name) → MetLow (newly_nam
 newly_named_low c t (Some n) = tt
 newly_named_low c t None = tt
 
-standing_low : (m : Met) (stands : Option Internal) → MetLow m → MetLow (standing m stands)
-standing_low m (Some (internal.Given n)) low = tt
-standing_low m (Some (internal.At l)) low = tt
-standing_low m (Some (internal.Numbered b)) low = tt
-standing_low m None low = low
+internal_low : (m : Met) (stands : Option Internal) → MetLow m → MetLow (internal_met m stands)
+internal_low m (Some (internal.Given n)) low = tt
+internal_low m (Some (internal.At l)) low = tt
+internal_low m (Some (internal.Numbered b)) low = tt
+internal_low m None low = low
 
 related_low : (c : Call) (o : Option Relative) → MetLow (related c o)
 related_low c (Some r) = tt
@@ -65,11 +65,11 @@ pub token_low : (s : Stage) (c : Call) (x : Seen) → MetLow (on_token s c x)
 token_low Equals c x = met_if (is_equals x) met.Passes met.Leaves tt tt
 token_low ControlSequence c x = met_if (is_space_token x.token) (met.Skips c) (named x.token (name_to_assign x.token)) tt (named_low x.token (name_to_assign x.token))
 token_low NewName c x = met_if (is_space_token x.token) (met.Skips c) (newly_named c x.token (name_to_assign x.token)) tt (newly_named_low c x.token (name_to_assign x.token))
-token_low Variable c x = standing_low (met.Notes (unusable c x) (next.Unassigned c)) (variable_of x.meaning) tt
-token_low InternalValue c x = standing_low (met.Notes (unusable_behind the_primitive x) (next.Takes nothing)) (value_of x.meaning) tt
+token_low Variable c x = internal_low (met.Notes (unusable c x) (next.Unassigned c)) (variable_of x.meaning) tt
+token_low InternalValue c x = internal_low (met.Notes (unusable_behind the_primitive x) (next.Takes nothing)) (value_of x.meaning) tt
 token_low TokenList c x =
-    met_if (means_relax x.meaning) (met.Skips c) (standing (met.Begins (kind.Text c.name false)) (list_of x.meaning)) tt
-    (standing_low (met.Begins (kind.Text c.name false)) (list_of x.meaning) (omega arith))
+    met_if (means_relax x.meaning) (met.Skips c) (internal_met (met.Begins (phrase.Text c.name false)) (list_of x.meaning)) tt
+    (internal_low (met.Begins (phrase.Text c.name false)) (list_of x.meaning) (omega arith))
 token_low LetEquals c x = met_if (is_space x) (met.Skips c) (if is_equals x then met.Passes else met.Leaves) tt (met_if (is_equals x) met.Passes met.Leaves tt tt)
 token_low Space c x = met_if (is_space x) met.Passes met.Leaves tt tt
 token_low Relation c x = related_low c (relation_of x.token)

@@ -69,9 +69,9 @@ comes_to action.MakeMeaning ds = effect.MakeMeaning (token_read 0 ds)
 comes_to action.MakeValue ds = value_made (datum_at 0 ds)
 comes_to (action.Test test) ds = tested test ds
 
--- the command that does it
-abbrev pub effect_of : Call → List Datum → Effect
-effect_of c ds = comes_to (action_of c.head) ds
+-- what this command does with what it has read
+abbrev pub command_effect : Call → List Datum → Effect
+command_effect c ds = comes_to (action_of c.head) ds
 
 abbrev pub is_always_global : Action → Bool
 is_always_global action.DefineGlobally = true

@@ -1,9 +1,9 @@
 -- The laws of the rows, on which the machine's runs stand.
 use Rattle.std.specs.Prelude.{ℕ, ◌<◌, ◌≡◌, ◌≢◌, Bool, true, false, List, [], ◌∷◌, ◌++◌}
-use Rattle.rows.specs.declared.words.Kind.{Kind}
-use Rattle.rows.specs.declared.words.Kind.TheVariants.{Command, Definition}
+use Rattle.rows.specs.declared.words.Phrase.{Phrase}
+use Rattle.rows.specs.declared.words.Phrase.TheVariants.{Command, Definition}
 use Rattle.rows.specs.declared.command.Call.{Call}
-use Rattle.rows.specs.Readings.{Fed, Val, Told, Ask, More, Inner, Done, Defines, Tells, Inserts, Puts, Fetches, Magnifies}
+use Rattle.rows.specs.Readings.{Fed, Val, Noted, Ask, More, Inner, Done, Defines, Tells, Inserts, Puts, Fetches, Magnifies}
 use Rattle.rows.specs.Suiting.{AsksSuited}
 use Rattle.rows.specs.Run.{row}
 
@@ -17,7 +17,7 @@ abbrev pub ReadingsStart : Type 0
 ReadingsStart = (c : Call) → Starts (row c [])
 
 -- RANKS: a command begins only readings of a lower rank, so it begins no command.
-abbrev pub rank : Kind → ℕ
+abbrev pub rank : Phrase → ℕ
 rank (Command c) = 1
 rank k = 0
 
@@ -40,10 +40,10 @@ abbrev pub RowsHaveNoValue : Type 0
 RowsHaveNoValue = (c : Call) (fed : List Fed) → IsValueless (row c fed)
 
 -- NOTES: a report comes only where none was the last.
-abbrev pub is_told : Bool → List Fed → Bool
-is_told b [] = b
-is_told b (Told ∷ fed) = is_told true fed
-is_told b (x ∷ fed) = is_told false fed
+abbrev pub is_noted : Bool → List Fed → Bool
+is_noted b [] = b
+is_noted b (Noted ∷ fed) = is_noted true fed
+is_noted b (x ∷ fed) = is_noted false fed
 
 abbrev pub NotesOnce : Bool → Ask → Type 0
 NotesOnce b (Tells report back) = b ≡ false
@@ -51,7 +51,7 @@ NotesOnce b (Inserts t report back) = b ≡ false
 NotesOnce b a = Unit {0}
 
 abbrev pub NotesAreSingle : Type 0
-NotesAreSingle = (c : Call) (fed : List Fed) → NotesOnce (is_told false fed) (row c fed)
+NotesAreSingle = (c : Call) (fed : List Fed) → NotesOnce (is_noted false fed) (row c fed)
 
 -- MACROS: a list that becomes a macro's has a token, where each value of a definition's reading has one.
 abbrev pub HasBody : Ask → Type 0

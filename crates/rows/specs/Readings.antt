@@ -8,7 +8,7 @@ use Rattle.tex_syntax.specs.declared.words.Report.{Report}
 use Rattle.equivalents.specs.declared.values.Loc.{Loc}
 use Rattle.equivalents.specs.Locations.{SeenValue}
 use Rattle.rows.specs.declared.words.Value.{Value}
-use Rattle.rows.specs.declared.words.Kind.{Kind}
+use Rattle.rows.specs.declared.words.Phrase.{Phrase}
 use Rattle.rows.specs.declared.command.Call.{Call}
 use Rattle.rows.specs.declared.command.Effect.{Effect}
 
@@ -18,7 +18,7 @@ use Rattle.rows.specs.declared.command.Effect.{Effect}
 pub data Fed : Type 0 where
   Tok : Seen → Fed
   Val : Value → List Token → Fed
-  Told : Fed
+  Noted : Fed
   Fetched : SeenValue → Fed
   Verbatim : Token → Fed
   Cut : Fed
@@ -31,7 +31,7 @@ pub data Fed : Type 0 where
 -- at a location.
 pub data Ask : Type 0 where
   More : Want → Ask
-  Inner : Kind → (begins : Bool) → Ask
+  Inner : Phrase → (begins : Bool) → Ask
   Done : Value → (give_back : Bool) → Ask
   Acts : Call → Effect → Ask
   ActsOn : Call → Effect → List Token → Ask

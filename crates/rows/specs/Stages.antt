@@ -19,8 +19,8 @@ use Rattle.rows.specs.declared.words.Relation.{Relation as Relative}
 use Rattle.rows.specs.declared.words.Relation.TheVariants as relative
 use Rattle.rows.specs.declared.words.Value.{Value}
 use Rattle.rows.specs.declared.words.Value.TheVariants as value
-use Rattle.rows.specs.declared.words.Kind.{Kind}
-use Rattle.rows.specs.declared.words.Kind.TheVariants as kind
+use Rattle.rows.specs.declared.words.Phrase.{Phrase}
+use Rattle.rows.specs.declared.words.Phrase.TheVariants as phrase
 use Rattle.rows.specs.declared.stage.Stage.{Stage}
 use Rattle.rows.specs.declared.stage.Stage.TheVariants.{Number, NumberTo, NumberUpTo, Dimension, Glue, Amount, Equals, ControlSequence, NewName, Variable, InternalValue, TokenList, Keyword, LetEquals, Space, AnyToken, UnenteredToken, ExpandedToken, NonblankToken, Relation, Text, MacroText, Prefixes}
 use Rattle.rows.specs.declared.stage.Complaint.{Complaint}
@@ -43,7 +43,7 @@ use Rattle.rows.specs.declared.command.Prefix.{Prefix}
 use Rattle.rows.specs.declared.command.Prefix.TheVariants.{Long, Outer, Global}
 use Rattle.rows.specs.Tokens.{is_equals, is_character, name_to_assign, inaccessible, is_at_most, is_up_to}
 use Rattle.rows.specs.declared.internal.Bank.{Bank}
-use Rattle.rows.specs.declared.internal.Internal.{Internal as Stands}
+use Rattle.rows.specs.declared.internal.Internal.{Internal}
 use Rattle.rows.specs.declared.internal.Internal.TheVariants as internal
 use Rattle.rows.specs.Internal.{byte_of, location_in, bad_number, variable_of, list_of, value_of}
 use Rattle.rows.specs.Arithmetic.{number_in}
@@ -130,11 +130,11 @@ new_name_met c x = if is_space_token x.token then met.Skips c else newly_named c
 -- LOCATIONS
 
 -- what a token stands for: a number, a location, or the location of the number behind it; of another token this comes
-abbrev pub standing : (otherwise : Met) → Option Stands → Met
-standing otherwise (Some (internal.Given n)) = met.Takes (datum.Number (pos n))
-standing otherwise (Some (internal.At l)) = met.Takes (datum.At l)
-standing otherwise (Some (internal.Numbered b)) = met.Numbers b
-standing otherwise None = otherwise
+abbrev pub internal_met : (otherwise : Met) → Option Internal → Met
+internal_met otherwise (Some (internal.Given n)) = met.Takes (datum.Number (pos n))
+internal_met otherwise (Some (internal.At l)) = met.Takes (datum.At l)
+internal_met otherwise (Some (internal.Numbered b)) = met.Numbers b
+internal_met otherwise None = otherwise
 
 -- the number of a primitive
 abbrev pub primitive_number : Head → ℕ
@@ -242,25 +242,25 @@ abbrev pub in_points : DimenKind
 in_points = record { mu = false; infinite = false }
 
 -- the reading that a value is
-abbrev pub value_kind : Stage → Kind
-value_kind Dimension = kind.Dimension in_points
-value_kind (Glue mu) = kind.Glue mu
-value_kind s = kind.Integer
+abbrev pub value_phrase : Stage → Phrase
+value_phrase Dimension = phrase.Dimension in_points
+value_phrase (Glue mu) = phrase.Glue mu
+value_phrase s = phrase.Integer
 
 -- what each asks for at first, in a command that has read this
 abbrev pub start : Stage → Call → List Datum → Start
-start Number c ds = Begins kind.Integer
-start (NumberTo greatest complaint) c ds = Begins kind.Integer
-start (NumberUpTo greatest) c ds = Begins kind.Integer
-start Dimension c ds = Begins (value_kind Dimension)
-start (Glue mu) c ds = Begins (value_kind (Glue mu))
-start Amount c ds = Begins (value_kind (value_stage (location 0 ds)))
+start Number c ds = Begins phrase.Integer
+start (NumberTo greatest complaint) c ds = Begins phrase.Integer
+start (NumberUpTo greatest) c ds = Begins phrase.Integer
+start Dimension c ds = Begins (value_phrase Dimension)
+start (Glue mu) c ds = Begins (value_phrase (Glue mu))
+start Amount c ds = Begins (value_phrase (value_stage (location 0 ds)))
 start Equals c ds = Looks want.Nonblank
 start NewName c ds = Looks want.Raw
 start Variable c ds = Looks want.Expanded
 start InternalValue c ds = Looks want.Expanded
 start TokenList c ds = Looks want.Command
-start (Keyword w) c ds = Begins (kind.Keyword w)
+start (Keyword w) c ds = Begins (phrase.Keyword w)
 start ControlSequence c ds = Looks want.Raw
 start LetEquals c ds = Looks want.Raw
 start Space c ds = Looks want.Raw
@@ -269,8 +269,8 @@ start UnenteredToken c ds = Looks want.Unentered
 start ExpandedToken c ds = Looks want.Expanded
 start NonblankToken c ds = Looks want.Nonblank
 start Relation c ds = Looks want.Nonblank
-start (Text expanded) c ds = Begins (kind.Text c.name expanded)
-start (MacroText expanded) c ds = Begins (kind.Definition (name 0 ds) expanded)
+start (Text expanded) c ds = Begins (phrase.Text c.name expanded)
+start (MacroText expanded) c ds = Begins (phrase.Definition (name 0 ds) expanded)
 start (Prefixes p) c ds = Looks want.Command
 
 -- what it makes of a token; a stage that doesn't look at tokens is none of these
@@ -278,9 +278,9 @@ abbrev pub on_token : Stage → Call → Seen → Met
 on_token Equals c x = if is_equals x then met.Passes else met.Leaves
 on_token ControlSequence c x = name_met c x
 on_token NewName c x = new_name_met c x
-on_token Variable c x = standing (met.Notes (unusable c x) (next.Unassigned c)) (variable_of x.meaning)
-on_token InternalValue c x = standing (met.Notes (unusable_behind the_primitive x) (next.Takes nothing)) (value_of x.meaning)
-on_token TokenList c x = if means_relax x.meaning then met.Skips c else standing (met.Begins (kind.Text c.name false)) (list_of x.meaning)
+on_token Variable c x = internal_met (met.Notes (unusable c x) (next.Unassigned c)) (variable_of x.meaning)
+on_token InternalValue c x = internal_met (met.Notes (unusable_behind the_primitive x) (next.Takes nothing)) (value_of x.meaning)
+on_token TokenList c x = if means_relax x.meaning then met.Skips c else internal_met (met.Begins (phrase.Text c.name false)) (list_of x.meaning)
 on_token LetEquals c x = if is_space x then met.Skips c else if is_equals x then met.Passes else met.Leaves
 on_token Space c x = if is_space x then met.Passes else met.Leaves
 on_token AnyToken c x = met.Takes (datum.Taken x)

@@ -17,7 +17,7 @@ use Rattle.rows.specs.declared.words.Datum.TheVariants.{Number, Found}
 use Rattle.rows.specs.declared.words.Datum.TheVariants as datum
 use Rattle.rows.specs.declared.words.Keyword.TheVariants.{By}
 use Rattle.rows.specs.declared.words.Value.TheVariants as value
-use Rattle.rows.specs.declared.words.Kind.TheVariants.{Integer, Dimension, Glue, Keyword, Text, Definition}
+use Rattle.rows.specs.declared.words.Phrase.TheVariants.{Integer, Dimension, Glue, Keyword, Text, Definition}
 use Rattle.rows.specs.declared.arithmetic.Operation.TheVariants.{Advance, Multiply, Divide}
 use Rattle.rows.specs.declared.command.Call.{Call}
 use Rattle.rows.specs.declared.command.Head.TheVariants as head
@@ -40,7 +40,7 @@ use Rattle.rows.specs.declared.command.Action.TheVariants as action
 use Rattle.rows.specs.declared.command.Row.{Row}
 use Rattle.rows.specs.declared.command.TheConstants.{SYNTAX}
 use Rattle.rows.specs.Table.{has_row, reads_under_normal, stages_in}
-use Rattle.rows.specs.Readings.{Fed, Tok, Val, Told, Ask, More, Inner, Acts, ActsOn, Defines, Ends, Tells, Inserts, Relaxes}
+use Rattle.rows.specs.Readings.{Fed, Tok, Val, Noted, Ask, More, Inner, Acts, ActsOn, Defines, Ends, Tells, Inserts, Relaxes}
 use Rattle.rows.specs.Run.{row}
 
 -- WHAT COMES
@@ -165,7 +165,7 @@ pub record WorkedDefinitions : Type 0 where
   pub xdef :
       steps 29 (Tok x ∷ list text ∷ []) ≡ More Raw ∷ Inner (Definition x_name true) false ∷ Defines (record (call 29) { global = true }) x_name text ∷ []
   pub missing :
-      steps 26 (Tok a_space ∷ Tok a_letter ∷ Told ∷ Tok frozen_relax ∷ Told ∷ Tok x ∷ []) ≡
+      steps 26 (Tok a_space ∷ Tok a_letter ∷ Noted ∷ Tok frozen_relax ∷ Noted ∷ Tok x ∷ []) ≡
       More Raw ∷ More Raw ∷ Inserts inaccessible MissingName true ∷ More Raw ∷ Inserts inaccessible MissingName false ∷ More Raw ∷ Inner (Definition x_name false) false ∷ []
 
 -- `\long\global\def`, `\outer\edef`, `\global\catcode`; `\long\catcode` and `\outer\global\let`; `\global\end` and `\long\message`
@@ -180,13 +180,13 @@ pub record WorkedPrefixes : Type 0 where
       steps 25 (Tok (primitive 35) ∷ number (pos 65) ∷ Tok equals ∷ number (pos 11) ∷ []) ≡
       More want.Command ∷ Inner Integer false ∷ More Nonblank ∷ Inner Integer false ∷ Acts (record (call 35) { global = true }) (effect.SetNumber (loc.Code code.Category 65) (pos 11)) ∷ []
   pub long_catcode :
-      steps 23 (Tok (primitive 35) ∷ Told ∷ number (pos 65) ∷ Tok equals ∷ number (pos 11) ∷ []) ≡
+      steps 23 (Tok (primitive 35) ∷ Noted ∷ number (pos 65) ∷ Tok equals ∷ number (pos 11) ∷ []) ≡
       More want.Command ∷ Tells (LongOrOuterWith (means.Prim 35)) false ∷ Inner Integer false ∷ More Nonblank ∷ Inner Integer false ∷ Acts (call 35) (effect.SetNumber (loc.Code code.Category 65) (pos 11)) ∷ []
   pub outer_let :
-      steps 24 (Tok (primitive 25) ∷ Tok (primitive 30) ∷ Told ∷ Tok x ∷ Tok y ∷ []) ≡
+      steps 24 (Tok (primitive 25) ∷ Tok (primitive 30) ∷ Noted ∷ Tok x ∷ Tok y ∷ []) ≡
       More want.Command ∷ More want.Command ∷ Tells (LongOrOuterWith (means.Prim 30)) false ∷ More Raw ∷ More Raw ∷ Acts (record (call 30) { global = true }) (effect.Let x_name y) ∷ []
-  pub refused : steps 25 (Tok (primitive 6) ∷ Told ∷ []) ≡ More want.Command ∷ Tells (PrefixWith (means.Prim 6)) true ∷ Ends ∷ []
-  pub no_assignment : steps 23 (Tok (primitive 9) ∷ Told ∷ []) ≡ More want.Command ∷ Tells (PrefixWith (means.Prim 9)) true ∷ Ends ∷ []
+  pub refused : steps 25 (Tok (primitive 6) ∷ Noted ∷ []) ≡ More want.Command ∷ Tells (PrefixWith (means.Prim 6)) true ∷ Ends ∷ []
+  pub no_assignment : steps 23 (Tok (primitive 9) ∷ Noted ∷ []) ≡ More want.Command ∷ Tells (PrefixWith (means.Prim 9)) true ∷ Ends ∷ []
 
 -- `\let\x\y`, `\let\x =` and a space before `\y`, `\let\x==`, and `\futurelet\x\y` before a letter
 pub record WorkedMeanings : Type 0 where
@@ -207,10 +207,10 @@ pub record WorkedCategories : Type 0 where
   pub begins :
       steps 35 (number (pos 65) ∷ Tok digit ∷ number (pos 11) ∷ []) ≡ Inner Integer false ∷ More Nonblank ∷ Inner Integer true ∷ Acts (call 35) (effect.SetNumber (loc.Code code.Category 65) (pos 11)) ∷ []
   pub too_great :
-      steps 35 (number (pos 256) ∷ Told ∷ Tok equals ∷ number (pos 16) ∷ Told ∷ []) ≡
+      steps 35 (number (pos 256) ∷ Noted ∷ Tok equals ∷ number (pos 16) ∷ Noted ∷ []) ≡
       Inner Integer false ∷ Tells (BadCharacterCode (pos 256)) false ∷ More Nonblank ∷ Inner Integer false ∷ Tells (InvalidCode (pos 16) 15) false ∷ Acts (call 35) (effect.SetNumber (loc.Code code.Category 0) (pos 0)) ∷ []
   pub negative :
-      steps 35 (number (negsuc 0) ∷ Told ∷ Tok digit ∷ number (negsuc 0) ∷ Told ∷ []) ≡
+      steps 35 (number (negsuc 0) ∷ Noted ∷ Tok digit ∷ number (negsuc 0) ∷ Noted ∷ []) ≡
       Inner Integer false ∷ Tells (BadCharacterCode (negsuc 0)) false ∷ More Nonblank ∷ Inner Integer true ∷ Tells (InvalidCode (negsuc 0) 15) false ∷ Acts (call 35) (effect.SetNumber (loc.Code code.Category 0) (pos 0)) ∷ []
   pub greatest :
       steps 35 (number (pos 255) ∷ Tok equals ∷ number (pos 15) ∷ []) ≡ Inner Integer false ∷ More Nonblank ∷ Inner Integer false ∷ Acts (call 35) (effect.SetNumber (loc.Code code.Category 255) (pos 15)) ∷ []
@@ -220,20 +220,20 @@ pub record WorkedCodes : Type 0 where
   pub lowercase :
       steps 36 (number (pos 65) ∷ Tok equals ∷ number (pos 97) ∷ []) ≡ Inner Integer false ∷ More Nonblank ∷ Inner Integer false ∷ Acts (call 36) (effect.SetNumber (loc.Code code.Lowercase 65) (pos 97)) ∷ []
   pub uppercase :
-      steps 37 (number (pos 97) ∷ Tok equals ∷ number (pos 256) ∷ Told ∷ []) ≡
+      steps 37 (number (pos 97) ∷ Tok equals ∷ number (pos 256) ∷ Noted ∷ []) ≡
       Inner Integer false ∷ More Nonblank ∷ Inner Integer false ∷ Tells (InvalidCode (pos 256) 255) false ∷ Acts (call 37) (effect.SetNumber (loc.Code code.Uppercase 97) (pos 0)) ∷ []
   pub space_factor :
-      steps 38 (number (pos 65) ∷ Tok equals ∷ number (pos 32768) ∷ Told ∷ []) ≡
+      steps 38 (number (pos 65) ∷ Tok equals ∷ number (pos 32768) ∷ Noted ∷ []) ≡
       Inner Integer false ∷ More Nonblank ∷ Inner Integer false ∷ Tells (InvalidCode (pos 32768) 32767) false ∷ Acts (call 38) (effect.SetNumber (loc.Code code.SpaceFactor 65) (pos 0)) ∷ []
   pub math :
       steps 39 (number (pos 65) ∷ Tok equals ∷ number (pos 32768) ∷ []) ≡ Inner Integer false ∷ More Nonblank ∷ Inner Integer false ∷ Acts (call 39) (effect.SetNumber (loc.Code code.Math 65) (pos 32768)) ∷ []
   pub math_too_great :
-      steps 39 (number (pos 65) ∷ Tok equals ∷ number (pos 32769) ∷ Told ∷ []) ≡
+      steps 39 (number (pos 65) ∷ Tok equals ∷ number (pos 32769) ∷ Noted ∷ []) ≡
       Inner Integer false ∷ More Nonblank ∷ Inner Integer false ∷ Tells (InvalidCode (pos 32769) 32768) false ∷ Acts (call 39) (effect.SetNumber (loc.Code code.Math 65) (pos 0)) ∷ []
   pub delimiter :
       steps 40 (number (pos 40) ∷ Tok equals ∷ number (negsuc 0) ∷ []) ≡ Inner Integer false ∷ More Nonblank ∷ Inner Integer false ∷ Acts (call 40) (effect.SetNumber (loc.Code code.Delimiter 40) (negsuc 0)) ∷ []
   pub delimiter_too_great :
-      steps 40 (number (pos 40) ∷ Tok equals ∷ number (pos 16777216) ∷ Told ∷ []) ≡
+      steps 40 (number (pos 40) ∷ Tok equals ∷ number (pos 16777216) ∷ Noted ∷ []) ≡
       Inner Integer false ∷ More Nonblank ∷ Inner Integer false ∷ Tells (CodeTooGreat (pos 16777216) 16777215) false ∷ Acts (call 40) (effect.SetNumber (loc.Code code.Delimiter 40) (pos 0)) ∷ []
 
 -- `\escapechar=33`, `\globaldefs 1`, where the number begins with its first digit, and `\endlinechar=-1`; `\global\newlinechar=10`; `\aftergroup\x`
@@ -256,7 +256,7 @@ pub record WorkedRegisters : Type 0 where
       steps 41 (number (pos 7) ∷ Tok equals ∷ number (negsuc 0) ∷ []) ≡
       Inner Integer false ∷ More Nonblank ∷ Inner Integer false ∷ Acts (call 41) (effect.SetNumber (loc.Register register.Count 7) (negsuc 0)) ∷ []
   pub too_great :
-      steps 41 (number (pos 256) ∷ Told ∷ Tok digit ∷ number (pos 1) ∷ []) ≡
+      steps 41 (number (pos 256) ∷ Noted ∷ Tok digit ∷ number (pos 1) ∷ []) ≡
       Inner Integer false ∷ Tells (BadRegisterCode (pos 256)) false ∷ More Nonblank ∷ Inner Integer true ∷ Acts (call 41) (effect.SetNumber (loc.Register register.Count 0) (pos 1)) ∷ []
   pub named :
       asked (row (register_call 5)) (Tok equals ∷ number (pos 7) ∷ []) ≡
@@ -268,7 +268,7 @@ pub record WorkedRegisters : Type 0 where
       steps 25 (Tok (register_name 5) ∷ Tok equals ∷ number (pos 7) ∷ []) ≡
       More want.Command ∷ More Nonblank ∷ Inner Integer false ∷ Acts (record (register_call 5) { global = true }) (effect.SetNumber (loc.Register register.Count 5) (pos 7)) ∷ []
   pub named_long :
-      steps 23 (Tok (register_name 5) ∷ Told ∷ Tok equals ∷ number (pos 7) ∷ []) ≡
+      steps 23 (Tok (register_name 5) ∷ Noted ∷ Tok equals ∷ number (pos 7) ∷ []) ≡
       More want.Command ∷ Tells (LongOrOuterWith (means.Register register.Count 5)) false ∷ More Nonblank ∷ Inner Integer false ∷ Acts (register_call 5) (effect.SetNumber (loc.Register register.Count 5) (pos 7)) ∷ []
 
 -- `\advance\count 7 by 2`, without `by`, with `\count 256` and its report, with a parameter and with the name of register 7; what can't be used: a
@@ -281,22 +281,22 @@ pub record WorkedArithmetic : Type 0 where
       steps 32 (Tok (primitive 41) ∷ number (pos 7) ∷ keyword false ∷ number (negsuc 1) ∷ []) ≡
       More Expanded ∷ Inner Integer false ∷ Inner (Keyword By) false ∷ Inner Integer false ∷ Acts (call 32) (effect.Compute Advance (loc.Register register.Count 7) (Number (negsuc 1))) ∷ []
   pub too_great :
-      steps 32 (Tok (primitive 41) ∷ number (pos 256) ∷ Told ∷ keyword true ∷ number (pos 1) ∷ []) ≡
+      steps 32 (Tok (primitive 41) ∷ number (pos 256) ∷ Noted ∷ keyword true ∷ number (pos 1) ∷ []) ≡
       More Expanded ∷ Inner Integer false ∷ Tells (BadRegisterCode (pos 256)) false ∷ Inner (Keyword By) false ∷ Inner Integer false ∷ Acts (call 32) (effect.Compute Advance (loc.Register register.Count 0) (Number (pos 1))) ∷ []
   pub parameter :
       steps 32 (Tok (primitive 130) ∷ keyword true ∷ number (pos 1) ∷ []) ≡ More Expanded ∷ Inner (Keyword By) false ∷ Inner Integer false ∷ Acts (call 32) (effect.Compute Advance (loc.Integer 45) (Number (pos 1))) ∷ []
   pub named :
       steps 32 (Tok (register_name 7) ∷ keyword true ∷ number (pos 1) ∷ []) ≡
       More Expanded ∷ Inner (Keyword By) false ∷ Inner Integer false ∷ Acts (call 32) (effect.Compute Advance (loc.Register register.Count 7) (Number (pos 1))) ∷ []
-  pub letter_refused : steps 32 (Tok a_letter ∷ Told ∷ []) ≡ More Expanded ∷ Tells (CantUseAfter (means.Char letter 97) 32) false ∷ Acts (call 32) effect.Unassigned ∷ []
-  pub relax_refused : steps 33 (Tok (primitive 1) ∷ Told ∷ []) ≡ More Expanded ∷ Tells (CantUseAfter (means.Prim 1) 33) false ∷ Acts (call 33) effect.Unassigned ∷ []
-  pub code_refused : steps 34 (Tok (primitive 35) ∷ Told ∷ []) ≡ More Expanded ∷ Tells (CantUseAfter (means.Prim 35) 34) false ∷ Acts (call 34) effect.Unassigned ∷ []
-  pub character_refused : steps 32 (Tok (character_name 65) ∷ Told ∷ []) ≡ More Expanded ∷ Tells (CantUseAfter (means.CharGiven 65) 32) false ∷ Acts (call 32) effect.Unassigned ∷ []
+  pub letter_refused : steps 32 (Tok a_letter ∷ Noted ∷ []) ≡ More Expanded ∷ Tells (CantUseAfter (means.Char letter 97) 32) false ∷ Acts (call 32) effect.Unassigned ∷ []
+  pub relax_refused : steps 33 (Tok (primitive 1) ∷ Noted ∷ []) ≡ More Expanded ∷ Tells (CantUseAfter (means.Prim 1) 33) false ∷ Acts (call 33) effect.Unassigned ∷ []
+  pub code_refused : steps 34 (Tok (primitive 35) ∷ Noted ∷ []) ≡ More Expanded ∷ Tells (CantUseAfter (means.Prim 35) 34) false ∷ Acts (call 34) effect.Unassigned ∷ []
+  pub character_refused : steps 32 (Tok (character_name 65) ∷ Noted ∷ []) ≡ More Expanded ∷ Tells (CantUseAfter (means.CharGiven 65) 32) false ∷ Acts (call 32) effect.Unassigned ∷ []
   pub global :
       steps 25 (Tok (primitive 32) ∷ Tok (register_name 7) ∷ keyword true ∷ number (pos 1) ∷ []) ≡
       More want.Command ∷ More Expanded ∷ Inner (Keyword By) false ∷ Inner Integer false ∷ Acts (record (call 32) { global = true }) (effect.Compute Advance (loc.Register register.Count 7) (Number (pos 1))) ∷ []
   pub global_refused :
-      steps 25 (Tok (primitive 32) ∷ Tok a_letter ∷ Told ∷ []) ≡
+      steps 25 (Tok (primitive 32) ∷ Tok a_letter ∷ Noted ∷ []) ≡
       More want.Command ∷ More Expanded ∷ Tells (CantUseAfter (means.Char letter 97) 32) false ∷ Acts (record (call 32) { global = true }) effect.Unassigned ∷ []
   pub multiply :
       steps 33 (Tok (register_name 7) ∷ keyword true ∷ number (pos 3) ∷ []) ≡
@@ -309,35 +309,35 @@ pub record WorkedArithmetic : Type 0 where
 -- in place of the name; `\global\chardef`
 pub record WorkedShorthands : Type 0 where
   pub chardef :
-      steps 46 (Tok x ∷ Told ∷ Tok equals ∷ number (pos 65) ∷ []) ≡
+      steps 46 (Tok x ∷ Noted ∷ Tok equals ∷ number (pos 65) ∷ []) ≡
       More Raw ∷ Relaxes (call 46) x_name ∷ More Nonblank ∷ Inner Integer false ∷ Acts (call 46) (effect.Shorthand x_name (shorthand.Character 65)) ∷ []
   pub mathchardef :
-      steps 47 (Tok x ∷ Told ∷ Tok digit ∷ number (pos 1) ∷ []) ≡
+      steps 47 (Tok x ∷ Noted ∷ Tok digit ∷ number (pos 1) ∷ []) ≡
       More Raw ∷ Relaxes (call 47) x_name ∷ More Nonblank ∷ Inner Integer true ∷ Acts (call 47) (effect.Shorthand x_name (shorthand.Math 1)) ∷ []
   pub countdef :
-      steps 48 (Tok x ∷ Told ∷ Tok equals ∷ number (pos 5) ∷ []) ≡
+      steps 48 (Tok x ∷ Noted ∷ Tok equals ∷ number (pos 5) ∷ []) ≡
       More Raw ∷ Relaxes (call 48) x_name ∷ More Nonblank ∷ Inner Integer false ∷ Acts (call 48) (effect.Shorthand x_name (shorthand.Register register.Count 5)) ∷ []
   pub character_too_great :
-      steps 46 (Tok x ∷ Told ∷ Tok equals ∷ number (pos 256) ∷ Told ∷ []) ≡
+      steps 46 (Tok x ∷ Noted ∷ Tok equals ∷ number (pos 256) ∷ Noted ∷ []) ≡
       More Raw ∷ Relaxes (call 46) x_name ∷ More Nonblank ∷ Inner Integer false ∷ Tells (BadCharacterCode (pos 256)) false ∷ Acts (call 46) (effect.Shorthand x_name (shorthand.Character 0)) ∷ []
   pub math_too_great :
-      steps 47 (Tok x ∷ Told ∷ Tok equals ∷ number (pos 32768) ∷ Told ∷ []) ≡
+      steps 47 (Tok x ∷ Noted ∷ Tok equals ∷ number (pos 32768) ∷ Noted ∷ []) ≡
       More Raw ∷ Relaxes (call 47) x_name ∷ More Nonblank ∷ Inner Integer false ∷ Tells (BadMathchar (pos 32768)) false ∷ Acts (call 47) (effect.Shorthand x_name (shorthand.Math 0)) ∷ []
   pub math_negative :
-      steps 47 (Tok x ∷ Told ∷ Tok equals ∷ number (negsuc 0) ∷ Told ∷ []) ≡
+      steps 47 (Tok x ∷ Noted ∷ Tok equals ∷ number (negsuc 0) ∷ Noted ∷ []) ≡
       More Raw ∷ Relaxes (call 47) x_name ∷ More Nonblank ∷ Inner Integer false ∷ Tells (BadMathchar (negsuc 0)) false ∷ Acts (call 47) (effect.Shorthand x_name (shorthand.Math 0)) ∷ []
   pub math_greatest :
-      steps 47 (Tok x ∷ Told ∷ Tok equals ∷ number (pos 32767) ∷ []) ≡
+      steps 47 (Tok x ∷ Noted ∷ Tok equals ∷ number (pos 32767) ∷ []) ≡
       More Raw ∷ Relaxes (call 47) x_name ∷ More Nonblank ∷ Inner Integer false ∷ Acts (call 47) (effect.Shorthand x_name (shorthand.Math 32767)) ∷ []
   pub register_too_great :
-      steps 48 (Tok x ∷ Told ∷ Tok equals ∷ number (pos 256) ∷ Told ∷ []) ≡
+      steps 48 (Tok x ∷ Noted ∷ Tok equals ∷ number (pos 256) ∷ Noted ∷ []) ≡
       More Raw ∷ Relaxes (call 48) x_name ∷ More Nonblank ∷ Inner Integer false ∷ Tells (BadRegisterCode (pos 256)) false ∷ Acts (call 48) (effect.Shorthand x_name (shorthand.Register register.Count 0)) ∷ []
   pub missing :
-      steps 46 (Tok a_space ∷ Tok a_letter ∷ Told ∷ Tok inaccessible_name ∷ Told ∷ Tok a_letter ∷ number (pos 0) ∷ []) ≡
+      steps 46 (Tok a_space ∷ Tok a_letter ∷ Noted ∷ Tok inaccessible_name ∷ Noted ∷ Tok a_letter ∷ number (pos 0) ∷ []) ≡
       More Raw ∷ More Raw ∷ Inserts inaccessible MissingName true ∷ More Raw ∷ Relaxes (call 46) (Frozen Inaccessible) ∷ More Nonblank ∷ Inner Integer true ∷
       Acts (call 46) (effect.Shorthand (Frozen Inaccessible) (shorthand.Character 0)) ∷ []
   pub global :
-      steps 25 (Tok (primitive 46) ∷ Tok x ∷ Told ∷ Tok equals ∷ number (pos 65) ∷ []) ≡
+      steps 25 (Tok (primitive 46) ∷ Tok x ∷ Noted ∷ Tok equals ∷ number (pos 65) ∷ []) ≡
       More want.Command ∷ More Raw ∷ Relaxes (record (call 46) { global = true }) x_name ∷ More Nonblank ∷ Inner Integer false ∷ Acts (record (call 46) { global = true }) (effect.Shorthand x_name (shorthand.Character 65)) ∷ []
 
 -- `\the` before names of `\chardef` and `\mathchardef`; before parameters, `\endlinechar`, `\parindent` and `\lineskip`; before a register's name,
@@ -351,12 +351,12 @@ pub record WorkedValues : Type 0 where
   pub named : steps 62 (Tok (register_name 7) ∷ []) ≡ More Expanded ∷ Acts (call 62) (effect.MakeValue (loc.Register register.Count 7)) ∷ []
   pub category : steps 62 (Tok (primitive 35) ∷ number (pos 65) ∷ []) ≡ More Expanded ∷ Inner Integer false ∷ Acts (call 62) (effect.MakeValue (loc.Code code.Category 65)) ∷ []
   pub category_too_great :
-      steps 62 (Tok (primitive 35) ∷ number (pos 256) ∷ Told ∷ []) ≡ More Expanded ∷ Inner Integer false ∷ Tells (BadCharacterCode (pos 256)) false ∷ Acts (call 62) (effect.MakeValue (loc.Code code.Category 0)) ∷ []
+      steps 62 (Tok (primitive 35) ∷ number (pos 256) ∷ Noted ∷ []) ≡ More Expanded ∷ Inner Integer false ∷ Tells (BadCharacterCode (pos 256)) false ∷ Acts (call 62) (effect.MakeValue (loc.Code code.Category 0)) ∷ []
   pub skip : steps 62 (Tok (primitive 43) ∷ number (pos 7) ∷ []) ≡ More Expanded ∷ Inner Integer false ∷ Acts (call 62) (effect.MakeValue (loc.Register register.Skip 7)) ∷ []
   pub dimen_negative :
-      steps 62 (Tok (primitive 42) ∷ number (negsuc 0) ∷ Told ∷ []) ≡ More Expanded ∷ Inner Integer false ∷ Tells (BadRegisterCode (negsuc 0)) false ∷ Acts (call 62) (effect.MakeValue (loc.Register register.Dimen 0)) ∷ []
-  pub letter_refused : steps 62 (Tok a_letter ∷ Told ∷ []) ≡ More Expanded ∷ Tells (CantUseAfter (means.Char letter 97) 62) false ∷ Acts (call 62) (effect.MakeNumber (pos 0)) ∷ []
-  pub relax_refused : steps 62 (Tok (primitive 1) ∷ Told ∷ []) ≡ More Expanded ∷ Tells (CantUseAfter (means.Prim 1) 62) false ∷ Acts (call 62) (effect.MakeNumber (pos 0)) ∷ []
+      steps 62 (Tok (primitive 42) ∷ number (negsuc 0) ∷ Noted ∷ []) ≡ More Expanded ∷ Inner Integer false ∷ Tells (BadRegisterCode (negsuc 0)) false ∷ Acts (call 62) (effect.MakeValue (loc.Register register.Dimen 0)) ∷ []
+  pub letter_refused : steps 62 (Tok a_letter ∷ Noted ∷ []) ≡ More Expanded ∷ Tells (CantUseAfter (means.Char letter 97) 62) false ∷ Acts (call 62) (effect.MakeNumber (pos 0)) ∷ []
+  pub relax_refused : steps 62 (Tok (primitive 1) ∷ Noted ∷ []) ≡ More Expanded ∷ Tells (CantUseAfter (means.Prim 1) 62) false ∷ Acts (call 62) (effect.MakeNumber (pos 0)) ∷ []
 
 -- `\dimen 3=` and `\skip 3=`, `\muskip 3=` in mu; `\parindent` and `\lineskip`, whose values begin with a token, and `\thinmuskip=`; `\x=`, where `\x` is a
 -- name of a register of these kinds; `\dimendef\x=5`; `\advance` of a dimension, of glue and of glue in mu by one, and `\multiply` and `\divide` of them
@@ -385,7 +385,7 @@ pub record WorkedMeasures : Type 0 where
       asked (row (name_call register.Muskip 5)) (Tok equals ∷ springs ∷ []) ≡
       More Nonblank ∷ Inner (Glue true) false ∷ Acts (name_call register.Muskip 5) (effect.SetGlue (loc.Register register.Muskip 5) spring) ∷ []
   pub dimendef :
-      steps 49 (Tok x ∷ Told ∷ Tok equals ∷ number (pos 5) ∷ []) ≡
+      steps 49 (Tok x ∷ Noted ∷ Tok equals ∷ number (pos 5) ∷ []) ≡
       More Raw ∷ Relaxes (call 49) x_name ∷ More Nonblank ∷ Inner Integer false ∷ Acts (call 49) (effect.Shorthand x_name (shorthand.Register register.Dimen 5)) ∷ []
   pub advance_dimension :
       steps 32 (Tok (primitive 140) ∷ keyword true ∷ points 1 ∷ []) ≡
@@ -402,7 +402,7 @@ pub record WorkedMeasures : Type 0 where
   pub divide :
       steps 34 (Tok (primitive 140) ∷ keyword true ∷ number (pos 3) ∷ []) ≡
       More Expanded ∷ Inner (Keyword By) false ∷ Inner Integer false ∷ Acts (call 34) (effect.Compute Divide (loc.Dimension 0) (Number (pos 3))) ∷ []
-  pub toks_refused : steps 32 (Tok (primitive 45) ∷ Told ∷ []) ≡ More Expanded ∷ Tells (CantUseAfter (means.Prim 45) 32) false ∷ Acts (call 32) effect.Unassigned ∷ []
+  pub toks_refused : steps 32 (Tok (primitive 45) ∷ Noted ∷ []) ≡ More Expanded ∷ Tells (CantUseAfter (means.Prim 45) 32) false ∷ Acts (call 32) effect.Unassigned ∷ []
 
 -- what arithmetic comes to: a dimension's sum may be beyond 2^30 sp, a product may not; of two stretches of different orders the higher one is the sum;
 -- products and quotients of each part, which are cut towards zero
@@ -435,13 +435,13 @@ pub record WorkedLists : Type 0 where
       steps 45 (number (pos 1) ∷ Tok equals ∷ Tok a_letter ∷ list [] ∷ []) ≡
       Inner Integer false ∷ More Nonblank ∷ More want.Command ∷ Inner (Text (Word 45) false) true ∷ ActsOn (call 45) (effect.SetList (loc.Register register.Toks 1)) [] ∷ []
   pub too_great :
-      steps 45 (number (pos 256) ∷ Told ∷ Tok equals ∷ Tok a_brace ∷ list [] ∷ []) ≡
+      steps 45 (number (pos 256) ∷ Noted ∷ Tok equals ∷ Tok a_brace ∷ list [] ∷ []) ≡
       Inner Integer false ∷ Tells (BadRegisterCode (pos 256)) false ∷ More Nonblank ∷ More want.Command ∷ Inner (Text (Word 45) false) true ∷ ActsOn (call 45) (effect.SetList (loc.Register register.Toks 0)) [] ∷ []
   pub shares :
       steps 45 (number (pos 1) ∷ Tok equals ∷ Tok (primitive 45) ∷ number (pos 2) ∷ []) ≡
       Inner Integer false ∷ More Nonblank ∷ More want.Command ∷ Inner Integer false ∷ Acts (call 45) (effect.ShareList (loc.Register register.Toks 1) (loc.Register register.Toks 2)) ∷ []
   pub shared_too_great :
-      steps 45 (number (pos 1) ∷ Tok (primitive 45) ∷ number (pos 256) ∷ Told ∷ []) ≡
+      steps 45 (number (pos 1) ∷ Tok (primitive 45) ∷ number (pos 256) ∷ Noted ∷ []) ≡
       Inner Integer false ∷ More Nonblank ∷ Inner Integer false ∷ Tells (BadRegisterCode (pos 256)) false ∷ Acts (call 45) (effect.ShareList (loc.Register register.Toks 1) (loc.Register register.Toks 0)) ∷ []
   pub shares_parameter :
       steps 45 (number (pos 1) ∷ Tok equals ∷ Tok (primitive 179) ∷ []) ≡
@@ -460,18 +460,18 @@ pub record WorkedLists : Type 0 where
       steps 179 (Tok equals ∷ Tok (primitive 45) ∷ number (pos 1) ∷ []) ≡
       More Nonblank ∷ More want.Command ∷ Inner Integer false ∷ Acts (call 179) (effect.ShareList (loc.Tokens 0) (loc.Register register.Toks 1)) ∷ []
   pub toksdef :
-      steps 52 (Tok x ∷ Told ∷ Tok equals ∷ number (pos 5) ∷ []) ≡
+      steps 52 (Tok x ∷ Noted ∷ Tok equals ∷ number (pos 5) ∷ []) ≡
       More Raw ∷ Relaxes (call 52) x_name ∷ More Nonblank ∷ Inner Integer false ∷ Acts (call 52) (effect.Shorthand x_name (shorthand.Register register.Toks 5)) ∷ []
   pub global :
       steps 25 (Tok (primitive 45) ∷ number (pos 1) ∷ Tok equals ∷ Tok a_brace ∷ list text ∷ []) ≡
       More want.Command ∷ Inner Integer false ∷ More Nonblank ∷ More want.Command ∷ Inner (Text (Word 45) false) true ∷
       ActsOn (record (call 45) { global = true }) (effect.SetList (loc.Register register.Toks 1)) text ∷ []
   pub long :
-      steps 23 (Tok (primitive 45) ∷ Told ∷ number (pos 1) ∷ Tok equals ∷ Tok a_brace ∷ list text ∷ []) ≡
+      steps 23 (Tok (primitive 45) ∷ Noted ∷ number (pos 1) ∷ Tok equals ∷ Tok a_brace ∷ list text ∷ []) ≡
       More want.Command ∷ Tells (LongOrOuterWith (means.Prim 45)) false ∷ Inner Integer false ∷ More Nonblank ∷ More want.Command ∷ Inner (Text (Word 45) false) true ∷
       ActsOn (call 45) (effect.SetList (loc.Register register.Toks 1)) text ∷ []
   pub long_parameter :
-      steps 23 (Tok (primitive 25) ∷ Tok (primitive 179) ∷ Told ∷ Tok equals ∷ Tok (list_name 1) ∷ []) ≡
+      steps 23 (Tok (primitive 25) ∷ Tok (primitive 179) ∷ Noted ∷ Tok equals ∷ Tok (list_name 1) ∷ []) ≡
       More want.Command ∷ More want.Command ∷ Tells (LongOrOuterWith (means.Prim 179)) false ∷ More Nonblank ∷ More want.Command ∷
       Acts (record (call 179) { global = true }) (effect.ShareList (loc.Tokens 0) (loc.Register register.Toks 1)) ∷ []
 
@@ -485,10 +485,10 @@ pub record WorkedListValues : Type 0 where
   pub shows_list : steps 12 (Tok (primitive 45) ∷ number (pos 1) ∷ []) ≡ More Expanded ∷ Inner Integer false ∷ Acts (call 12) (effect.ShowValue (loc.Register register.Toks 1)) ∷ []
   pub shows_parameter : steps 12 (Tok (primitive 186) ∷ []) ≡ More Expanded ∷ Acts (call 12) (effect.ShowValue (loc.Tokens 7)) ∷ []
   pub shows_number : steps 12 (Tok (character_name 65) ∷ []) ≡ More Expanded ∷ Acts (call 12) (effect.ShowNumber (pos 65)) ∷ []
-  pub show_refused : steps 12 (Tok (primitive 1) ∷ Told ∷ []) ≡ More Expanded ∷ Tells (CantUseAfter (means.Prim 1) 62) false ∷ Acts (call 12) (effect.ShowNumber (pos 0)) ∷ []
+  pub show_refused : steps 12 (Tok (primitive 1) ∷ Noted ∷ []) ≡ More Expanded ∷ Tells (CantUseAfter (means.Prim 1) 62) false ∷ Acts (call 12) (effect.ShowNumber (pos 0)) ∷ []
   pub uppercase : steps 13 (list text ∷ []) ≡ Inner (Text (Word 13) false) false ∷ ActsOn (call 13) (effect.ChangeCase true) text ∷ []
   pub lowercase : steps 14 (list [] ∷ []) ≡ Inner (Text (Word 14) false) false ∷ ActsOn (call 14) (effect.ChangeCase false) [] ∷ []
-  pub refused : steps 25 (Tok (primitive 13) ∷ Told ∷ []) ≡ More want.Command ∷ Tells (PrefixWith (means.Prim 13)) true ∷ Ends ∷ []
+  pub refused : steps 25 (Tok (primitive 13) ∷ Noted ∷ []) ≡ More want.Command ∷ Tells (PrefixWith (means.Prim 13)) true ∷ Ends ∷ []
 
 -- `\expandafter`, `\noexpand`, `\number`, `\romannumeral`, `\string` and `\meaning`, and which of them read under normal status
 pub record WorkedExpansions : Type 0 where
@@ -537,12 +537,12 @@ pub record WorkedRelations : Type 0 where
   pub is_equal : steps 67 (number (negsuc 1) ∷ Tok equals ∷ number (negsuc 1) ∷ []) ≡ related true
   pub is_greater : steps 67 (number (pos 2) ∷ Tok greater ∷ number (negsuc 1) ∷ []) ≡ related true
   pub not_greater : steps 67 (number (pos 2) ∷ Tok greater ∷ number (pos 2) ∷ []) ≡ related false
-  pub missing : steps 67 (number (pos 7) ∷ Tok a_letter ∷ Told ∷ number (pos 7) ∷ []) ≡ unrelated true
-  pub of_a_letter : steps 67 (number (pos 1) ∷ Tok less_letter ∷ Told ∷ number (pos 2) ∷ []) ≡ unrelated false
-  pub implicit : steps 67 (number (pos 1) ∷ Tok implicit_less ∷ Told ∷ number (pos 2) ∷ []) ≡ unrelated false
+  pub missing : steps 67 (number (pos 7) ∷ Tok a_letter ∷ Noted ∷ number (pos 7) ∷ []) ≡ unrelated true
+  pub of_a_letter : steps 67 (number (pos 1) ∷ Tok less_letter ∷ Noted ∷ number (pos 2) ∷ []) ≡ unrelated false
+  pub implicit : steps 67 (number (pos 1) ∷ Tok implicit_less ∷ Noted ∷ number (pos 2) ∷ []) ≡ unrelated false
   pub dimensions : steps 68 (points 65536 ∷ Tok greater ∷ points 32768 ∷ []) ≡ measures true
   pub dimension_missing :
-      steps 68 (points 65536 ∷ Tok a_brace ∷ Told ∷ points 65536 ∷ []) ≡
+      steps 68 (points 65536 ∷ Tok a_brace ∷ Noted ∷ points 65536 ∷ []) ≡
       Inner (Dimension in_points) false ∷ More Nonblank ∷ Tells (MissingRelation 68) true ∷ Inner (Dimension in_points) false ∷ chooses 68 true ∷ []
 
 -- `\ifodd` of 3, 2 and -3; `\ifcase` of 2 and -1; `\ifvoid256`, `\ifhbox255` and `\ifvbox-1`
@@ -553,10 +553,10 @@ pub record WorkedNumberTests : Type 0 where
   pub third_case : steps 81 (number (pos 2) ∷ []) ≡ Inner Integer false ∷ Acts (call 81) (effect.Choose (Case (pos 2))) ∷ []
   pub no_case : steps 81 (number (negsuc 0) ∷ []) ≡ Inner Integer false ∷ Acts (call 81) (effect.Choose (Case (negsuc 0))) ∷ []
   pub void_too_great :
-      steps 74 (number (pos 256) ∷ Told ∷ []) ≡ Inner Integer false ∷ Tells (BadRegisterCode (pos 256)) false ∷ chooses 74 true ∷ []
+      steps 74 (number (pos 256) ∷ Noted ∷ []) ≡ Inner Integer false ∷ Tells (BadRegisterCode (pos 256)) false ∷ chooses 74 true ∷ []
   pub hbox : steps 75 (number (pos 255) ∷ []) ≡ Inner Integer false ∷ chooses 75 false ∷ []
   pub vbox_negative :
-      steps 76 (number (negsuc 0) ∷ Told ∷ []) ≡ Inner Integer false ∷ Tells (BadRegisterCode (negsuc 0)) false ∷ chooses 76 false ∷ []
+      steps 76 (number (negsuc 0) ∷ Noted ∷ []) ≡ Inner Integer false ∷ Tells (BadRegisterCode (negsuc 0)) false ∷ chooses 76 false ∷ []
 
 -- what `\if` (65) and what `\ifcat` (66) asks for, and what comes of the test
 abbrev pub sees : ℕ → Bool → List Ask

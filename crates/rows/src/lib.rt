@@ -28,4 +28,4 @@ pub use laws::{
     rows_have_no_value, worked_rows,
 };
 pub use stage::{Complaint, Got, Met, Next, Note, Stage, Start};
-pub use words::{Datum, DimenKind, Keyword, Kind, Relation, Value};
+pub use words::{Datum, DimenKind, Keyword, Phrase, Relation, Value};

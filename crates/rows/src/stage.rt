@@ -1,7 +1,7 @@
 // The stages of the rows, and what a stage makes of what it reads.
 use crate::command::{Call, Prefix};
 use crate::internal::Bank;
-use crate::words::{Datum, Keyword, Kind};
+use crate::words::{Datum, Keyword, Phrase};
 use tex_defs::{Name, Token};
 use tex_syntax::{Report, Want};
 
@@ -71,10 +71,10 @@ pub enum Start {
     /// It looks at tokens, which are read so.
     Looks(Want),
     /// It is an inner reading.
-    Begins(Kind),
+    Begins(Phrase),
 }
 
-/// What comes behind a report.
+/// What comes behind a note.
 #[derive(Clone, Copy)]
 pub enum Next {
     /// The stage has read this.
@@ -87,7 +87,7 @@ pub enum Next {
     Becomes(Call),
 }
 
-/// What is reported or done in the middle of a row; the token that was met may be given back before a report.
+/// What is reported or done in the middle of a row, and then noted (`Noted`); the token that was met may be given back before a report.
 #[derive(Clone, Copy)]
 pub enum Note {
     Tells(Report, bool),
@@ -115,7 +115,7 @@ pub enum Met {
     /// The number of a register or of a character comes, whose location is what it reads.
     Numbers(Bank),
     /// An inner reading begins with the token.
-    Begins(Kind),
+    Begins(Phrase),
     /// The command goes on as this one, from the beginning.
     Becomes(Call),
 }

@@ -69,9 +69,9 @@ pub enum Value {
     List,
 }
 
-/// The kinds of readings that commands are and begin.
+/// What is read of TeX's grammar: a command with what follows it, or what it reads within (*The TeXbook*, chapters 24 to 26).
 #[derive(Clone, Copy)]
-pub enum Kind {
+pub enum Phrase {
     /// A command or an expansion: its row.
     Command(Call),
     Integer,

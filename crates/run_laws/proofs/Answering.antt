@@ -31,12 +31,12 @@ use Rattle.plain_tokens.specs.Puts.{Item, Put as PutList, call_put, list_put}
 use Rattle.plain_tokens.specs.Tokens.{character_codes}
 use Rattle.rows.specs.Arithmetic.{value_computed}
 use Rattle.rows.specs.Internal.{value_text}
-use Rattle.rows.specs.Readings.{Fed, Told, Fetched, Verbatim, Ask, More, Inner, Done, Acts, ActsOn, Defines, Ends as Closes, Calls, Fails, RunsAway, Tells, Inserts, Puts, Relaxes, Fetches, Magnifies}
+use Rattle.rows.specs.Readings.{Fed, Noted, Fetched, Verbatim, Ask, More, Inner, Done, Acts, ActsOn, Defines, Ends as Closes, Calls, Fails, RunsAway, Tells, Inserts, Puts, Relaxes, Fetches, Magnifies}
 use Rattle.rows.specs.declared.command.Call.{Call}
 use Rattle.rows.specs.declared.command.Effect.{Effect}
 use Rattle.rows.specs.declared.command.Effect.TheVariants as effect
-use Rattle.rows.specs.declared.words.Kind.{Kind as Begun}
-use Rattle.rows.specs.declared.words.Kind.TheVariants.{Command}
+use Rattle.rows.specs.declared.words.Phrase.{Phrase}
+use Rattle.rows.specs.declared.words.Phrase.TheVariants.{Command}
 use Rattle.rows.specs.declared.words.Value.{Value}
 use Rattle.plain_readings.specs.Calls.{call_ask, gathered, arguments}
 use Rattle.plain_tokens.specs.Arguments as call
@@ -47,8 +47,8 @@ use Rattle.plain_readings.proofs.Entering.{enters}
 use Rattle.plain_readings.proofs.Lower.{no_command}
 use Rattle.plain_readings.proofs.Values.{values}
 use Rattle.plain_machine.specs.States.{State, Files, Move, Spelt, NameInProgress, ListsEnded, FileOpened, Set, Assigned, Ended as Ends, Closed, Written, Stopped}
-use Rattle.plain_machine.specs.Plan.{Page, page_of, style_of, reported, put_one, put_inserted, put_text, put_characters, given_back, told, noting, noting_kind, inner_begun, value_tokens, done, arguments_put, called_with, failed, failed_away, away_text, page_behind, and_closed, command, chosen, reached, behind_assignment, assigned, kept_for_group, computed_to, number_or_glue, is_global, meaning_characters, tokens_meant, short_meaning, acts, tokens_entered, list_given, list_number, put_body, copies, is_copying, acts_above, list_set, macro_defined, name_made, acts_on, unless_found, input_begun, acts_in, is_magnification, magnification_set, legal_or_not, compared, answered}
-use Rattle.run_laws.proofs.Standing.{HasValue, HasNone, IsNoCall, AsksInner, Stand, Rested, Ended, fed_stand, begun_stand, inner_stand, lent_stand, ended_stand, valued_stand}
+use Rattle.plain_machine.specs.Plan.{Page, page_of, style_of, reported, put_one, put_inserted, put_text, put_characters, given_back, report_noted, noting, noting_kind, inner_begun, value_tokens, done, arguments_put, called_with, failed, failed_away, away_text, page_behind, and_closed, command, chosen, reached, behind_assignment, assigned, kept_for_group, computed_to, number_or_glue, is_global, meaning_characters, tokens_meant, short_meaning, acts, tokens_entered, list_given, list_number, put_body, copies, is_copying, acts_above, list_set, macro_defined, name_made, acts_on, unless_found, input_begun, acts_in, is_magnification, magnification_set, legal_or_not, compared, answered}
+use Rattle.run_laws.proofs.InTurn.{HasValue, HasNone, IsNoCall, AsksInner, WaitsInTurn, Rested, Ended, fed_stand, begun_stand, inner_stand, lent_stand, ended_stand, valued_stand}
 use Rattle.run_laws.proofs.Keeping.{Keeps, Calm, calm_join, Begins, one_of, calm_keeps, behind_keeps, reported_keeps, begins_keeps}
 use Rattle.run_laws.proofs.Expanding.{back_calm, text_calm, characters_calm, inserted_calm, behind_assignment_calm, kept_for_group_calm, made_name_calm, body_begins, command_begins, chosen_begins, reached_begins, expanded_holds}
 use Rattle.run_laws.proofs.Feeding.{grown_and_fed_keeps}
@@ -67,7 +67,7 @@ arguments_no_inner : (name : Name) (long : Bool) (ts : List Token) (fed : List F
 arguments_no_inner name long ts [] = tt
 arguments_no_inner name long ts (y ∷ fed) = call_no_inner name (gathered long ts (y ∷ fed))
 
-inner_no_call : (k : Kind) (fed : List Fed) (j : Begun) (begins : Bool) → ask k fed ≡ Inner j begins → IsNoCall k
+inner_no_call : (k : Kind) (fed : List Fed) (j : Phrase) (begins : Bool) → ask k fed ≡ Inner j begins → IsNoCall k
 inner_no_call (Arguments name long number ts) fed j begins e = absurd (subst IsNoInner e (arguments_no_inner name long ts fed))
 inner_no_call k fed j begins e = tt
 
@@ -112,16 +112,16 @@ copied_comes : (a : Ask) (y : Fed) → a ≡ More Copied → Comes a y
 copied_comes a y e = subst (λ (a : Ask). Comes a y) (sym e) tt
 
 module _ (rs : List Reading) (last : Seen) where
-  entered_keep : (ts : List Token) (q : Reading) → Stand (q ∷ rs) last → ask q.kind q.fed ≡ More Copied → Keeps (tokens_entered ts) (q ∷ rs) last
+  entered_keep : (ts : List Token) (q : Reading) → WaitsInTurn (q ∷ rs) last → ask q.kind q.fed ≡ More Copied → Keeps (tokens_entered ts) (q ∷ rs) last
   entered_keep [] q h e = h
   entered_keep (t ∷ ts) q h e =
       (h, entered_keep ts (record { kind = q.kind; fed = q.fed ++ Verbatim t ∷ [] }) (fed_stand (Verbatim t) q rs last (copied_comes (ask q.kind q.fed) (Verbatim t) e) h) (enters q.kind q.fed t e).copies)
 
-copied_keep : (ts : List Token) (work : List Reading) (last : Seen) → Stand work last → is_copying work ≡ true → Keeps (tokens_entered ts) work last
+copied_keep : (ts : List Token) (work : List Reading) (last : Seen) → WaitsInTurn work last → is_copying work ≡ true → Keeps (tokens_entered ts) work last
 copied_keep ts [] last h e = absurd cc
 copied_keep ts (q ∷ qs) last h e = entered_keep qs last ts q h (copied_is (ask q.kind q.fed) e)
 
-given_keeps : (page : Page) (work : List Reading) (last : Seen) (b : Bool) (o : Option ℕ) → is_copying work ≡ b → Stand work last → Rested work → Keeps (list_given page b o) work last
+given_keeps : (page : Page) (work : List Reading) (last : Seen) (b : Bool) (o : Option ℕ) → is_copying work ≡ b → WaitsInTurn work last → Rested work → Keeps (list_given page b o) work last
 given_keeps page work last b None e h rest = h
 given_keeps page work last true (Some number) e h rest = copied_keep (slice_index_or page.all_lists number []) work last h e
 given_keeps page work last false (Some number) e h rest =
@@ -129,7 +129,7 @@ given_keeps page work last false (Some number) e h rest =
     begins_keeps work last h rest (put_body p) (body_begins p p.items)
 
 -- THE INNERMOST READING
-module _ (r : Reading) (rs : List Reading) (last : Seen) (h : Stand (r ∷ rs) last) where
+module _ (r : Reading) (rs : List Reading) (last : Seen) (h : WaitsInTurn (r ∷ rs) last) where
   abbrev Kept : List Move → Type 0
   Kept ms = Keeps ms (r ∷ rs) last
 
@@ -137,15 +137,15 @@ module _ (r : Reading) (rs : List Reading) (last : Seen) (h : Stand (r ∷ rs) l
   report_kept page report rest i = reported_keeps page report rest (r ∷ rs) last h i
 
   -- it is fed with a note
-  module _ (i : Stand (fed_with Told (r ∷ rs)) last) where
+  module _ (i : WaitsInTurn (fed_with Noted (r ∷ rs)) last) where
     noting_keeps : (k : Kind) (fed : List Fed) → Kept (noting_kind k fed)
     noting_keeps (Arguments name long number ts) fed = (h, i)
-    noting_keeps k fed = grown_and_fed_keeps k fed Told (r ∷ rs) last h i
+    noting_keeps k fed = grown_and_fed_keeps k fed Noted (r ∷ rs) last h i
 
     noted : Kept (noting r)
     noted = noting_keeps r.kind r.fed
 
-    told_keeps : (page : Page) (report : Report) (inserted : Option Token) (back : Bool) → Kept (told page report inserted back r)
+    told_keeps : (page : Page) (report : Report) (inserted : Option Token) (back : Bool) → Kept (report_noted page report inserted back r)
     told_keeps page report inserted back =
         calm_keeps (given_back back page.last) (put_inserted inserted ++ reported page report (noting r)) (r ∷ rs) last (back_calm back page.last)
         (calm_keeps (put_inserted inserted) (reported page report (noting r)) (r ∷ rs) last (inserted_calm inserted) (report_kept page report (noting r) noted))
@@ -163,14 +163,14 @@ module _ (r : Reading) (rs : List Reading) (last : Seen) (h : Stand (r ∷ rs) l
         one_of Kept (int_eq n (pos (suc m))) (noting r) (reported page report set) noted (report_kept page report set noted)
 
   -- it begins another
-  command_value : (j : Begun) (begins : Bool) → ask r.kind r.fed ≡ Inner j begins → HasValue (Reads j)
+  command_value : (j : Phrase) (begins : Bool) → ask r.kind r.fed ≡ Inner j begins → HasValue (Reads j)
   command_value (Command c) begins e = absurd (no_command r.kind r.fed c begins e)
   command_value j begins e = tt
 
-  inner_asked : (j : Begun) (begins : Bool) → ask r.kind r.fed ≡ Inner j begins → AsksInner (ask r.kind r.fed)
+  inner_asked : (j : Phrase) (begins : Bool) → ask r.kind r.fed ≡ Inner j begins → AsksInner (ask r.kind r.fed)
   inner_asked j begins e = subst AsksInner (sym e) tt
 
-  inner_keeps : (j : Begun) (begins : Bool) → ask r.kind r.fed ≡ Inner j begins → Kept (inner_begun (Reads j) begins)
+  inner_keeps : (j : Phrase) (begins : Bool) → ask r.kind r.fed ≡ Inner j begins → Kept (inner_begun (Reads j) begins)
   inner_keeps j true e = (h, lent_stand j r rs last (command_value j true e) (inner_asked j true e) (inner_no_call r.kind r.fed j true e) h)
   inner_keeps j false e = (h, inner_stand (Reads j) r rs last (command_value j false e) tt (inner_asked j false e) (inner_no_call r.kind r.fed j false e) h)
 
@@ -181,7 +181,7 @@ module _ (r : Reading) (rs : List Reading) (last : Seen) (h : Stand (r ∷ rs) l
       calm_keeps (given_back back page.last) (Ends v ts ∷ []) (r ∷ rs) last (back_calm back page.last) (h, valued_stand r.kind v ts rs last value h.1)
 
   -- IT ENDS without one
-  module _ (i : Stand rs last) (rest : Rested rs) where
+  module _ (i : WaitsInTurn rs last) (rest : Rested rs) where
     closed : Kept (Closed ∷ [])
     closed = (h, i)
 
@@ -214,7 +214,7 @@ module _ (r : Reading) (rs : List Reading) (last : Seen) (h : Stand (r ∷ rs) l
     -- the token that waits is a reading of its own, above which the other is expanded
     behind_expanded_keeps : (page : Page) (c : Call) (x y : Seen) → Kept (acts page c (effect.ExpandBehind x y))
     behind_expanded_keeps page c x y =
-        let waits : Stand (opened (Behind c x) rs) last = begun_stand (Behind c x) rs last tt tt i rest in
+        let waits : WaitsInTurn (opened (Behind c x) rs) last = begun_stand (Behind c x) rs last tt tt i rest in
         (h, (i, expanded_holds (λ ms. Keeps ms (opened (Behind c x) rs) last) (λ ms g. begins_keeps (opened (Behind c x) rs) last waits (tt, tt) ms g) page (put_one y.token) waits y))
 
     acts_keeps : (page : Page) (c : Call) (e : Effect) → Kept (acts page c e)
@@ -298,9 +298,9 @@ module _ (r : Reading) (rs : List Reading) (last : Seen) (h : Stand (r ∷ rs) l
     away_keeps page report (Some s) = failed_keeps page report
 
 -- THE ANSWER
-module _ (s : State) (r : Reading) (rs : List Reading) (h : Stand (r ∷ rs) s.last) where
-  noted_stand : (a : Ask) → ask r.kind r.fed ≡ a → Comes a Told → Stand (fed_with Told (r ∷ rs)) s.last
-  noted_stand a e c = fed_stand Told r rs s.last (subst (λ (a : Ask). Comes a Told) (sym e) c) h
+module _ (s : State) (r : Reading) (rs : List Reading) (h : WaitsInTurn (r ∷ rs) s.last) where
+  noted_stand : (a : Ask) → ask r.kind r.fed ≡ a → Comes a Noted → WaitsInTurn (fed_with Noted (r ∷ rs)) s.last
+  noted_stand a e c = fed_stand Noted r rs s.last (subst (λ (a : Ask). Comes a Noted) (sym e) c) h
 
   ends_so : (a : Ask) → ask r.kind r.fed ≡ a → EndsAs r.kind (lists r.kind r.fed) a
   ends_so a e = subst (EndsAs r.kind (lists r.kind r.fed)) e (values r.kind r.fed)

@@ -5,9 +5,9 @@ use Rattle.tex_defs.specs.declared.Name.{Name}
 use Rattle.tex_defs.specs.declared.Token.{Token}
 use Rattle.tex_syntax.specs.declared.words.Want.TheVariants.{Raw}
 use Rattle.plain_tokens.specs.Arguments as call
-use Rattle.plain_tokens.specs.Arguments.{ParMode, Short, Checked, Case, Argument, ExtraBrace, ParEnded, Skipped, Going, Found, Gathered, Failed, case_at, search, same, start_of, places_of, delimiters_of, is_nil, is_some_place, has_parameters}
-use Rattle.rows.specs.Readings.{Fed, Tok, Told, Cut, More}
-use Rattle.plain_readings.specs.Calls.{call_ask, call_fed, mode_of, gathered, arguments}
+use Rattle.plain_tokens.specs.Arguments.{ParMode, Short, Checked, Case, Argument, ExtraBrace, ParEnded, Skipped, Going, Found, Gathered, Failed, case_at, search, same, start_of, places_of, delimiters_of, is_nil, is_some_place, has_parameters, mode_of}
+use Rattle.rows.specs.Readings.{Fed, Tok, Noted, Cut, More}
+use Rattle.plain_readings.specs.Calls.{call_ask, call_fed, gathered, arguments}
 
 abbrev WantsMore : call.Answer → Type 0
 WantsMore (call.More args work) = Unit {0}
@@ -42,7 +42,7 @@ module _ (args places : List (List Token)) where
     search_cut : (braced : Bool) (mode : ParMode) (kept t : List Token) (fed : List call.Fed) → FoundMore (search ds braced mode kept t fed) → FoundMore (search ds braced mode kept t (fed ++ call.Cut ∷ []))
     search_cut braced mode kept t [] h = tt
     search_cut braced mode kept t (call.Cut ∷ fed) h = search_cut false Checked kept t fed h
-    search_cut braced mode kept t (call.Settled ∷ fed) h = search_cut false mode kept t fed h
+    search_cut braced mode kept t (call.Noted ∷ fed) h = search_cut false mode kept t fed h
     search_cut braced mode kept t (call.Tok x ∷ fed) h =
         case_cut mode kept t x fed (case_at ds mode kept t x) (search_cut true Short (kept ++ t) [] fed) (search_cut false mode kept t fed) (search_cut false mode kept (t ++ x ∷ []) fed) h
 
@@ -58,7 +58,7 @@ call_cut : (mode : ParMode) (start : List Token) (places : List (List Token)) (f
 call_cut mode [] places fed h = arguments_cut mode [] places fed h
 call_cut mode (d ∷ ds) places [] h = tt
 call_cut mode (d ∷ ds) places (call.Cut ∷ fed) h = call_cut Checked (d ∷ ds) places fed h
-call_cut mode (d ∷ ds) places (call.Settled ∷ fed) h = call_cut mode (d ∷ ds) places fed h
+call_cut mode (d ∷ ds) places (call.Noted ∷ fed) h = call_cut mode (d ∷ ds) places fed h
 call_cut mode (d ∷ ds) places (call.Tok x ∷ fed) h = same_cut (same x d) _ _ (call_cut mode ds places fed) h
 
 -- behind the note alone
@@ -70,7 +70,7 @@ first_cut mode [] [] p = absurd cc
 cut_last : (fed : List Fed) → call_fed (fed ++ Cut ∷ []) ≡ call_fed fed ++ call.Cut ∷ []
 cut_last [] = refl
 cut_last (Tok x ∷ fed) = rw (cut_last fed) refl
-cut_last (Told ∷ fed) = rw (cut_last fed) refl
+cut_last (Noted ∷ fed) = rw (cut_last fed) refl
 cut_last (Cut ∷ fed) = rw (cut_last fed) refl
 cut_last (y ∷ fed) = cut_last fed
 

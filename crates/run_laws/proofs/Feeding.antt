@@ -17,7 +17,7 @@ use Rattle.plain_tokens.specs.Meanings.{met as met_token}
 use Rattle.plain_tokens.specs.Pending.{Pulled, TokenFrom, LexemeFrom, LineTaken, InvalidMet, FileOver, NothingLeft, pulled}
 use Rattle.plain_tokens.specs.Tokens.{is_outer, space_token}
 use Rattle.conditionals.specs.Open.{innermost_test}
-use Rattle.rows.specs.declared.words.Kind.TheVariants.{Command, Text, Definition}
+use Rattle.rows.specs.declared.words.Phrase.TheVariants.{Command, Text, Definition}
 use Rattle.rows.specs.Table.{reads_under_normal}
 use Rattle.rows.specs.Readings.{Fed, Tok, Cut, Ask, More}
 use Rattle.plain_readings.specs.Calls.{gathered}
@@ -26,21 +26,21 @@ use Rattle.plain_readings.specs.Readings.{Kind, Reads, Arguments, Skips, Reading
 use Rattle.plain_readings.specs.Scanning.{Status, Unguarded, Scanning, Builds, SkippedText, status, command_status, scanned_at, list_on_top, innermost_scanned, unless_unguarded, scanning}
 use Rattle.plain_machine.specs.States.{State, Move, Feeds, Completed, last_with}
 use Rattle.plain_machine.specs.Plan.{Page, page_of, handed, met, met_outer, entered, checked, ran_away, incomplete, away_text, page_behind, at_line, reported, wanted, enters_names, feeding, feeding_kind, grown_and_fed, grown_to, first_list, opened, in_place, argument_fed, call_fed, answered}
-use Rattle.run_laws.proofs.Standing.{Stand, AreBeneath, IsNoCall, Rested, Rests, fed_stand}
+use Rattle.run_laws.proofs.InTurn.{WaitsInTurn, AreBeneath, IsNoCall, Rested, Rests, fed_stand}
 use Rattle.run_laws.proofs.Keeping.{Keeps, one_of, calm_keeps, reported_keeps, begins_keeps}
 use Rattle.run_laws.proofs.Cuts.{cut_asks}
 use Rattle.run_laws.proofs.Expanding.{entered_calm, grown_calm, wanted_holds}
 
 -- FEEDING: what stands then is kept
 
-pub grown_and_fed_keeps : (k : Kind) (fed : List Fed) (y : Fed) (work : List Reading) (last : Seen) → Stand work last → Stand (fed_with y work) (last_with y last) →
+pub grown_and_fed_keeps : (k : Kind) (fed : List Fed) (y : Fed) (work : List Reading) (last : Seen) → WaitsInTurn work last → WaitsInTurn (fed_with y work) (last_with y last) →
     Keeps (grown_and_fed k fed y) work last
 grown_and_fed_keeps k fed y work last h i =
     let before : List Token = first_list (lists k fed) in
     let after : List Token = first_list (lists k (fed ++ y ∷ [])) in
     calm_keeps (grown_to before after) (Feeds y ∷ []) work last (grown_calm (drop (length before) after)) (h, i)
 
-module _ (x : Seen) (work : List Reading) (last : Seen) (h : Stand work last) (i : Stand (fed_with (Tok x) work) x) where
+module _ (x : Seen) (work : List Reading) (last : Seen) (h : WaitsInTurn work last) (i : WaitsInTurn (fed_with (Tok x) work) x) where
   opened_keeps : (o : Option (List Token)) → Keeps (opened o) (fed_with (Tok x) work) x
   opened_keeps None = i
   opened_keeps (Some ts) = i
@@ -98,7 +98,7 @@ scanning_no_use r rs held n h =
 
 -- THE NEXT TOKEN OR LINE
 
-module _ (work : List Reading) (last : Seen) (h : Stand work last) where
+module _ (work : List Reading) (last : Seen) (h : WaitsInTurn work last) where
   abbrev Kept : List Move → Type 0
   Kept ms = Keeps ms work last
 
@@ -157,7 +157,7 @@ more_rests : (a : Ask) (want : Want) → a ≡ More want → Rests a
 more_rests a want e = subst Rests (sym e) tt
 
 -- no call: tokens may be expanded above it
-pub more_keeps : (s : State) (r : Reading) (rs : List Reading) (want : Want) → Stand (r ∷ rs) s.last → IsNoCall r.kind → ask r.kind r.fed ≡ More want →
+pub more_keeps : (s : State) (r : Reading) (rs : List Reading) (want : Want) → WaitsInTurn (r ∷ rs) s.last → IsNoCall r.kind → ask r.kind r.fed ≡ More want →
     Keeps (answered s (r ∷ rs) r (More want)) (r ∷ rs) s.last
 more_keeps s r rs want h n e =
     let work : List Reading = r ∷ rs in
@@ -178,8 +178,8 @@ module _ (s : State) (name : Name) (long : Bool) (number : ℕ) (ts : List Token
   abbrev cut_work : List Reading
   cut_work = record { kind = kind; fed = fed ++ Cut ∷ [] } ∷ rs
 
-  module _ (h : Stand call_work s.last) (e : ask kind fed ≡ More Raw) where
-    cut_stand : Stand cut_work s.last
+  module _ (h : WaitsInTurn call_work s.last) (e : ask kind fed ≡ More Raw) where
+    cut_stand : WaitsInTurn cut_work s.last
     cut_stand = fed_stand Cut (record { kind = kind; fed = fed }) rs s.last (more_comes (ask kind fed) Raw Cut e) h
 
     abbrev feeds : Seen → List Move

@@ -9,27 +9,27 @@ use Rattle.tex_defs.specs.Places.{Transcript}
 use Rattle.plain_tokens.specs.Arguments.{has_parameters}
 use Rattle.plain_tokens.specs.Printed.{Style}
 use Rattle.plain_state.specs.Reports.{hundred_line}
-use Rattle.rows.specs.declared.words.Kind.TheVariants.{Command, Integer}
+use Rattle.rows.specs.declared.words.Phrase.TheVariants.{Command, Integer}
 use Rattle.rows.specs.Readings.{Tok, Val}
 use Rattle.plain_readings.specs.Readings.{Reads, Arguments, Reading, fed_with, opened, opened_with}
 use Rattle.plain_machine.specs.States.{State, Move, Feeds, CalledWith, Defined, ListSet, Begun, BegunWith, Ended, Closed, Written, Stopped, last_with, made}
 use Rattle.plain_machine.specs.Plan.{Page, style_of, reports_room, behind_report, reported}
-use Rattle.run_laws.proofs.Standing.{Stand, Rested, begun_stand}
+use Rattle.run_laws.proofs.InTurn.{WaitsInTurn, Rested, begun_stand}
 
 -- From these readings and this last token on it stands before each of the moves that touch them, and behind them all.
 abbrev pub Keeps : List Move → List Reading → Seen → Type 0
-Keeps [] work last = Stand work last
-Keeps (Feeds y ∷ ms) work last = Stand work last × Keeps ms (fed_with y work) (last_with y last)
-Keeps (CalledWith p ∷ ms) work last = Stand work last × Keeps ms (drop 1 work) last
-Keeps (Defined global name long outer ts ∷ ms) work last = Stand work last × Keeps ms (drop 1 work) last
-Keeps (ListSet global l ts ∷ ms) work last = Stand work last × Keeps ms (drop 1 work) last
-Keeps (Begun k ∷ ms) work last = Stand work last × Keeps ms (opened k work) last
-Keeps (BegunWith k ∷ ms) work last = Stand work last × Keeps ms (opened_with k (Tok last) work) last
-Keeps (Ended v ts ∷ ms) work last = Stand work last × Keeps ms (fed_with (Val v ts) (drop 1 work)) last
-Keeps (Closed ∷ ms) work last = Stand work last × Keeps ms (drop 1 work) last
+Keeps [] work last = WaitsInTurn work last
+Keeps (Feeds y ∷ ms) work last = WaitsInTurn work last × Keeps ms (fed_with y work) (last_with y last)
+Keeps (CalledWith p ∷ ms) work last = WaitsInTurn work last × Keeps ms (drop 1 work) last
+Keeps (Defined global name long outer ts ∷ ms) work last = WaitsInTurn work last × Keeps ms (drop 1 work) last
+Keeps (ListSet global l ts ∷ ms) work last = WaitsInTurn work last × Keeps ms (drop 1 work) last
+Keeps (Begun k ∷ ms) work last = WaitsInTurn work last × Keeps ms (opened k work) last
+Keeps (BegunWith k ∷ ms) work last = WaitsInTurn work last × Keeps ms (opened_with k (Tok last) work) last
+Keeps (Ended v ts ∷ ms) work last = WaitsInTurn work last × Keeps ms (fed_with (Val v ts) (drop 1 work)) last
+Keeps (Closed ∷ ms) work last = WaitsInTurn work last × Keeps ms (drop 1 work) last
 Keeps (m ∷ ms) work last = Keeps ms work last
 
-pub stand_now : (ms : List Move) (work : List Reading) (last : Seen) → Keeps ms work last → Stand work last
+pub stand_now : (ms : List Move) (work : List Reading) (last : Seen) → Keeps ms work last → WaitsInTurn work last
 stand_now [] work last h = h
 stand_now (Feeds y ∷ ms) work last h = h.0
 stand_now (CalledWith p ∷ ms) work last h = h.0
@@ -59,12 +59,12 @@ one_of P true xs ys h i = h
 one_of P false xs ys h i = i
 
 -- behind a report
-pub behind_keeps : (style : Style) (reports : ℕ) (rest : List Move) (work : List Reading) (last : Seen) → Stand work last → Keeps rest work last →
+pub behind_keeps : (style : Style) (reports : ℕ) (rest : List Move) (work : List Reading) (last : Seen) → WaitsInTurn work last → Keeps rest work last →
     Keeps (behind_report style reports rest) work last
 behind_keeps style reports rest work last h i =
     one_of (λ (ms : List Move). Keeps ms work last) (nat_lt reports reports_room) rest (Written Transcript (hundred_line style) ∷ Stopped (AtFatal HundredErrors) ∷ []) i h
 
-pub reported_keeps : (page : Page) (report : Report) (rest : List Move) (work : List Reading) (last : Seen) → Stand work last → Keeps rest work last →
+pub reported_keeps : (page : Page) (report : Report) (rest : List Move) (work : List Reading) (last : Seen) → WaitsInTurn work last → Keeps rest work last →
     Keeps (reported page report rest) work last
 reported_keeps page report rest work last h i = behind_keeps (style_of page) page.reports rest work last h i
 
@@ -142,8 +142,8 @@ abbrev with_begun : (begun : Bool) → Reading → List Reading → List Reading
 with_begun true r work = r ∷ work
 with_begun false r work = work
 
-module _ (work : List Reading) (last : Seen) (h : Stand work last) (rest : Rested work) where
-  kept : (begun : Bool) (r : Reading) (ms : List Move) → Begins begun ms → Stand (with_begun begun r work) last → Keeps ms (with_begun begun r work) last
+module _ (work : List Reading) (last : Seen) (h : WaitsInTurn work last) (rest : Rested work) where
+  kept : (begun : Bool) (r : Reading) (ms : List Move) → Begins begun ms → WaitsInTurn (with_begun begun r work) last → Keeps ms (with_begun begun r work) last
   kept b r [] g i = i
   kept b r (Feeds y ∷ ms) g i = absurd g
   kept b r (CalledWith p ∷ ms) g i = absurd g
@@ -151,14 +151,14 @@ module _ (work : List Reading) (last : Seen) (h : Stand work last) (rest : Reste
   kept b r (ListSet global l ts ∷ ms) g i = absurd g
   kept true r (Begun k ∷ ms) g i = absurd g
   kept false r (Begun (Reads (Command c)) ∷ ms) g i =
-      let more : Stand (opened (Reads (Command c)) work) last = begun_stand (Reads (Command c)) work last tt tt h rest in
+      let more : WaitsInTurn (opened (Reads (Command c)) work) last = begun_stand (Reads (Command c)) work last tt tt h rest in
       (i, kept true (record { kind = Reads (Command c); fed = [] }) ms g more)
   kept false r (Begun (Reads k) ∷ ms) g i = absurd g
   kept false r (Begun (Arguments name long number ts) ∷ ms) g i =
-      let more : Stand (opened (Arguments name long number ts) work) last = begun_stand (Arguments name long number ts) work last tt g.0 h rest in
+      let more : WaitsInTurn (opened (Arguments name long number ts) work) last = begun_stand (Arguments name long number ts) work last tt g.0 h rest in
       (i, kept true (record { kind = Arguments name long number ts; fed = [] }) ms g.1 more)
   kept false r (Begun k ∷ ms) g i =
-      let more : Stand (opened k work) last = begun_stand k work last tt tt h rest in
+      let more : WaitsInTurn (opened k work) last = begun_stand k work last tt tt h rest in
       (i, kept true (record { kind = k; fed = [] }) ms g more)
   kept b r (BegunWith k ∷ ms) g i = absurd g
   kept b r (Ended v ts ∷ ms) g i = absurd g

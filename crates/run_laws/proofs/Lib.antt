@@ -1,4 +1,4 @@
-pub mod Standing
+pub mod InTurn
 pub mod Keeping
 pub mod Cuts
 pub mod Expanding

@@ -20,7 +20,7 @@ use Rattle.plain_machine.specs.Runs.{Moves}
 use Rattle.plain_machine.proofs.Joins.{next_due, next_plan, due_kept}
 use Rattle.plain_machine.proofs.Laws.{SameMove, goes_one_way}
 use Rattle.run_laws.specs.Laws.{AreInTurn, GivesOwn}
-use Rattle.run_laws.proofs.Standing.{IsNoCall, AreBeneath, Stand}
+use Rattle.run_laws.proofs.InTurn.{IsNoCall, AreBeneath, WaitsInTurn}
 use Rattle.run_laws.proofs.Keeping.{Keeps, stand_now, keeps_made, begins_keeps}
 use Rattle.run_laws.proofs.Expanding.{stomach_begins}
 use Rattle.run_laws.proofs.Feeding.{plainly_handed_keeps, more_keeps, call_more_keeps}
@@ -29,7 +29,7 @@ use Rattle.run_laws.proofs.Answering.{answered_keeps}
 -- THE RULE
 
 -- by the innermost reading, which is no call
-module _ (s : State) (r : Reading) (rs : List Reading) (h : Stand (r ∷ rs) s.last) (n : IsNoCall r.kind) where
+module _ (s : State) (r : Reading) (rs : List Reading) (h : WaitsInTurn (r ∷ rs) s.last) (n : IsNoCall r.kind) where
   asked_keeps : (a : Ask) → ask r.kind r.fed ≡ a → Keeps (answered s (r ∷ rs) r a) (r ∷ rs) s.last
   asked_keeps (More want) e = more_keeps s r rs want h n e
   asked_keeps a e = answered_keeps s r rs h a tt e
@@ -39,7 +39,7 @@ module _ (s : State) (name : Name) (long : Bool) (number : ℕ) (ts : List Token
   abbrev called : Reading
   called = record { kind = Arguments name long number ts; fed = fed }
 
-  module _ (h : Stand (called ∷ rs) s.last) where
+  module _ (h : WaitsInTurn (called ∷ rs) s.last) where
     abbrev Kept : Ask → Type 0
     Kept a = ask (Arguments name long number ts) fed ≡ a → Keeps (answered s (called ∷ rs) called a) (called ∷ rs) s.last
 
@@ -56,22 +56,22 @@ module _ (s : State) (name : Name) (long : Bool) (number : ℕ) (ts : List Token
     arguments_keep (y ∷ more) = call_keeps (gathered long ts (y ∷ more))
 
 module _ (s : State) where
-  kind_keeps : (k : Kind) (fed : List Fed) (rs : List Reading) → Stand (record { kind = k; fed = fed } ∷ rs) s.last →
+  kind_keeps : (k : Kind) (fed : List Fed) (rs : List Reading) → WaitsInTurn (record { kind = k; fed = fed } ∷ rs) s.last →
       Keeps (answered s (record { kind = k; fed = fed } ∷ rs) (record { kind = k; fed = fed }) (ask k fed)) (record { kind = k; fed = fed } ∷ rs) s.last
   kind_keeps (Arguments name long number ts) fed rs h = arguments_keep s name long number ts fed rs h fed refl
   kind_keeps k fed rs h = asked_keeps s (record { kind = k; fed = fed }) rs h tt (ask k fed) refl
 
-  work_keeps : (work : List Reading) → Stand work s.last → Keeps (planned s work) work s.last
+  work_keeps : (work : List Reading) → WaitsInTurn work s.last → Keeps (planned s work) work s.last
   work_keeps [] h =
       plainly_handed_keeps [] s.last tt (page_of s) false None (stomach (page_of s)) tt (λ x. begins_keeps [] s.last tt tt (stomach (page_of s) x) (stomach_begins (page_of s) x))
       (pulled s.groups.now.categories s.pending)
   work_keeps (r ∷ rs) h = kind_keeps r.kind r.fed rs h
 
-  ruled_keeps : (o : Option (List ℕ)) → Stand s.work s.last → Keeps (ruled s o) s.work s.last
+  ruled_keeps : (o : Option (List ℕ)) → WaitsInTurn s.work s.last → Keeps (ruled s o) s.work s.last
   ruled_keeps None h = work_keeps s.work h
   ruled_keeps (Some bytes) h = h
 
-  plan_keeps : (o : Option Outcome) → Stand s.work s.last → Keeps (plan s o) s.work s.last
+  plan_keeps : (o : Option Outcome) → WaitsInTurn s.work s.last → Keeps (plan s o) s.work s.last
   plan_keeps None h = ruled_keeps s.pending.next h
   plan_keeps (Some o) h = h
 
@@ -110,7 +110,7 @@ job_keeps style file None last = tt
 job_keeps style file (Some bytes) last = tt
 
 module _ (groups : Groups) (quiet : Bool) (file : List ℕ) (job : Option (List ℕ)) (files : Files) (t : State) (ms : List Move) where
-  stands : Moves (first_state groups quiet file job files) ms t → Stand t.work t.last
+  stands : Moves (first_state groups quiet file job files) ms t → WaitsInTurn t.work t.last
   stands moves =
       let first : State = first_state groups quiet file job files in
       let begins : Going first = job_keeps (style_in groups.now primitive_names) file job first.last in
@@ -120,7 +120,7 @@ module _ (groups : Groups) (quiet : Bool) (file : List ℕ) (job : Option (List 
   beneath_in_turn k [] h = tt
   beneath_in_turn k (q ∷ qs) h = (h.0.in_turn, beneath_in_turn q.kind qs h.1)
 
-  all_in_turn : (work : List Reading) (last : Seen) → Stand work last → AreInTurn work
+  all_in_turn : (work : List Reading) (last : Seen) → WaitsInTurn work last → AreInTurn work
   all_in_turn [] last h = tt
   all_in_turn (r ∷ rs) last h = (h.0.in_turn, beneath_in_turn r.kind rs h.1)
 
@@ -128,4 +128,4 @@ module _ (groups : Groups) (quiet : Bool) (file : List ℕ) (job : Option (List 
   in_turn moves = all_in_turn t.work t.last (stands moves)
 
   pub own_last : (r : Reading) (rs : List Reading) → Moves (first_state groups quiet file job files) ms t → t.work ≡ r ∷ rs → GivesOwn t.last r.fed (ask r.kind r.fed)
-  own_last r rs moves e = let h : Stand (r ∷ rs) t.last = subst (λ (work : List Reading). Stand work t.last) e (stands moves) in h.0.own
+  own_last r rs moves e = let h : WaitsInTurn (r ∷ rs) t.last = subst (λ (work : List Reading). WaitsInTurn work t.last) e (stands moves) in h.0.own

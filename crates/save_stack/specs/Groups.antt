@@ -180,8 +180,9 @@ restored s = record {
   most = s.most;
 }
 
-abbrev pub kind_of : {V : Type 0} → Stack V → Option GroupKind
-kind_of s = slice_get s.kinds (depth s - 1)
+-- the kind of the innermost open group (`cur_group` of *TeX: The Program*)
+abbrev pub current_group : {V : Type 0} → Stack V → Option GroupKind
+current_group s = slice_get s.kinds (depth s - 1)
 
 -- the value that a local assignment lets go: at the present level nothing is saved
 abbrev pub replaced : {V : Type 0} → Stack V → ℕ → V → Option V

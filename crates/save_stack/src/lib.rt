@@ -9,7 +9,7 @@
 #![tactic(auto)]
 
 ghost use Rattle.std.specs.Prelude.{◌≡◌, ◌+◌, ◌<◌, ◌≤◌, length, IfOk, IfErr, OnOk, OnErr, IfNone, IfSome, Some, None, false, Option, ◌++◌, ◌∷◌, [], vec_capacity};
-ghost use Rattle.save_stack.specs.Groups.{Stack, IsAt, depth, top, below, used, is_present, defined, gdefined, opened, with_token, took_back, gone, last_entry, old_value, kind_of, replaced, restored, Fits, IsSaveFull, IsFullFor, begun, extended};
+ghost use Rattle.save_stack.specs.Groups.{Stack, IsAt, depth, top, below, used, is_present, defined, gdefined, opened, with_token, took_back, gone, last_entry, old_value, current_group, replaced, restored, Fits, IsSaveFull, IsFullFor, begun, extended};
 ghost use Rattle.save_stack.specs.Table.{split};
 ghost use Rattle.save_stack.specs.Origins.{AreHeld};
 ghost use Rattle.save_stack.specs.Closing.{ClosesBy};
@@ -219,7 +219,7 @@ impl<V> Groups<V> {
 
     /// The kind of the innermost open group.
     pub fn kind(&self) -> Option<GroupKind>
-        ensures { result ≡ kind_of self.now }
+        ensures { result ≡ current_group self.now }
     {
         self.kinds.last().copied()
     }

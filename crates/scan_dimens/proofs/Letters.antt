@@ -7,7 +7,7 @@ use Rattle.tex_defs.specs.declared.Token.{Token}
 use Rattle.tex_defs.specs.declared.Token.TheVariants.{EndPlaces}
 use Rattle.tex_defs.specs.declared.Seen.{Seen}
 use Rattle.tex_syntax.specs.declared.words.Want.TheVariants.{Expanded}
-use Rattle.rows.specs.Readings.{Fed, Tok, Told, More}
+use Rattle.rows.specs.Readings.{Fed, Tok, Noted, More}
 use Rattle.plain_tokens.specs.Tokens.{is_space}
 use Rattle.plain_readings.specs.Keywords.{letters, is_letter, is_skipped, ends_found, giving_back, keyword_from}
 use Rattle.scan_dimens.specs.Views.{letters_at, back_at, kept}
@@ -58,12 +58,12 @@ kept_same ts t n h = drop-set-lt (5 - n) ts (4 - n) t (omega (arith, h))
 -- WHAT GOES BACK
 
 abbrev pub IsNoNote : Fed → Type 0
-IsNoNote Told = ⊥
+IsNoNote Noted = ⊥
 IsNoNote y = Unit {0}
 
 pub back_stop : (us : List Token) (y : Fed) (fed : List Fed) → IsNoNote y → giving_back us (y ∷ fed) ≡ ends_found false
 back_stop [] y fed h = refl
-back_stop (t ∷ us) Told fed h = absurd h
+back_stop (t ∷ us) Noted fed h = absurd h
 back_stop (t ∷ us) y fed h = refl
 
 kept_first : (ts : List Token) (n : ℕ) → length ts ≡ 5 → 1 ≤ n → n ≤ 5 → kept n ts ≡ get_or ts (5 - n) EndPlaces ∷ kept (n - 1) ts
@@ -71,8 +71,8 @@ kept_first ts n e least most =
     let j : 5 - n + 1 ≡ 5 - (n - 1) = omega (arith, least, most) in
     drop_more ts (5 - n) EndPlaces (omega (arith, e, least)) ∙ ap (λ (m : ℕ). get_or ts (5 - n) EndPlaces ∷ drop m ts) j
 
-pub back_told : (ts : List Token) (n : ℕ) (fed : List Fed) → length ts ≡ 5 → 1 ≤ n → n ≤ 5 → giving_back (kept n ts) (Told ∷ fed) ≡ giving_back (kept (n - 1) ts) fed
-back_told ts n fed e least most = ap (λ (l : List Token). giving_back l (Told ∷ fed)) (kept_first ts n e least most)
+pub back_noted : (ts : List Token) (n : ℕ) (fed : List Fed) → length ts ≡ 5 → 1 ≤ n → n ≤ 5 → giving_back (kept n ts) (Noted ∷ fed) ≡ giving_back (kept (n - 1) ts) fed
+back_noted ts n fed e least most = ap (λ (l : List Token). giving_back l (Noted ∷ fed)) (kept_first ts n e least most)
 
 -- WHERE A SCANNER STANDS
 
@@ -91,15 +91,15 @@ letters_end s n y fed is other = resumed s (Letters n) (y ∷ fed) is ∙ letter
 pub back_ends : (s : KeywordScan) (n : ℕ) (y : Fed) (fed : List Fed) → s.place ≡ PutsBack n → IsNoNote y → resume s (y ∷ fed) ≡ ends_found false
 back_ends s n y fed is other = resumed s (PutsBack n) (y ∷ fed) is ∙ back_stop (kept n s.tokens) y fed other
 
-pub back_goes_on : (s : KeywordScan) (n : ℕ) (fed : List Fed) → s.place ≡ PutsBack n → resume s (Told ∷ fed) ≡ giving_back (kept (n - 1) s.tokens) fed
+pub back_goes_on : (s : KeywordScan) (n : ℕ) (fed : List Fed) → s.place ≡ PutsBack n → resume s (Noted ∷ fed) ≡ giving_back (kept (n - 1) s.tokens) fed
 back_goes_on s n fed is =
-    resumed s (PutsBack n) (Told ∷ fed) is ∙
-    back_told s.tokens n fed s.longest (subst (λ (p : KeywordPlace). 1 ≤ back_at p) is s.some) (subst (λ (p : KeywordPlace). back_at p ≤ 5) is s.few)
+    resumed s (PutsBack n) (Noted ∷ fed) is ∙
+    back_noted s.tokens n fed s.longest (subst (λ (p : KeywordPlace). 1 ≤ back_at p) is s.some) (subst (λ (p : KeywordPlace). back_at p ≤ 5) is s.few)
 
 none_kept : (ts : List Token) (n : ℕ) → length ts ≡ 5 → n ≡ 0 → kept n ts ≡ []
 none_kept ts n e z = rw z (drop_all 5 ts (omega (arith, e)))
 
-pub back_over : (s : KeywordScan) (n : ℕ) (fed : List Fed) → s.place ≡ PutsBack n → n ≤ 1 → resume s (Told ∷ fed) ≡ ends_found false
+pub back_over : (s : KeywordScan) (n : ℕ) (fed : List Fed) → s.place ≡ PutsBack n → n ≤ 1 → resume s (Noted ∷ fed) ≡ ends_found false
 back_over s n fed is last = back_goes_on s n fed is ∙ ap (λ (l : List Token). giving_back l fed) (none_kept s.tokens (n - 1) s.longest (omega (arith, last)))
 
 -- THE NEXT LETTER

@@ -5,7 +5,7 @@ use Rattle.tex_syntax.specs.declared.words.UnitTaken.{UnitTaken}
 use Rattle.equivalents.specs.declared.values.Loc.{Loc}
 use Rattle.equivalents.specs.Locations.{SeenValue}
 use Rattle.rows.specs.declared.internal.Bank.{Bank}
-use Rattle.plain_readings.specs.Dimens.{Fed, Tok, Told, Fetched, Factored, Numbered, Found, impossible, by_unit, physical}
+use Rattle.plain_readings.specs.Dimens.{Fed, Tok, Noted, Fetched, Factored, Numbered, Found, impossible, by_unit, physical}
 use Rattle.scan_dimens.specs.DimenResumes.{resume_at}
 use Rattle.plain_readings.specs.declared.measures.Quantity.{Quantity}
 use Rattle.plain_readings.specs.declared.measures.Measure.{Measure}
@@ -44,7 +44,7 @@ module _ (k : DimenKind) (negative : Bool) where
 
   pub no_note : (p : DimenPlace) → ((s : Sought) (b : Bank) (n : ℤ) → p ≡ place.BadNumber s b n → ⊥) → ((v : Option ℤ) → p ≡ place.Incompatible v → ⊥) → (p ≡ place.NoNumber → ⊥) →
       ((a : Quantity) (order : ℕ) → p ≡ place.TooLong a order → ⊥) → ((unit : UnitTaken) (v : Option ℤ) → p ≡ place.Illegal unit v → ⊥) → ((order : ℕ) (back : Bool) → p ≡ place.TooLarge order back → ⊥) →
-      ((a : Quantity) → p ≡ place.Magnification a → ⊥) → GoesOn p → (fed : List Fed) → resume_at k negative p (Told ∷ fed) ≡ impossible
+      ((a : Quantity) → p ≡ place.Magnification a → ⊥) → GoesOn p → (fed : List Fed) → resume_at k negative p (Noted ∷ fed) ≡ impossible
   no_note (place.BadNumber s bank n) a b c d e f m g fed = absurd (a s bank n refl)
   no_note (place.Incompatible v) a b c d e f m g fed = absurd (b v refl)
   no_note place.NoNumber a b c d e f m g fed = absurd (c refl)
@@ -53,7 +53,7 @@ module _ (k : DimenKind) (negative : Bool) where
   no_note (place.TooLarge order back) a b c d e f m g fed = absurd (f order back refl)
   no_note (place.Magnification amount) a b c d e f m g fed = absurd (m amount refl)
   no_note (place.Ended n order back) a b c d e f m g fed = absurd (g n order back refl)
-  no_note (place.Physical n amount) a b c d e f m g fed = no_word negative amount (drop n physical) Told fed tt
+  no_note (place.Physical n amount) a b c d e f m g fed = no_word negative amount (drop n physical) Noted fed tt
   no_note p a b c d e f m g fed = refl
 
   pub no_value : (p : DimenPlace) (v : SeenValue) → ((s : Sought) (l : Loc) → p ≡ place.Fetching s l → ⊥) → ((a : Quantity) → p ≡ place.MagnificationFetched a → ⊥) → GoesOn p → (fed : List Fed) →

@@ -1,7 +1,7 @@
 -- What a scanner of a dimension will answer on what is still to come.
 use Rattle.std.specs.Prelude.{Bool, true, false, ℤ, List, drop}
 use Rattle.equivalents.specs.declared.values.Loc.{Loc}
-use Rattle.plain_readings.specs.Dimens.{Fed, Answer, Done, dimension, factored, pointed, fraction, numbered, bad_numbered, fetched, value_fetched, unit_fetched, incompatible, no_number, fil_or_not, longer, unit_sought, mu_or_not, em_or_not, ex_or_not, true_or_not, magnified, magnification_fetched, by_unit, physical, scaled_points, illegal, spaced, too_large_told}
+use Rattle.plain_readings.specs.Dimens.{Fed, Answer, Done, dimension, factored, pointed, fraction, numbered, bad_numbered, fetched, value_fetched, unit_fetched, incompatible, no_number, fil_or_not, longer, unit_sought, mu_or_not, em_or_not, ex_or_not, true_or_not, magnified, magnification_fetched, by_unit, physical, scaled_points, illegal, spaced, too_large_noted}
 use Rattle.scan_dimens.specs.DimenViews.{digits_of}
 use Rattle.rows.specs.declared.words.DimenKind.{DimenKind}
 use Rattle.scan_dimens.specs.declared.dimen.Sought.{Sought}
@@ -39,7 +39,7 @@ resume_at k negative (place.Physical n a) fed = by_unit negative a (drop n physi
 resume_at k negative (place.ScaledPoints a) fed = scaled_points negative a fed
 resume_at k negative (place.Illegal unit v) fed = illegal unit negative v fed
 resume_at k negative (place.Space v order) fed = spaced negative v order fed
-resume_at k negative (place.TooLarge order back) fed = too_large_told negative order back fed
+resume_at k negative (place.TooLarge order back) fed = too_large_noted negative order back fed
 resume_at k negative (place.Ended n order back) fed = Done n order back
 
 abbrev pub resume : DimenScan → List Fed → Answer

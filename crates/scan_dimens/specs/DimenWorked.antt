@@ -16,7 +16,7 @@ use Rattle.equivalents.specs.First.{magnification}
 use Rattle.rows.specs.declared.words.Keyword.{Keyword}
 use Rattle.rows.specs.declared.words.Keyword.TheVariants.{Fil, L, True, Em, Ex, Pt, In, Pc, Cm, Mm, Bp, Dd, Cc, Sp, Mu}
 use Rattle.rows.specs.Worked.{character, primitive, x_name, a_space}
-use Rattle.plain_readings.specs.Dimens.{Fed, Tok, Factored, Numbered, Found, Told, Fetched, Answer, More, Begins, Fetches, Magnifies, Tells, Done, Factor, Number, Key, dimension}
+use Rattle.plain_readings.specs.Dimens.{Fed, Tok, Factored, Numbered, Found, Noted, Fetched, Answer, More, Begins, Fetches, Magnifies, Tells, Done, Factor, Number, Key, dimension}
 use Rattle.rows.specs.declared.words.DimenKind.{DimenKind}
 
 -- WHAT IS ASKED FOR before each item and behind the last
@@ -163,13 +163,13 @@ pub record WorkedFractions : Type 0 where
 -- 16384pt and -16384pt, behind their reports; a token behind the unit, which is given back before the report; 1073741824sp; 1073741823sp
 pub record WorkedLarge : Type 0 where
   pub positive :
-      steps plain (integer (pos 16384) false (a_character 112 (behind 3 (Tok a_space ∷ Told ∷ [])))) ≡
+      steps plain (integer (pos 16384) false (a_character 112 (behind 3 (Tok a_space ∷ Noted ∷ [])))) ≡
       whole (Pt ∷ []) (More Expanded ∷ Tells DimensionTooLarge false ∷ Done (pos 1073741823) 0 false ∷ [])
   pub negative :
-      steps plain (others (45 ∷ []) (integer (pos 16384) false (a_character 112 (behind 3 (Tok a_space ∷ Told ∷ []))))) ≡
+      steps plain (others (45 ∷ []) (integer (pos 16384) false (a_character 112 (behind 3 (Tok a_space ∷ Noted ∷ []))))) ≡
       More Nonblank ∷ whole (Pt ∷ []) (More Expanded ∷ Tells DimensionTooLarge false ∷ Done (negsuc 1073741822) 0 false ∷ [])
   pub given_back :
-      steps plain (integer (pos 16384) false (a_character 112 (behind 3 (a_character 97 (Told ∷ []))))) ≡
+      steps plain (integer (pos 16384) false (a_character 112 (behind 3 (a_character 97 (Noted ∷ []))))) ≡
       whole (Pt ∷ []) (More Expanded ∷ Tells DimensionTooLarge true ∷ Done (pos 1073741823) 0 false ∷ [])
   pub least : steps plain (integer (pos 1073741824) false (a_character 115 (behind 11 space_behind))) ≡ whole all_units (More Expanded ∷ Tells DimensionTooLarge false ∷ [])
   pub greatest : steps plain (integer (pos 1073741823) false (a_character 115 (behind 11 space_behind))) ≡ whole all_units (More Expanded ∷ Done (pos 1073741823) 0 false ∷ [])
@@ -177,19 +177,19 @@ pub record WorkedLarge : Type 0 where
 -- 1truein at the magnifications 2000 and 500; 7.9999999truesp at 2000 and at 1000, where only the second drops the fraction as it was; 2000000truein at 1
 pub record WorkedMagnification : Type 0 where
   pub halved :
-      steps plain (integer (pos 1) false (a_character 116 (behind 2 (Told ∷ Fetched (val.Number (pos 2000)) ∷ behind 1 space_behind)))) ≡
+      steps plain (integer (pos 1) false (a_character 116 (behind 2 (Noted ∷ Fetched (val.Number (pos 2000)) ∷ behind 1 space_behind)))) ≡
       whole [] (Magnifies ∷ Fetches (loc.Integer magnification) ∷ words (Pt ∷ In ∷ []) (More Expanded ∷ Done (pos 2368143) 0 false ∷ []))
   pub doubled :
-      steps plain (integer (pos 1) false (a_character 116 (behind 2 (Told ∷ Fetched (val.Number (pos 500)) ∷ behind 1 space_behind)))) ≡
+      steps plain (integer (pos 1) false (a_character 116 (behind 2 (Noted ∷ Fetched (val.Number (pos 500)) ∷ behind 1 space_behind)))) ≡
       whole [] (Magnifies ∷ Fetches (loc.Integer magnification) ∷ words (Pt ∷ In ∷ []) (More Expanded ∷ Done (pos 9472573) 0 false ∷ []))
   pub scaled_points :
-      steps plain (integer (pos 7) true (others (46 ∷ 57 ∷ 57 ∷ 57 ∷ 57 ∷ 57 ∷ 57 ∷ 57 ∷ []) (a_character 116 (behind 2 (Told ∷ Fetched (val.Number (pos 2000)) ∷ behind 8 space_behind))))) ≡
+      steps plain (integer (pos 7) true (others (46 ∷ 57 ∷ 57 ∷ 57 ∷ 57 ∷ 57 ∷ 57 ∷ 57 ∷ []) (a_character 116 (behind 2 (Noted ∷ Fetched (val.Number (pos 2000)) ∷ behind 8 space_behind))))) ≡
       More Nonblank ∷ Begins Factor true ∷ expanded 9 (units [] (Magnifies ∷ Fetches (loc.Integer magnification) ∷ words all_units (More Expanded ∷ Done (pos 4) 0 false ∷ [])))
   pub scaled_points_dropped :
-      steps plain (integer (pos 7) true (others (46 ∷ 57 ∷ 57 ∷ 57 ∷ 57 ∷ 57 ∷ 57 ∷ 57 ∷ []) (a_character 116 (behind 2 (Told ∷ Fetched (val.Number (pos 1000)) ∷ behind 8 space_behind))))) ≡
+      steps plain (integer (pos 7) true (others (46 ∷ 57 ∷ 57 ∷ 57 ∷ 57 ∷ 57 ∷ 57 ∷ 57 ∷ []) (a_character 116 (behind 2 (Noted ∷ Fetched (val.Number (pos 1000)) ∷ behind 8 space_behind))))) ≡
       More Nonblank ∷ Begins Factor true ∷ expanded 9 (units [] (Magnifies ∷ Fetches (loc.Integer magnification) ∷ words all_units (More Expanded ∷ Done (pos 7) 0 false ∷ [])))
   pub large :
-      steps plain (integer (pos 2000000) false (a_character 116 (behind 2 (Told ∷ Fetched (val.Number (pos 1)) ∷ behind 1 space_behind)))) ≡
+      steps plain (integer (pos 2000000) false (a_character 116 (behind 2 (Noted ∷ Fetched (val.Number (pos 1)) ∷ behind 1 space_behind)))) ≡
       whole [] (Magnifies ∷ Fetches (loc.Integer magnification) ∷ words (Pt ∷ In ∷ []) (More Expanded ∷ Tells DimensionTooLarge false ∷ []))
 
 -- '10pt, "A pt and `A pt, whose integers are read within; '1.5pt, where the point is no unit, and 5 without one
@@ -198,10 +198,10 @@ pub record WorkedConstants : Type 0 where
   pub hexadecimal : steps plain (others (34 ∷ []) (Factored (pos 10) false ∷ a_character 112 (behind 3 space_behind))) ≡ whole (Pt ∷ []) (More Expanded ∷ Done (pos 655360) 0 false ∷ [])
   pub code : steps plain (others (96 ∷ []) (Factored (pos 65) false ∷ a_character 112 (behind 3 space_behind))) ≡ whole (Pt ∷ []) (More Expanded ∷ Done (pos 4259840) 0 false ∷ [])
   pub octal_point :
-      steps plain (others (39 ∷ []) (Factored (pos 1) false ∷ others (46 ∷ []) (none_of 12 (Told ∷ others (46 ∷ []) [])))) ≡
+      steps plain (others (39 ∷ []) (Factored (pos 1) false ∷ others (46 ∷ []) (none_of 12 (Noted ∷ others (46 ∷ []) [])))) ≡
       whole all_units (Tells (IllegalUnit taken.Pt) false ∷ More Expanded ∷ Done (pos 65536) 0 true ∷ [])
   pub no_unit :
-      steps plain (integer (pos 5) false (Tok (primitive 1) ∷ none_of 12 (Told ∷ Tok (primitive 1) ∷ []))) ≡
+      steps plain (integer (pos 5) false (Tok (primitive 1) ∷ none_of 12 (Noted ∷ Tok (primitive 1) ∷ []))) ≡
       whole all_units (Tells (IllegalUnit taken.Pt) false ∷ More Expanded ∷ Done (pos 327680) 0 true ∷ [])
 
 -- 1fil; 1.5filll; 1fillll and 1filllll, with one and two reports; .5fil, which begins with the token behind the digits; 16384fil; 1pt
@@ -213,14 +213,14 @@ pub record WorkedInfinities : Type 0 where
       steps stretch (integer (pos 1) true (others (46 ∷ 53 ∷ []) (a_character 102 (Found true ∷ Found true ∷ Found true ∷ Found false ∷ space_behind)))) ≡
       More Nonblank ∷ Begins Factor true ∷ expanded 3 (Begins (Key Fil) true ∷ words (L ∷ L ∷ L ∷ []) (More Expanded ∷ Done (pos 98304) 3 false ∷ []))
   pub fillll :
-      steps stretch (integer (pos 1) false (Found true ∷ Found true ∷ Found true ∷ Found true ∷ Told ∷ Found false ∷ space_behind)) ≡
+      steps stretch (integer (pos 1) false (Found true ∷ Found true ∷ Found true ∷ Found true ∷ Noted ∷ Found false ∷ space_behind)) ≡
       More Nonblank ∷ Begins Factor true ∷ words (Fil ∷ L ∷ L ∷ L ∷ []) (Tells (IllegalUnit taken.Filll) false ∷ words (L ∷ []) (More Expanded ∷ Done (pos 65536) 3 false ∷ []))
   pub filllll :
-      steps stretch (integer (pos 1) false (Found true ∷ Found true ∷ Found true ∷ Found true ∷ Told ∷ Found true ∷ Told ∷ Found false ∷ space_behind)) ≡
+      steps stretch (integer (pos 1) false (Found true ∷ Found true ∷ Found true ∷ Found true ∷ Noted ∷ Found true ∷ Noted ∷ Found false ∷ space_behind)) ≡
       More Nonblank ∷ Begins Factor true ∷
       words (Fil ∷ L ∷ L ∷ L ∷ []) (Tells (IllegalUnit taken.Filll) false ∷ words (L ∷ []) (Tells (IllegalUnit taken.Filll) false ∷ words (L ∷ []) (More Expanded ∷ Done (pos 65536) 3 false ∷ [])))
   pub large :
-      steps stretch (integer (pos 16384) false (Found true ∷ Found false ∷ Tok a_space ∷ Told ∷ [])) ≡
+      steps stretch (integer (pos 16384) false (Found true ∷ Found false ∷ Tok a_space ∷ Noted ∷ [])) ≡
       More Nonblank ∷ Begins Factor true ∷ words (Fil ∷ L ∷ []) (More Expanded ∷ Tells DimensionTooLarge false ∷ Done (pos 1073741823) 1 false ∷ [])
   pub finite :
       steps stretch (integer (pos 1) false (Found false ∷ a_character 112 (behind 3 space_behind))) ≡
@@ -237,7 +237,7 @@ pub record WorkedInternal : Type 0 where
       steps plain (Tok (primitive 43) ∷ Numbered (pos 1) ∷ Fetched (val.Skip (a_glue (pos 262144))) ∷ []) ≡
       More Nonblank ∷ Begins Number false ∷ Fetches (loc.Register register.Skip 1) ∷ Done (pos 262144) 0 false ∷ []
   pub bad_number :
-      steps plain (Tok (primitive 42) ∷ Numbered (pos 300) ∷ Told ∷ Fetched (val.Number (pos 196608)) ∷ []) ≡
+      steps plain (Tok (primitive 42) ∷ Numbered (pos 300) ∷ Noted ∷ Fetched (val.Number (pos 196608)) ∷ []) ≡
       More Nonblank ∷ Begins Number false ∷ Tells (BadRegisterCode (pos 300)) false ∷ Fetches (loc.Register register.Dimen 0) ∷ Done (pos 196608) 0 false ∷ []
   pub count :
       steps plain (Tok (primitive 41) ∷ Numbered (pos 1) ∷ Fetched (val.Number (pos 7)) ∷ a_character 112 (behind 3 space_behind)) ≡
@@ -251,8 +251,8 @@ pub record WorkedInternal : Type 0 where
   pub negative :
       steps plain (others (45 ∷ []) (Tok (primitive 139) ∷ Fetched (val.Number (negsuc 1)) ∷ a_character 112 (behind 3 space_behind))) ≡
       More Nonblank ∷ More Nonblank ∷ Fetches (loc.Integer 54) ∷ More Nonblank ∷ units (Pt ∷ []) (More Expanded ∷ Done (pos 131072) 0 false ∷ [])
-  pub list : steps plain (Tok (primitive 45) ∷ Told ∷ []) ≡ More Nonblank ∷ Tells MissingNumber true ∷ Done (pos 0) 0 false ∷ []
-  pub list_named : steps plain (Tok list_name ∷ Told ∷ []) ≡ More Nonblank ∷ Tells MissingNumber true ∷ Done (pos 0) 0 false ∷ []
+  pub list : steps plain (Tok (primitive 45) ∷ Noted ∷ []) ≡ More Nonblank ∷ Tells MissingNumber true ∷ Done (pos 0) 0 false ∷ []
+  pub list_named : steps plain (Tok list_name ∷ Noted ∷ []) ≡ More Nonblank ∷ Tells MissingNumber true ∷ Done (pos 0) 0 false ∷ []
 
 -- 2\hsize; 2.5\hsize below 0, whose fraction's part is cut towards zero; 1\count 1, in sp; 30000 and -30000 times a dimension below 0, too large, with the
 -- sign of the signs alone; 2\toks
@@ -267,41 +267,41 @@ pub record WorkedInternalUnits : Type 0 where
       steps plain (integer (pos 1) false (Tok (primitive 41) ∷ Numbered (pos 1) ∷ Fetched (val.Number (pos 7)) ∷ [])) ≡
       More Nonblank ∷ Begins Factor true ∷ More Nonblank ∷ Begins Number false ∷ Fetches (loc.Register register.Count 1) ∷ Done (pos 7) 0 false ∷ []
   pub large :
-      steps plain (integer (pos 30000) false (Tok (primitive 143) ∷ Fetched (val.Number (negsuc 100000)) ∷ Told ∷ [])) ≡
+      steps plain (integer (pos 30000) false (Tok (primitive 143) ∷ Fetched (val.Number (negsuc 100000)) ∷ Noted ∷ [])) ≡
       More Nonblank ∷ Begins Factor true ∷ More Nonblank ∷ Fetches (loc.Dimension 3) ∷ Tells DimensionTooLarge false ∷ Done (pos 1073741823) 0 false ∷ []
   pub large_negative :
-      steps plain (others (45 ∷ []) (integer (pos 30000) false (Tok (primitive 143) ∷ Fetched (val.Number (negsuc 100000)) ∷ Told ∷ []))) ≡
+      steps plain (others (45 ∷ []) (integer (pos 30000) false (Tok (primitive 143) ∷ Fetched (val.Number (negsuc 100000)) ∷ Noted ∷ []))) ≡
       More Nonblank ∷ More Nonblank ∷ Begins Factor true ∷ More Nonblank ∷ Fetches (loc.Dimension 3) ∷ Tells DimensionTooLarge false ∷ Done (negsuc 1073741822) 0 false ∷ []
   pub list :
-      steps plain (integer (pos 2) false (Tok (primitive 45) ∷ Told ∷ [])) ≡ More Nonblank ∷ Begins Factor true ∷ More Nonblank ∷ Tells MissingNumber true ∷ Done (pos 0) 0 false ∷ []
+      steps plain (integer (pos 2) false (Tok (primitive 45) ∷ Noted ∷ [])) ≡ More Nonblank ∷ Begins Factor true ∷ More Nonblank ∷ Tells MissingNumber true ∷ Done (pos 0) 0 false ∷ []
 
 -- `\muskip 1` where pt is read, and as a unit; in mu: 1mu, 1pt, `\muskip 1`, `\dimen 1`, twice `\dimen 1`, twice `\count 1`, and a list, which is reported twice
 pub record WorkedMu : Type 0 where
   pub incompatible :
-      steps plain (Tok (primitive 44) ∷ Numbered (pos 1) ∷ Fetched (val.Skip (a_glue (pos 393216))) ∷ Told ∷ []) ≡
+      steps plain (Tok (primitive 44) ∷ Numbered (pos 1) ∷ Fetched (val.Skip (a_glue (pos 393216))) ∷ Noted ∷ []) ≡
       More Nonblank ∷ Begins Number false ∷ Fetches (loc.Register register.Muskip 1) ∷ Tells IncompatibleUnits false ∷ Done (pos 393216) 0 false ∷ []
   pub incompatible_unit :
-      steps plain (integer (pos 2) false (Tok (primitive 44) ∷ Numbered (pos 1) ∷ Fetched (val.Skip (a_glue (pos 393216))) ∷ Told ∷ [])) ≡
+      steps plain (integer (pos 2) false (Tok (primitive 44) ∷ Numbered (pos 1) ∷ Fetched (val.Skip (a_glue (pos 393216))) ∷ Noted ∷ [])) ≡
       More Nonblank ∷ Begins Factor true ∷ More Nonblank ∷ Begins Number false ∷ Fetches (loc.Register register.Muskip 1) ∷ Tells IncompatibleUnits false ∷ Done (pos 786432) 0 false ∷ []
   pub mu :
       steps in_mu (integer (pos 1) false (a_character 109 (Found true ∷ space_behind))) ≡
       More Nonblank ∷ Begins Factor true ∷ More Nonblank ∷ Begins (Key Mu) true ∷ More Expanded ∷ Done (pos 65536) 0 false ∷ []
   pub no_mu :
-      steps in_mu (integer (pos 1) false (a_character 112 (Found false ∷ Told ∷ a_character 112 []))) ≡
+      steps in_mu (integer (pos 1) false (a_character 112 (Found false ∷ Noted ∷ a_character 112 []))) ≡
       More Nonblank ∷ Begins Factor true ∷ More Nonblank ∷ Begins (Key Mu) true ∷ Tells (IllegalUnit taken.Mu) false ∷ More Expanded ∷ Done (pos 65536) 0 true ∷ []
   pub glue :
       steps in_mu (Tok (primitive 44) ∷ Numbered (pos 1) ∷ Fetched (val.Skip (a_glue (pos 393216))) ∷ []) ≡
       More Nonblank ∷ Begins Number false ∷ Fetches (loc.Register register.Muskip 1) ∷ Done (pos 393216) 0 false ∷ []
   pub dimen :
-      steps in_mu (Tok (primitive 42) ∷ Numbered (pos 1) ∷ Fetched (val.Number (pos 196608)) ∷ Told ∷ []) ≡
+      steps in_mu (Tok (primitive 42) ∷ Numbered (pos 1) ∷ Fetched (val.Number (pos 196608)) ∷ Noted ∷ []) ≡
       More Nonblank ∷ Begins Number false ∷ Fetches (loc.Register register.Dimen 1) ∷ Tells IncompatibleUnits false ∷ Done (pos 196608) 0 false ∷ []
   pub dimen_unit :
-      steps mu_stretch (integer (pos 2) false (Found false ∷ Tok (primitive 42) ∷ Numbered (pos 1) ∷ Fetched (val.Number (pos 196608)) ∷ Told ∷ [])) ≡
+      steps mu_stretch (integer (pos 2) false (Found false ∷ Tok (primitive 42) ∷ Numbered (pos 1) ∷ Fetched (val.Number (pos 196608)) ∷ Noted ∷ [])) ≡
       More Nonblank ∷ Begins Factor true ∷ words (Fil ∷ []) (More Nonblank ∷ Begins Number false ∷ Fetches (loc.Register register.Dimen 1) ∷ Tells IncompatibleUnits false ∷ Done (pos 393216) 0 false ∷ [])
   pub integer_unit :
-      steps in_mu (integer (pos 2) false (Tok (primitive 41) ∷ Numbered (pos 1) ∷ Fetched (val.Number (pos 7)) ∷ Told ∷ [])) ≡
+      steps in_mu (integer (pos 2) false (Tok (primitive 41) ∷ Numbered (pos 1) ∷ Fetched (val.Number (pos 7)) ∷ Noted ∷ [])) ≡
       More Nonblank ∷ Begins Factor true ∷ More Nonblank ∷ Begins Number false ∷ Fetches (loc.Register register.Count 1) ∷ Tells IncompatibleUnits false ∷ Done (pos 14) 0 false ∷ []
-  pub list : steps in_mu (Tok (primitive 45) ∷ Told ∷ Told ∷ []) ≡ More Nonblank ∷ Tells MissingNumber true ∷ Tells IncompatibleUnits false ∷ Done (pos 0) 0 false ∷ []
+  pub list : steps in_mu (Tok (primitive 45) ∷ Noted ∷ Noted ∷ []) ≡ More Nonblank ∷ Tells MissingNumber true ∷ Tells IncompatibleUnits false ∷ Done (pos 0) 0 false ∷ []
 
 pub record WorkedDimensions : Type 0 where
   pub units_worked : WorkedUnits

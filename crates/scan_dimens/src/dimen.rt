@@ -161,7 +161,7 @@ impl DimenScan {
     ghost use Rattle.rows.specs.Internal as internals;
     ghost use Rattle.rows.specs.Readings.{Cut};
     ghost use Rattle.plain_readings.specs.Measures.{dimen_value, dimen_item};
-    ghost use Rattle.plain_readings.specs.Dimens.{Fed, Tok, Told, Fetched, Factored, Numbered, Found, by_magnification, positive_part, dimension, finished, spaced, valued, unit_behind, unit_with, unit_at, word_unit, internal_or_word, internal_or_factor, unsigned, factor_read, behind_digits, with_factor, with_number, fetched, fraction, points, amount};
+    ghost use Rattle.plain_readings.specs.Dimens.{Fed, Tok, Noted, Fetched, Factored, Numbered, Found, by_magnification, positive_part, dimension, finished, spaced, valued, unit_behind, unit_with, unit_at, word_unit, internal_or_word, internal_or_factor, unsigned, factor_read, behind_digits, with_factor, with_number, fetched, fraction, points, amount};
     ghost use Rattle.scan_dimens.specs.DimenViews as sees;
     ghost use Rattle.scan_dimens.specs.DimenViews.{ask_of, digits_of, EndsInRange, IsFetchedAt, IsRead, IsMagnified, IsDimension};
     ghost use Rattle.scan_numbers.specs.Views.{IsInRange};
@@ -235,8 +235,8 @@ impl DimenScan {
     }
 
     /// Goes on behind its report, or the check of the magnification.
-    pub fn told(&mut self)
-        ensures { (fed : List Fed) → resume self.old (Told ∷ fed) ≡ resume self.new fed }
+    pub fn noted(&mut self)
+        ensures { (fed : List Fed) → resume self.old (Noted ∷ fed) ≡ resume self.new fed }
     {
         match self.place {
             DimenPlace::BadNumber(sought, bank, _) => {

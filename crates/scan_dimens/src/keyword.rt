@@ -98,7 +98,7 @@ impl KeywordScan {
     ghost use Rattle.tex_defs.specs.declared.Token.{Token};
     ghost use Rattle.equivalents.specs.Locations.{SeenValue};
     ghost use Rattle.rows.specs.declared.words.Value.{Value};
-    ghost use Rattle.rows.specs.Readings.{Fed, Tok, Told, Val, Fetched, Cut};
+    ghost use Rattle.rows.specs.Readings.{Fed, Tok, Noted, Val, Fetched, Cut};
     ghost use Rattle.plain_readings.specs.Keywords.{keyword_from};
     ghost use Rattle.scan_dimens.specs.Views.{ask_of, kept};
     ghost use Rattle.scan_dimens.specs.Resumes.{resume, kept_in};
@@ -141,8 +141,8 @@ impl KeywordScan {
     }
 
     /// Goes on behind the token that was put back.
-    pub fn told(&mut self)
-        ensures { (fed : List Fed) → resume self.old (Told ∷ fed) ≡ resume self.new fed }
+    pub fn noted(&mut self)
+        ensures { (fed : List Fed) → resume self.old (Noted ∷ fed) ≡ resume self.new fed }
     {
         match self.place {
             KeywordPlace::Letters(_) => self.place = KeywordPlace::Ended(false),

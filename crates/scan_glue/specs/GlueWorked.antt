@@ -12,7 +12,7 @@ use Rattle.equivalents.specs.declared.values.Loc.TheVariants as loc
 use Rattle.equivalents.specs.declared.values.Val.TheVariants as val
 use Rattle.rows.specs.declared.words.Keyword.TheVariants.{Plus, Minus}
 use Rattle.rows.specs.Worked.{character, primitive, x_name}
-use Rattle.plain_readings.specs.Glues.{Fed, Tok, Measured, Numbered, Found, Told, Fetched, Answer, More, Begins, Fetches, Tells, Done, Dimension, Number, Key, finite, infinite, glue}
+use Rattle.plain_readings.specs.Glues.{Fed, Tok, Measured, Numbered, Found, Noted, Fetched, Answer, More, Begins, Fetches, Tells, Done, Dimension, Number, Key, finite, infinite, glue}
 use Rattle.rows.specs.Arithmetic.{sum, product, quotient}
 
 -- WHAT IS ASKED FOR before each item and behind the last
@@ -100,7 +100,7 @@ pub record WorkedInternal : Type 0 where
       More Nonblank ∷ More Nonblank ∷ Begins Number false ∷ Fetches (loc.Register register.Skip 1) ∷ Done stood_negated ∷ []
   pub parameter : steps false (Tok (primitive 163) ∷ Fetched (val.Skip stood) ∷ []) ≡ More Nonblank ∷ Fetches (loc.Glue 2) ∷ Done stood ∷ []
   pub bad_number :
-      steps false (Tok (primitive 43) ∷ Numbered (pos 300) ∷ Told ∷ Fetched (val.Skip stood) ∷ []) ≡
+      steps false (Tok (primitive 43) ∷ Numbered (pos 300) ∷ Noted ∷ Fetched (val.Skip stood) ∷ []) ≡
       More Nonblank ∷ Begins Number false ∷ Tells (BadRegisterCode (pos 300)) ∷ Fetches (loc.Register register.Skip 0) ∷ Done stood ∷ []
 
 -- `\dimen`, `\count`, `\hsize` and `\toks` begin the width, as -\dimen 1
@@ -122,10 +122,10 @@ pub record WorkedMu : Type 0 where
       More Nonblank ∷ Begins Number false ∷ Fetches (loc.Register register.Muskip 1) ∷ Done stood ∷ []
   pub parameter : steps true (Tok (primitive 176) ∷ Fetched (val.Skip stood) ∷ []) ≡ More Nonblank ∷ Fetches (loc.Glue 15) ∷ Done stood ∷ []
   pub skip :
-      steps true (signs (45 ∷ []) (Tok (primitive 43) ∷ Numbered (pos 1) ∷ Fetched (val.Skip stood) ∷ Told ∷ [])) ≡
+      steps true (signs (45 ∷ []) (Tok (primitive 43) ∷ Numbered (pos 1) ∷ Fetched (val.Skip stood) ∷ Noted ∷ [])) ≡
       More Nonblank ∷ More Nonblank ∷ Begins Number false ∷ Fetches (loc.Register register.Skip 1) ∷ Tells IncompatibleUnits ∷ Done stood_negated ∷ []
   pub incompatible :
-      steps false (Tok muskip_name ∷ Fetched (val.Skip stood) ∷ Told ∷ []) ≡
+      steps false (Tok muskip_name ∷ Fetched (val.Skip stood) ∷ Noted ∷ []) ≡
       More Nonblank ∷ Fetches (loc.Register register.Muskip 1) ∷ Tells IncompatibleUnits ∷ Done stood ∷ []
 
 pub record WorkedGlue : Type 0 where

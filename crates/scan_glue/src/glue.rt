@@ -162,7 +162,7 @@ impl GlueScan {
     ghost use Rattle.rows.specs.Readings.{Cut};
     ghost use Rattle.plain_readings.specs.Measures.{glue_value, glue_item};
     ghost use Rattle.plain_readings.specs.Glues as glues;
-    ghost use Rattle.plain_readings.specs.Glues.{Fed, Tok, Measured, Told, Fetched, Numbered, Found};
+    ghost use Rattle.plain_readings.specs.Glues.{Fed, Tok, Measured, Noted, Fetched, Numbered, Found};
     ghost use Rattle.scan_glue.specs.GlueViews.{ask_of, EndsInRange, IsFetchedAt};
     ghost use Rattle.scan_glue.specs.GlueResumes.{resume};
 
@@ -211,8 +211,8 @@ impl GlueScan {
     }
 
     /// Goes on behind its report.
-    pub fn told(&mut self)
-        ensures { (fed : List Fed) → resume self.old (Told ∷ fed) ≡ resume self.new fed }
+    pub fn noted(&mut self)
+        ensures { (fed : List Fed) → resume self.old (Noted ∷ fed) ≡ resume self.new fed }
     {
         match self.place {
             GluePlace::BadNumber(bank, _) => {

@@ -3,7 +3,7 @@ use Rattle.std.proofs.Common.{◌≡◌, ℤ, Bool, false, List, [], ◌∷◌, 
 use Rattle.std.specs.Prelude.{◌&&◌}
 use Rattle.rows.specs.declared.words.Datum.TheVariants as datum
 use Rattle.rows.specs.declared.words.Value.TheVariants as value
-use Rattle.rows.specs.Readings.{Fed, Tok, Val, Told, Fetched, Verbatim, Cut, Ask, Done}
+use Rattle.rows.specs.Readings.{Fed, Tok, Val, Noted, Fetched, Verbatim, Cut, Ask, Done}
 use Rattle.plain_readings.specs.Integers.{integer, is_digit, ends_with}
 use Rattle.plain_readings.specs.Factors.{is_point, ends_in_point, as_factor}
 use Rattle.scan_numbers.specs.Resumes.{resume}
@@ -17,13 +17,13 @@ pub stepped : (decimal : Option Bool) (point : Bool) (scan new : NumberScan) (y 
     resume_at decimal point scan (y ∷ fed) ≡ resume_at (Some (decimal_behind decimal (is_decimal_item y))) (is_point_item y) new fed
 stepped None point scan new (Tok x) fresh on fed = ap (λ (a : Ask). as_factor (is_digit 10 x) (ends_in_point (is_point x) fed) a) (fresh refl (Tok x ∷ fed) ∙ on fed)
 stepped None point scan new (Val v ts) fresh on fed = ap (λ (a : Ask). as_factor false (ends_in_point false fed) a) (fresh refl (Val v ts ∷ fed) ∙ on fed)
-stepped None point scan new Told fresh on fed = ap (λ (a : Ask). as_factor false (ends_in_point false fed) a) (fresh refl (Told ∷ fed) ∙ on fed)
+stepped None point scan new Noted fresh on fed = ap (λ (a : Ask). as_factor false (ends_in_point false fed) a) (fresh refl (Noted ∷ fed) ∙ on fed)
 stepped None point scan new (Fetched v) fresh on fed = ap (λ (a : Ask). as_factor false (ends_in_point false fed) a) (fresh refl (Fetched v ∷ fed) ∙ on fed)
 stepped None point scan new (Verbatim t) fresh on fed = ap (λ (a : Ask). as_factor false (ends_in_point false fed) a) (fresh refl (Verbatim t ∷ fed) ∙ on fed)
 stepped None point scan new Cut fresh on fed = ap (λ (a : Ask). as_factor false (ends_in_point false fed) a) (fresh refl (Cut ∷ fed) ∙ on fed)
 stepped (Some decimal) point scan new (Tok x) fresh on fed = ap (λ (a : Ask). as_factor decimal (ends_in_point (is_point x) fed) a) (on fed)
 stepped (Some decimal) point scan new (Val v ts) fresh on fed = ap (λ (a : Ask). as_factor decimal (ends_in_point false fed) a) (on fed)
-stepped (Some decimal) point scan new Told fresh on fed = ap (λ (a : Ask). as_factor decimal (ends_in_point false fed) a) (on fed)
+stepped (Some decimal) point scan new Noted fresh on fed = ap (λ (a : Ask). as_factor decimal (ends_in_point false fed) a) (on fed)
 stepped (Some decimal) point scan new (Fetched v) fresh on fed = ap (λ (a : Ask). as_factor decimal (ends_in_point false fed) a) (on fed)
 stepped (Some decimal) point scan new (Verbatim t) fresh on fed = ap (λ (a : Ask). as_factor decimal (ends_in_point false fed) a) (on fed)
 stepped (Some decimal) point scan new Cut fresh on fed = ap (λ (a : Ask). as_factor decimal (ends_in_point false fed) a) (on fed)

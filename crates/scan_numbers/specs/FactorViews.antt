@@ -2,7 +2,7 @@
 use Rattle.std.specs.Prelude.{◌≡◌, Bool, false, List, Option, Some, None}
 use Rattle.rows.specs.declared.words.Datum.TheVariants as datum
 use Rattle.rows.specs.declared.words.Value.TheVariants as value
-use Rattle.rows.specs.declared.words.Kind.TheVariants as kind
+use Rattle.rows.specs.declared.words.Phrase.TheVariants as phrase
 use Rattle.rows.specs.Internal.{IsFetchable}
 use Rattle.rows.specs.Readings as reading
 use Rattle.plain_readings.specs.Integers.{integer, is_digit}
@@ -15,7 +15,7 @@ use Rattle.scan_numbers.specs.declared.factor.FactorAsk.TheVariants.{More, Begin
 
 abbrev pub ask_of : FactorAsk → reading.Ask
 ask_of (More want) = reading.More want
-ask_of Begins = reading.Inner kind.Integer false
+ask_of Begins = reading.Inner phrase.Integer false
 ask_of (Fetches l) = reading.Fetches l
 ask_of (Tells report back) = reading.Tells report back
 ask_of (Done n point back) = reading.Done (value.Plain (datum.Factor n point)) back

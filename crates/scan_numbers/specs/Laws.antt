@@ -8,7 +8,7 @@ use Rattle.tex_syntax.specs.declared.words.Want.TheVariants.{Expanded}
 use Rattle.tex_syntax.specs.declared.words.Report.TheVariants.{NumberTooBig}
 use Rattle.plain_tokens.specs.Categories.{other}
 use Rattle.plain_tokens.specs.Tokens.{is_space}
-use Rattle.rows.specs.Readings.{Fed, Tok, Told, More, Tells}
+use Rattle.rows.specs.Readings.{Fed, Tok, Noted, More, Tells}
 use Rattle.plain_readings.specs.Integers.{integer, ends_with, signed, is_digit, greatest_integer}
 use Rattle.plain_readings.specs.Worked.{others}
 use Rattle.scan_numbers.specs.Views.{IsInRange}
@@ -56,10 +56,10 @@ pub record DigitsAreRead : Type 0 where
       (negative : Bool) (ds : List ℕ) (n d : ℕ) → IsTooBig ds n d → integer negative (spelt ds (Tok (digit d) ∷ [])) ≡ Tells NumberTooBig false
   pub reported_once :
       (negative : Bool) (ds : List ℕ) (n d : ℕ) (more : List ℕ) → IsTooBig ds n d → AreDigits more →
-      integer negative (spelt ds (Tok (digit d) ∷ Told ∷ spelt more [])) ≡ More Expanded
+      integer negative (spelt ds (Tok (digit d) ∷ Noted ∷ spelt more [])) ≡ More Expanded
   pub greatest :
       (negative : Bool) (ds : List ℕ) (n d : ℕ) (more : List ℕ) (x : Seen) → IsTooBig ds n d → AreDigits more → is_digit 10 x ≡ false →
-      integer negative (spelt ds (Tok (digit d) ∷ Told ∷ spelt more (Tok x ∷ []))) ≡ ends_with (signed negative greatest_integer) (not (is_space x))
+      integer negative (spelt ds (Tok (digit d) ∷ Noted ∷ spelt more (Tok x ∷ []))) ≡ ends_with (signed negative greatest_integer) (not (is_space x))
 
 -- The decimal text of an integer, with its sign, is read as that integer again.
 abbrev pub TextsAreReadBack : Type 0

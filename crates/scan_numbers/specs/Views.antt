@@ -1,6 +1,6 @@
 -- What the scanner's words stand for, and the range of its values.
 use Rattle.std.specs.Prelude.{ℕ, ℤ, pos, negsuc, ◌≤ℤ◌, false}
-use Rattle.rows.specs.declared.words.Kind.TheVariants as kind
+use Rattle.rows.specs.declared.words.Phrase.TheVariants as phrase
 use Rattle.equivalents.specs.declared.values.Loc.{Loc}
 use Rattle.equivalents.specs.declared.values.Loc.TheVariants as loc
 use Rattle.rows.specs.Internal.{IsFetchable}
@@ -20,7 +20,7 @@ radix_number Hexadecimal = 16
 
 abbrev pub ask_of : Ask → reading.Ask
 ask_of (More want) = reading.More want
-ask_of Begins = reading.Inner kind.Integer false
+ask_of Begins = reading.Inner phrase.Integer false
 ask_of (Fetches l) = reading.Fetches l
 ask_of (Tells report back) = reading.Tells report back
 ask_of (Done n back) = ends_with n back

@@ -7,7 +7,7 @@ use Rattle.tex_defs.specs.declared.Seen.{Seen}
 use Rattle.tex_syntax.specs.declared.words.Report.TheVariants.{ImproperConstant, MissingNumber, NumberTooBig}
 use Rattle.plain_tokens.specs.Categories.{letter, other}
 use Rattle.rows.specs.Worked.{character, primitive, x, a_letter, a_space}
-use Rattle.rows.specs.Readings.{Fed, Tok, Told, Tells}
+use Rattle.rows.specs.Readings.{Fed, Tok, Noted, Tells}
 use Rattle.plain_readings.specs.Integers.{integer, ends_with}
 use Rattle.plain_readings.specs.Worked.{others}
 
@@ -31,7 +31,7 @@ pub record WorkedHexadecimals : Type 0 where
   pub least : integer false (others (45 ∷ 34 ∷ 55 ∷ 70 ∷ 70 ∷ 70 ∷ 70 ∷ 70 ∷ 70 ∷ 70 ∷ []) (ended_by a_space)) ≡ ends_with (negsuc 2147483646) false
   pub too_big : integer true (others (34 ∷ 56 ∷ 48 ∷ 48 ∷ 48 ∷ 48 ∷ 48 ∷ 48 ∷ 48 ∷ []) []) ≡ Tells NumberTooBig false
   pub dropped :
-      integer true (others (34 ∷ 56 ∷ 48 ∷ 48 ∷ 48 ∷ 48 ∷ 48 ∷ 48 ∷ 48 ∷ []) (Told ∷ Tok (character other 65) ∷ ended_by a_space)) ≡
+      integer true (others (34 ∷ 56 ∷ 48 ∷ 48 ∷ 48 ∷ 48 ∷ 48 ∷ 48 ∷ 48 ∷ []) (Noted ∷ Tok (character other 65) ∷ ended_by a_space)) ≡
       ends_with (negsuc 2147483646) false
 
 -- behind a backquote: a letter and a space; a digit, with a sign; a name of one character, and an active one; a name of two characters
@@ -43,7 +43,7 @@ pub record WorkedCodes : Type 0 where
   pub active :
       integer false (others (96 ∷ []) (Tok (record { token = token.Named (Active 126); meaning = means.Undefined }) ∷ ended_by a_space)) ≡ ends_with (pos 126) false
   pub word : integer true (others (96 ∷ []) (ended_by (primitive 1))) ≡ Tells ImproperConstant true
-  pub improper : integer true (others (96 ∷ []) (Tok (primitive 1) ∷ Told ∷ [])) ≡ ends_with (negsuc 47) false
+  pub improper : integer true (others (96 ∷ []) (Tok (primitive 1) ∷ Noted ∷ [])) ≡ ends_with (negsuc 47) false
 
 pub record WorkedConstants : Type 0 where
   pub octals : WorkedOctals

@@ -38,7 +38,7 @@ impl FactorScan {
     ghost use Rattle.std.specs.Prelude.{◌≡◌, List, [], ◌∷◌, Some};
     ghost use Rattle.tex_defs.specs.declared.Token.{Token};
     ghost use Rattle.rows.specs.declared.words.Value.{Value};
-    ghost use Rattle.rows.specs.Readings.{Fed, Tok, Told, Val, Fetched, Cut};
+    ghost use Rattle.rows.specs.Readings.{Fed, Tok, Noted, Val, Fetched, Cut};
     ghost use Rattle.plain_readings.specs.Factors.{factor};
     ghost use Rattle.scan_numbers.specs.FactorViews.{began_with, decimal_behind, ask_of, EndsInRange, IsFetchedAt};
     ghost use Rattle.scan_numbers.specs.FactorResumes.{resume_factor};
@@ -84,11 +84,11 @@ impl FactorScan {
 
     /// Goes on behind its report.
     #[tactic(auto, using(crate::proofs::Factors::stepped))]
-    pub fn told(&mut self)
-        ensures { (fed : List Fed) → resume_factor self.old (Told ∷ fed) ≡ resume_factor self.new fed }
+    pub fn noted(&mut self)
+        ensures { (fed : List Fed) → resume_factor self.old (Noted ∷ fed) ≡ resume_factor self.new fed }
     {
         self.begin(false);
-        self.scan.told();
+        self.scan.noted();
         self.point = false;
     }
 

@@ -76,7 +76,7 @@ impl NumberScan {
     ghost use Rattle.std.specs.Prelude.{◌≡◌, List, [], ◌∷◌, false};
     ghost use Rattle.tex_defs.specs.declared.Token.{Token};
     ghost use Rattle.rows.specs.declared.words.Value.{Value};
-    ghost use Rattle.rows.specs.Readings.{Fed, Tok, Told, Val, Fetched, Cut};
+    ghost use Rattle.rows.specs.Readings.{Fed, Tok, Noted, Val, Fetched, Cut};
     ghost use Rattle.plain_readings.specs.Integers.{integer, constant, first_digit, digits, number_ended, fetched, with_number, by_meaning};
     ghost use Rattle.rows.specs.Internal as internals;
     ghost use Rattle.scan_numbers.specs.Views.{radix_number, ask_of, EndsInRange, IsFetchedAt};
@@ -135,8 +135,8 @@ impl NumberScan {
     }
 
     /// Goes on behind its report.
-    pub fn told(&mut self)
-        ensures { (fed : List Fed) → resume self.old (Told ∷ fed) ≡ resume self.new fed }
+    pub fn noted(&mut self)
+        ensures { (fed : List Fed) → resume self.old (Noted ∷ fed) ≡ resume self.new fed }
     {
         match self.place {
             Place::TooBig(radix) => self.place = Place::Dropped(radix),

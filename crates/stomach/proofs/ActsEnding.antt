@@ -30,7 +30,7 @@ use Rattle.rows.specs.Readings.{Ask, Acts, ActsOn}
 use Rattle.plain_readings.specs.Readings.{Kind, Behind, Reading, ask, opened}
 use Rattle.reading_frames.specs.Resumes.{resume}
 use Rattle.reading_frames.specs.Stack.{asks_in}
-use Rattle.reading_frames.specs.Stands as frames
+use Rattle.reading_frames.specs.Frames as frames
 use Rattle.reading_frames.specs.declared.frame.Frame.{Frame}
 use Rattle.plain_machine.specs.States.{State, Move, Closed, Begun, Reported, Written, made}
 use Rattle.plain_machine.specs.Demands.{refusal}
@@ -60,7 +60,7 @@ use Rattle.gullet.proofs.JobName.{name_stands}
 use Rattle.engine_state.proofs.Joining.{quiet_wrote, halts_on, halts_least, went_by, went_on}
 use Rattle.engine_state.proofs.CuttingReadings.{later_in, stands_in, in_by}
 use Rattle.engine_state.proofs.Reporting.{full_out}
-use Rattle.engine_state.proofs.Standing.{same_engine}
+use Rattle.engine_state.proofs.AtLocations.{same_engine}
 use Rattle.gullet.proofs.Stepping.{free_of}
 use Rattle.rows.specs.Suiting.{IsSuited, IsThere, IsVariable, TakesAll, AsksSuited}
 use Rattle.stomach.specs.Effects.{done_alone, assignment_of, IsAlone}
@@ -97,7 +97,7 @@ pub above_acts : (beneath : List Reading) (page : Page) (c : Call) (e : Effect) 
 above_acts beneath page c (effect.PutList l) h = absurd h
 above_acts beneath page c e h = refl
 
-asks_as : (fs : List Frame) (held : List (List Token)) (r : Reading) (rs : List Reading) (a : Ask) → frames.FramesStand fs held (r ∷ rs) → asks_in fs held ≡ Some a → ask r.kind r.fed ≡ a
+asks_as : (fs : List Frame) (held : List (List Token)) (r : Reading) (rs : List Reading) (a : Ask) → frames.AreFramesOf fs held (r ∷ rs) → asks_in fs held ≡ Some a → ask r.kind r.fed ≡ a
 asks_as [] held r rs a st asks = absurd st
 asks_as (f ∷ fs) held r rs a st asks =
     let is : resume f held [] ≡ a = cc asks in

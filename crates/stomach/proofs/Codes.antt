@@ -9,8 +9,8 @@ use Rattle.plain_tokens.specs.Arguments as call
 use Rattle.conditionals.specs.declared.choice.Aim.{Aim}
 use Rattle.conditionals.specs.declared.skip.Ender.{Ender}
 use Rattle.conditionals.specs.Skipping.{ends_at, open_behind, part}
-use Rattle.rows.specs.declared.words.Kind.{Kind as Begun}
-use Rattle.rows.specs.declared.words.Kind.TheVariants.{Command, Integer, Factor, Dimension, Glue, Keyword, Text, Definition}
+use Rattle.rows.specs.declared.words.Phrase.{Phrase}
+use Rattle.rows.specs.declared.words.Phrase.TheVariants.{Command, Integer, Factor, Dimension, Glue, Keyword, Text, Definition}
 use Rattle.rows.specs.declared.command.Call.{Call}
 use Rattle.rows.specs.Readings.{Fed, Tok, Ask, Acts, ActsOn}
 use Rattle.rows.specs.Suiting.{AsksSuited}
@@ -24,7 +24,7 @@ use Rattle.plain_readings.proofs.Steps.{spelling_holds}
 use Rattle.plain_readings.proofs.Values.{values}
 
 -- what has a value asks to do nothing
-valued_sets : (k : Begun) (held : List (List Token)) (a : Ask) → GivesValue k held a → AsksSuited a
+valued_sets : (k : Phrase) (held : List (List Token)) (a : Ask) → GivesValue k held a → AsksSuited a
 valued_sets k held (Acts c e) h = absurd h
 valued_sets k held (ActsOn c e ts) h = absurd h
 valued_sets k held a h = tt

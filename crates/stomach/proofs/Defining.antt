@@ -18,8 +18,8 @@ use Rattle.rows.specs.declared.command.Call.{Call}
 use Rattle.plain_readings.specs.Readings.{Reading}
 use Rattle.reading_frames.specs.Views.{top_list}
 use Rattle.reading_frames.specs.Stack.{Stack, innermost_count, lists_beneath}
-use Rattle.reading_frames.specs.Stands as frames
-use Rattle.reading_frames.specs.Stands.{AreShallow}
+use Rattle.reading_frames.specs.Frames as frames
+use Rattle.reading_frames.specs.Frames.{AreShallow}
 use Rattle.plain_machine.specs.States.{State, Closed, Defined, made}
 use Rattle.plain_machine.specs.Plan.{Page, is_global, macro_defined, behind_assignment}
 use Rattle.plain_machine.proofs.Doing.{did_one}
@@ -115,7 +115,7 @@ module _ (name : Name) (long outer global : Bool) where
 -- the list on top
 pub macro_went : (sizes : Sizes) (e : Engine) (book : Book) (w : World) (r : Reading) (rs : List Reading) (c : Call) (name : Name) (global : Bool) (stack : Stack) (i : Stored) → global ≡ is_global (page_of e book) c → top_list e.input.builds ≢ [] →
     stack ≡ record { frames = drop 1 e.readings.frames; size = e.readings.size } →
-    ((lists : List (List Token)) (work : List Reading) → frames.FramesStand e.readings.frames lists work → frames.FramesStand stack.frames (lists_beneath e.readings.frames lists) (drop 1 work)) →
+    ((lists : List (List Token)) (work : List Reading) → frames.AreFramesOf e.readings.frames lists work → frames.AreFramesOf stack.frames (lists_beneath e.readings.frames lists) (drop 1 work)) →
     ((lists : List (List Token)) → AreShallow e.readings.frames lists → AreShallow stack.frames (lists_beneath e.readings.frames lists)) →
     i ≡ record e.input { builds = drop 1 e.input.builds; groups = i.groups; lists = i.lists } → Defines global e.input.groups i.groups (all_puts e.input.pending) e.input.lists i.lists (held.first_list e.input.builds) name c.long c.outer → KeepsShared e.input i →
     refused e.input.sizes (name_demands global e.input.groups name) ≡ None →

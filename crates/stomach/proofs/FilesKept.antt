@@ -161,31 +161,31 @@ open_before gone ms r h = ap (λ (b : Bool). with_gone b gone r) h
 abbrev pub MayRefuse : List Move → Type 0
 MayRefuse rest = (m : Move) → (tail : List Move) → rest ≡ m ∷ tail → (m ≡ ListsEnded → ⊥) × (m ≡ FileClosed → ⊥)
 
-first_of : (m n : Move) (ms ns : List Move) → m ∷ ms ≡ n ∷ ns → m ≡ n
-first_of m n ms ns is = cc
+equal_heads : (m n : Move) (ms ns : List Move) → m ∷ ms ≡ n ∷ ns → m ≡ n
+equal_heads m n ms ns is = cc
 
 rest_of : (m n : Move) (ms ns : List Move) → m ∷ ms ≡ n ∷ ns → ms ≡ ns
 rest_of m n ms ns is = cc
 
 lost : (s : State) (more done rest : List Move) → MayRefuse rest → ListsEnded ∷ FileClosed ∷ more ≡ done ++ rest → pulls more ≡ 0 → count s ≡ suc (count (made FileClosed (made ListsEnded s))) → count s ≡ suc (count (made_all done s))
 lost s more [] [] may is h k = absurd cc
-lost s more [] (m ∷ tail) may is h k = absurd ((may m tail refl).0 (sym (first_of ListsEnded m (FileClosed ∷ more) tail is)))
+lost s more [] (m ∷ tail) may is h k = absurd ((may m tail refl).0 (sym (equal_heads ListsEnded m (FileClosed ∷ more) tail is)))
 lost s more (d ∷ []) [] may is h k = absurd cc
-lost s more (d ∷ []) (m ∷ tail) may is h k = absurd ((may m tail refl).1 (sym (first_of FileClosed m more tail (rest_of ListsEnded d (FileClosed ∷ more) (m ∷ tail) is))))
+lost s more (d ∷ []) (m ∷ tail) may is h k = absurd ((may m tail refl).1 (sym (equal_heads FileClosed m more tail (rest_of ListsEnded d (FileClosed ∷ more) (m ∷ tail) is))))
 lost s more (d ∷ d' ∷ done) rest may is h k =
     let is' = rest_of ListsEnded d (FileClosed ∷ more) (d' ∷ (done ++ rest)) is in
-    let first : d ≡ ListsEnded = sym (first_of ListsEnded d (FileClosed ∷ more) (d' ∷ (done ++ rest)) is) in
-    let second : d' ≡ FileClosed = sym (first_of FileClosed d' more (done ++ rest) is') in
+    let first : d ≡ ListsEnded = sym (equal_heads ListsEnded d (FileClosed ∷ more) (d' ∷ (done ++ rest)) is) in
+    let second : d' ≡ FileClosed = sym (equal_heads FileClosed d' more (done ++ rest) is') in
     let same : count (made_all done (made FileClosed (made ListsEnded s))) ≡ count (made FileClosed (made ListsEnded s)) = keeps_front done rest (made FileClosed (made ListsEnded s)) (ap pulls (sym (rest_of FileClosed d' more (done ++ rest) is')) ∙ h) in
     k ∙ ap suc (sym same ∙ ap₂ (λ (x y : Move). count (made_all done (made y (made x s)))) (sym first) (sym second))
 
 kept : (s : State) (m : Move) (more done rest : List Move) → ListsEnded ∷ m ∷ more ≡ done ++ rest → pulls more ≡ 0 → count (made m (made ListsEnded s)) ≡ count s → count (made_all done s) ≡ count s
 kept s m more [] rest is h k = refl
-kept s m more (d ∷ []) rest is h k = ap (λ (x : Move). count (made x s)) (sym (first_of ListsEnded d (m ∷ more) rest is))
+kept s m more (d ∷ []) rest is h k = ap (λ (x : Move). count (made x s)) (sym (equal_heads ListsEnded d (m ∷ more) rest is))
 kept s m more (d ∷ d' ∷ done) rest is h k =
     let is' = rest_of ListsEnded d (m ∷ more) (d' ∷ (done ++ rest)) is in
-    let first : d ≡ ListsEnded = sym (first_of ListsEnded d (m ∷ more) (d' ∷ (done ++ rest)) is) in
-    let second : d' ≡ m = sym (first_of m d' more (done ++ rest) is') in
+    let first : d ≡ ListsEnded = sym (equal_heads ListsEnded d (m ∷ more) (d' ∷ (done ++ rest)) is) in
+    let second : d' ≡ m = sym (equal_heads m d' more (done ++ rest) is') in
     let same : count (made_all done (made m (made ListsEnded s))) ≡ count (made m (made ListsEnded s)) = keeps_front done rest (made m (made ListsEnded s)) (ap pulls (sym (rest_of m d' more (done ++ rest) is')) ∙ h) in
     ap₂ (λ (x y : Move). count (made_all done (made y (made x s)))) first second ∙ same ∙ k
 

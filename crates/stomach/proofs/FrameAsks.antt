@@ -9,8 +9,8 @@ use Rattle.rows.specs.declared.words.Datum.{Datum}
 use Rattle.rows.specs.declared.words.Datum.TheVariants as datum
 use Rattle.rows.specs.declared.words.Value.TheVariants as value
 use Rattle.rows.specs.declared.words.Keyword.{Keyword}
-use Rattle.rows.specs.declared.words.Kind.{Kind}
-use Rattle.rows.specs.declared.words.Kind.TheVariants as kind
+use Rattle.rows.specs.declared.words.Phrase.{Phrase}
+use Rattle.rows.specs.declared.words.Phrase.TheVariants as phrase
 use Rattle.rows.specs.declared.stage.Stage.{Stage}
 use Rattle.rows.specs.declared.stage.Stage.TheVariants as stage
 use Rattle.rows.specs.declared.stage.Note.{Note}
@@ -18,7 +18,7 @@ use Rattle.rows.specs.declared.stage.Note.TheVariants as note
 use Rattle.rows.specs.declared.command.Call.{Call}
 use Rattle.rows.specs.Readings.{Fed, Ask, Inner, Done, ActsOn, Defines}
 use Rattle.rows.specs.Run.{due, started, behind, run}
-use Rattle.rows.specs.Stages.{start, location, value_kind}
+use Rattle.rows.specs.Stages.{start, location, value_phrase}
 use Rattle.rows.specs.Table.{stages_left, value_stage}
 use Rattle.row_frames.specs.declared.turn.Kept.{Kept}
 use Rattle.row_frames.specs.declared.turn.Kept.TheVariants as kept
@@ -58,26 +58,26 @@ use Rattle.reading_frames.specs.declared.spelling.SpellPlace.TheVariants as spel
 
 -- it begins no command, but perhaps with a token, and defines nothing
 abbrev IsModest : Ask → Type 0
-IsModest (Inner (kind.Command c) false) = ⊥
+IsModest (Inner (phrase.Command c) false) = ⊥
 IsModest (Defines c n ts) = ⊥
 IsModest a = Unit {0}
 
 -- nor does it do anything with a list
 abbrev IsListless : Ask → Type 0
-IsListless (Inner (kind.Command c) false) = ⊥
+IsListless (Inner (phrase.Command c) false) = ⊥
 IsListless (Defines c n ts) = ⊥
 IsListless (ActsOn c e ts) = ⊥
 IsListless a = Unit {0}
 
 -- it begins no command at all
 abbrev IsMeek : Ask → Type 0
-IsMeek (Inner (kind.Command c) begins) = ⊥
+IsMeek (Inner (phrase.Command c) begins) = ⊥
 IsMeek (Defines c n ts) = ⊥
 IsMeek (ActsOn c e ts) = ⊥
 IsMeek a = Unit {0}
 
 listless_modest : (a : Ask) → IsListless a → IsModest a
-listless_modest (Inner (kind.Command c) false) h = absurd h
+listless_modest (Inner (phrase.Command c) false) h = absurd h
 listless_modest (Defines c n ts) h = absurd h
 listless_modest a h = tt
 
@@ -86,17 +86,17 @@ due_listless (note.Tells report back) = tt
 due_listless (note.Inserts t report back) = tt
 due_listless (note.Relaxes c n) = tt
 
-with_listless : (k : Kind) → IsListless (Inner k true)
-with_listless (kind.Command c) = tt
-with_listless kind.Integer = tt
-with_listless kind.Factor = tt
-with_listless (kind.Dimension k) = tt
-with_listless (kind.Glue mu) = tt
-with_listless (kind.Keyword w) = tt
-with_listless (kind.Text name expanded) = tt
-with_listless (kind.Definition name expanded) = tt
+with_listless : (k : Phrase) → IsListless (Inner k true)
+with_listless (phrase.Command c) = tt
+with_listless phrase.Integer = tt
+with_listless phrase.Factor = tt
+with_listless (phrase.Dimension k) = tt
+with_listless (phrase.Glue mu) = tt
+with_listless (phrase.Keyword w) = tt
+with_listless (phrase.Text name expanded) = tt
+with_listless (phrase.Definition name expanded) = tt
 
-value_listless : (s : Stage) → IsListless (Inner (value_kind s) false)
+value_listless : (s : Stage) → IsListless (Inner (value_phrase s) false)
 value_listless stage.Dimension = tt
 value_listless (stage.Glue mu) = tt
 value_listless s = tt
@@ -225,7 +225,7 @@ not_meek : (a b : Ask) → a ≡ b → IsMeek a → IsMeek b
 not_meek a b is h = subst IsMeek is h
 
 -- WITHIN A FRAME no command is begun without a token
-begins_none : (f : Frame) (held : Lists) (c : Call) → resume f held [] ≡ Inner (kind.Command c) false → ⊥
+begins_none : (f : Frame) (held : Lists) (c : Call) → resume f held [] ≡ Inner (phrase.Command c) false → ⊥
 begins_none (Command (command.Reads f) p) held c is = not_so _ _ is (listless_modest _ (row_listless (λ d more. turn_of f.is_turned d more) f.call (stages_left f.left) (values f.read) f.kept))
 begins_none (Command (command.Acts d e) p) held c is = cc
 begins_none (Command (command.ActsOn d e listed) p) held c is = cc
@@ -243,7 +243,7 @@ begins_none (Behind d x) held c is = cc
 begins_none (Skips scan) held c is = not_meek _ _ is (skip_meek scan.call scan.aim scan.place)
 
 -- what begins one is no reading that ends with a value
-begins_heavy : (f : Frame) (held : Lists) (c : Call) (begins : Bool) → resume f held [] ≡ Inner (kind.Command c) begins → own_weight f ≡ act_frame
+begins_heavy : (f : Frame) (held : Lists) (c : Call) (begins : Bool) → resume f held [] ≡ Inner (phrase.Command c) begins → own_weight f ≡ act_frame
 begins_heavy (Integer scan) held c begins is = absurd (not_meek _ _ is (number_meek scan.negative scan.place))
 begins_heavy (Factor scan) held c begins is = absurd (not_meek _ _ is (factor_meek scan.decimal scan.point scan.scan))
 begins_heavy (Dimension scan) held c begins is = absurd (not_meek _ _ is (dimen_meek (dimen.resume scan [])))
@@ -293,11 +293,11 @@ list_own (Skips scan) held ts has some = absurd (meek_not _ ts (skip_meek scan.c
 
 -- the innermost
 
-pub innermost_begins_none : (fs : List Frame) (held : Lists) (c : Call) → asks_in fs held ≡ Some (Inner (kind.Command c) false) → ⊥
+pub innermost_begins_none : (fs : List Frame) (held : Lists) (c : Call) → asks_in fs held ≡ Some (Inner (phrase.Command c) false) → ⊥
 innermost_begins_none [] held c is = cc
 innermost_begins_none (f ∷ fs) held c is = begins_none f held c cc
 
-pub innermost_heavy : (fs : List Frame) (held : Lists) (c : Call) (begins : Bool) → asks_in fs held ≡ Some (Inner (kind.Command c) begins) → frames_weight fs ≡ act_frame + frames_weight (drop 1 fs)
+pub innermost_heavy : (fs : List Frame) (held : Lists) (c : Call) (begins : Bool) → asks_in fs held ≡ Some (Inner (phrase.Command c) begins) → frames_weight fs ≡ act_frame + frames_weight (drop 1 fs)
 innermost_heavy [] held c begins is = cc
 innermost_heavy (f ∷ fs) held c begins is = ap (λ (n : ℕ). n + frames_weight fs) (begins_heavy f held c begins cc)
 

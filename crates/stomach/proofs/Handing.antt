@@ -13,7 +13,7 @@ use Rattle.rows.specs.Readings.{Ask, Tok, More}
 use Rattle.plain_readings.specs.Readings.{Reading, fed_with}
 use Rattle.reading_frames.specs.Views.{Lists}
 use Rattle.reading_frames.specs.Stack.{asks_in}
-use Rattle.reading_frames.specs.Stands as frames
+use Rattle.reading_frames.specs.Frames as frames
 use Rattle.reading_frames.specs.declared.frame.Frame.{Frame}
 use Rattle.plain_machine.specs.States.{State, Move}
 use Rattle.plain_machine.specs.Plan.{Page, expansion, expanded, expanded_as, command}
@@ -70,7 +70,7 @@ module _ (page : Page) (work : List Reading) (x : Seen) where
 
 -- A FRAME IS FED
 
-no_frame : (fs : List Frame) (held : Lists) (a : Ask) → frames.FramesStand fs held [] → asks_in fs held ≡ Some a → ⊥
+no_frame : (fs : List Frame) (held : Lists) (a : Ask) → frames.AreFramesOf fs held [] → asks_in fs held ≡ Some a → ⊥
 no_frame [] held a st is = cc
 no_frame (f ∷ fs) held a st is = st
 

@@ -7,8 +7,8 @@ use Rattle.tex_defs.specs.declared.Sizes.{Sizes}
 use Rattle.tex_defs.specs.declared.Token.{Token}
 use Rattle.tex_defs.specs.Places.{World}
 use Rattle.rows.specs.declared.command.Call.{Call}
-use Rattle.rows.specs.declared.words.Kind.{Kind as Begun}
-use Rattle.rows.specs.declared.words.Kind.TheVariants.{Command}
+use Rattle.rows.specs.declared.words.Phrase.{Phrase}
+use Rattle.rows.specs.declared.words.Phrase.TheVariants.{Command}
 use Rattle.rows.specs.declared.words.Value.{Value}
 use Rattle.rows.specs.Readings.{Tok, Val, Inner, Done}
 use Rattle.plain_readings.specs.Readings.{Kind, Reading, ask, lists, fed_with, opened, opened_with}
@@ -16,7 +16,7 @@ use Rattle.plain_readings.specs.Weights.{value_frame, act_frame, act_weight, val
 use Rattle.plain_readings.proofs.Lower.{no_command as begins_no_command}
 use Rattle.reading_frames.specs.Resumes.{resume}
 use Rattle.reading_frames.specs.Stack.{Stack, asks_in}
-use Rattle.reading_frames.specs.Stands as frames
+use Rattle.reading_frames.specs.Frames as frames
 use Rattle.reading_frames.specs.Weights.{frames_weight, opening_frame, innermost_weight, innermost_end, asked_weight, begun_weight, begun_with_weight, IsInner}
 use Rattle.reading_frames.specs.declared.ask.Opening.TheVariants as opening
 use Rattle.reading_frames.specs.declared.frame.Frame.{Frame}
@@ -46,7 +46,7 @@ use Rattle.input_state.specs.Callings.{NotCalling}
 
 -- NO COMMAND BEGINS WITHIN A FRAME that stands for a reading
 
-no_command : (fs : List Frame) (held : List (List Token)) (work : List Reading) (c : Call) (begins : Bool) → frames.FramesStand fs held work → asks_in fs held ≡ Some (Inner (Command c) begins) → ⊥
+no_command : (fs : List Frame) (held : List (List Token)) (work : List Reading) (c : Call) (begins : Bool) → frames.AreFramesOf fs held work → asks_in fs held ≡ Some (Inner (Command c) begins) → ⊥
 no_command [] held work c begins st asks = cc
 no_command (f ∷ fs) held [] c begins st asks = st
 no_command (f ∷ fs) held (r ∷ rs) c begins st asks =
@@ -54,9 +54,9 @@ no_command (f ∷ fs) held (r ∷ rs) c begins st asks =
     let is : resume f held [] ≡ Inner (Command c) begins = cc asks in
     begins_no_command r.kind r.fed c begins (now ∙ is)
 
-pub asks_no_command : {A : Type 0} → (sizes : Sizes) (e : Engine) (book : Book) (k : Begun) (c : Call) (begins : Bool) → k ≡ Command c → Stands sizes e book → asked e ≡ Some (Inner k begins) → A
+pub asks_no_command : {A : Type 0} → (sizes : Sizes) (e : Engine) (book : Book) (k : Phrase) (c : Call) (begins : Bool) → k ≡ Command c → Stands sizes e book → asked e ≡ Some (Inner k begins) → A
 asks_no_command sizes e book k c begins is st asks =
-    absurd (no_command e.readings.frames e.input.builds book.work c begins st.readings.frames (asks ∙ ap (λ (x : Begun). Some (Inner x begins)) is))
+    absurd (no_command e.readings.frames e.input.builds book.work c begins st.readings.frames (asks ∙ ap (λ (x : Phrase). Some (Inner x begins)) is))
 
 -- THE MOVES
 
@@ -98,11 +98,11 @@ module _ (sizes : Sizes) (e e' : Engine) (book : Book) (w : World) (k : Kind) (b
 
 -- THE WEIGHT
 
-no_row : (k : Begun) → ((c : Call) → k ≡ Command c → ⊥) → IsInner k
+no_row : (k : Phrase) → ((c : Call) → k ≡ Command c → ⊥) → IsInner k
 no_row (Command c) h = h c refl
 no_row k h = tt
 
-module _ (e e' : Engine) (none : e.input.call ≡ NotCalling) (none' : e'.input.call ≡ NotCalling) (same : e'.input.pending ≡ e.input.pending) (k : Begun) (begins : Bool) (asks : asks_in e.readings.frames [] ≡ Some (Inner k begins)) where
+module _ (e e' : Engine) (none : e.input.call ≡ NotCalling) (none' : e'.input.call ≡ NotCalling) (same : e'.input.pending ≡ e.input.pending) (k : Phrase) (begins : Bool) (asks : asks_in e.readings.frames [] ≡ Some (Inner k begins)) where
   asks_so : (b : Bool) → begins ≡ b → asks_in e.readings.frames [] ≡ Some (Inner k b)
   asks_so b is = asks ∙ ap (λ (x : Bool). Some (Inner k x)) is
 
@@ -119,7 +119,7 @@ module _ (e e' : Engine) (none : e.input.call ≡ NotCalling) (none' : e'.input.
 
   pub refused_light : (c : Call) → k ≡ Command c → frames_weight e'.readings.frames ≡ frames_weight (drop 1 e.readings.frames) → innermost_weight e'.readings.frames < act_frame + act_weight → weight e' < weight e
   refused_light c is frames light =
-      let so : asks_in e.readings.frames [] ≡ Some (Inner (Command c) begins) = asks ∙ ap (λ (x : Begun). Some (Inner x begins)) is in
+      let so : asks_in e.readings.frames [] ≡ Some (Inner (Command c) begins) = asks ∙ ap (λ (x : Phrase). Some (Inner x begins)) is in
       lighter e e' none none' same (omega (arith, heavy_by c begins so, innermost_heavy e.readings.frames [] c begins so, frames, light))
 
 -- ONE ENDS WITH A VALUE

@@ -23,8 +23,8 @@ use Rattle.rows.specs.declared.command.Effect.TheVariants as effect
 use Rattle.plain_readings.specs.Readings.{Reading, ask}
 use Rattle.reading_frames.specs.Views.{top_list}
 use Rattle.reading_frames.specs.Stack.{Stack, innermost_count, lists_beneath, asked_in, AsksCopied}
-use Rattle.reading_frames.specs.Stands as frames
-use Rattle.reading_frames.specs.Stands.{AreShallow}
+use Rattle.reading_frames.specs.Frames as frames
+use Rattle.reading_frames.specs.Frames.{AreShallow}
 use Rattle.reading_frames.specs.Weights.{stack_weight}
 use Rattle.plain_machine.specs.States.{State, Move, Closed, ListSet, Set}
 use Rattle.plain_machine.specs.Plan.{Page, acts_above, behind_assignment, copies, is_copying, is_global, list_given, list_number, list_set}
@@ -36,7 +36,7 @@ use Rattle.plain_machine.proofs.Holders.{listed_free, set_cases, value_is_held}
 use Rattle.plain_machine.proofs.Pulls.{list_given_none}
 use Rattle.plain_machine.proofs.Ties.{tied_listed}
 use Rattle.input_state.specs.HeldLists as held
-use Rattle.input_state.specs.Standing.{SetsList}
+use Rattle.input_state.specs.AtLocations.{SetsList}
 use Rattle.input_state.specs.Stored.{Stored, KeepsShared}
 use Rattle.input_state.specs.Callings.{NotCalling}
 use Rattle.gullet.proofs.Stepping.{free_of}
@@ -101,7 +101,7 @@ module _ (l : Loc) (global : Bool) where
 
 pub list_went : (sizes : Sizes) (e : Engine) (book : Book) (w : World) (r : Reading) (rs : List Reading) (c : Call) (l : Loc) (global : Bool) (stack : Stack) (i : Stored) → global ≡ is_global (page_of e book) c → top_list e.input.builds ≢ [] →
     stack ≡ record { frames = drop 1 e.readings.frames; size = e.readings.size } →
-    ((lists : List (List Token)) (work : List Reading) → frames.FramesStand e.readings.frames lists work → frames.FramesStand stack.frames (lists_beneath e.readings.frames lists) (drop 1 work)) →
+    ((lists : List (List Token)) (work : List Reading) → frames.AreFramesOf e.readings.frames lists work → frames.AreFramesOf stack.frames (lists_beneath e.readings.frames lists) (drop 1 work)) →
     ((lists : List (List Token)) → AreShallow e.readings.frames lists → AreShallow stack.frames (lists_beneath e.readings.frames lists)) →
     i ≡ record e.input { builds = drop 1 e.input.builds; groups = i.groups; lists = i.lists } → SetsList global e.input.groups i.groups (all_puts e.input.pending) e.input.lists i.lists (held.first_list e.input.builds) l → KeepsShared e.input i →
     refused e.input.sizes (set_demands global e.input.groups l) ≡ None →

@@ -22,7 +22,7 @@ use Rattle.rows.specs.Readings as reading
 use Rattle.plain_readings.specs.Readings.{Reading, ask}
 use Rattle.reading_frames.specs.Views.{Lists, ask_of}
 use Rattle.reading_frames.specs.Stack.{asked_in, asked_of}
-use Rattle.reading_frames.specs.Stands as frames
+use Rattle.reading_frames.specs.Frames as frames
 use Rattle.reading_frames.specs.declared.ask.Ask.{Ask}
 use Rattle.plain_machine.specs.States.{State, Move, FileOpened, Written, Stopped, later, made}
 use Rattle.plain_machine.specs.Plan.{Page, plan, ruled, answered, page_of, input_begun, unless_found, given_back, reports_room, style_of}
@@ -66,7 +66,7 @@ use Rattle.input_state.specs.Callings.{NotCalling, call_in, Calling}
 
 -- THE READING that has a file's name
 
-module _ (sizes : Sizes) (e : Engine) (a : Ask) (asks : (held : Lists) (work : List Reading) → frames.FramesStand e.readings.frames held work → asked_of held (Some a) ≡ asked_in work) (P : Book → Type 0)
+module _ (sizes : Sizes) (e : Engine) (a : Ask) (asks : (held : Lists) (work : List Reading) → frames.AreFramesOf e.readings.frames held work → asked_of held (Some a) ≡ asked_in work) (P : Book → Type 0)
     (h : (book : Book) (r : Reading) (rs : List Reading) → ask r.kind r.fed ≡ ask_of e.input.builds a → Stands sizes e (with_work (r ∷ rs) book) → P (with_work (r ∷ rs) book)) where
   work_named : (book : Book) (work : List Reading) → Stands sizes e (with_work work book) → Some (ask_of e.input.builds a) ≡ asked_in work → P (with_work work book)
   work_named book [] st now = absurd cc

@@ -32,7 +32,7 @@ use Rattle.engine_state.specs.Steps.{asked, asks_more, asks_start, all_start, fr
 use Rattle.engine_state.proofs.Uncalled.{all_of}
 use Rattle.stomach.specs.declared.innermost.Innermost.{Innermost}
 use Rattle.stomach.specs.declared.innermost.Innermost.TheVariants as innermost
-use Rattle.stomach.specs.Innermost.{AsksFor, StandsAsking, IsAsked, IsInnermost, ask_wants, frame_wants, innermost_wants, ask_opens, frame_opens, innermost_opens}
+use Rattle.stomach.specs.Innermost.{AsksFor, ReadingsAsk, IsAsked, IsInnermost, ask_wants, frame_wants, innermost_wants, ask_opens, frame_opens, innermost_opens}
 use Rattle.stomach.specs.Halting.{DoesRuleIn}
 
 -- WHAT THE INNERMOST READING ASKS FOR
@@ -92,31 +92,31 @@ none_kept false = refl
 
 -- THE RULE
 
-pub by_ask : (sizes : Sizes) (e : Engine) (a b : Ask) (P : Book → List Move → Type 0) → a ≡ b → StandsAsking e (Some a) →
+pub by_ask : (sizes : Sizes) (e : Engine) (a b : Ask) (P : Book → List Move → Type 0) → a ≡ b → ReadingsAsk e (Some a) →
     ((book : Book) (r : Reading) (rs : List Reading) → Stands sizes e (with_work (r ∷ rs) book) → P (with_work (r ∷ rs) book) (answered (state_of e (with_work (r ∷ rs) book)) (r ∷ rs) r (ask_of e.input.builds b))) →
     (book : Book) → Stands sizes e book → P book (plan_of e book)
-by_ask sizes e a b P is asks h book st = at book.work st (subst (λ (x : Ask). StandsAsking e (Some x)) is asks e.input.builds book.work st.readings.frames) where
+by_ask sizes e a b P is asks h book st = at book.work st (subst (λ (x : Ask). ReadingsAsk e (Some x)) is asks e.input.builds book.work st.readings.frames) where
   at : (work : List Reading) → Stands sizes e (with_work work book) → Some (ask_of e.input.builds b) ≡ asked_in work → P (with_work work book) (plan_of e (with_work work book))
   at [] st now = absurd cc
   at (r ∷ rs) st now =
       let same : ask_of e.input.builds b ≡ ask r.kind r.fed = cc now in
       subst (λ (x : reading.Ask). P (with_work (r ∷ rs) book) (answered (state_of e (with_work (r ∷ rs) book)) (r ∷ rs) r x)) same (h book r rs st)
 
-pub asked_rules : (e e' : Engine) (s s' : SinkTold) (a b : Ask) (ruled : Ruled) → a ≡ b → StandsAsking e (Some a) → (sizes : Sizes) (f : FilesTold) →
+pub asked_rules : (e e' : Engine) (s s' : SinkTold) (a b : Ask) (ruled : Ruled) → a ≡ b → ReadingsAsk e (Some a) → (sizes : Sizes) (f : FilesTold) →
     ((book : Book) (r : Reading) (rs : List Reading) → Stands sizes e (with_work (r ∷ rs) book) →
     DoesRuleIn sizes (state_of e (with_work (r ∷ rs) book)) e' (world_of f s e) (world_of f s' e') (answered (state_of e (with_work (r ∷ rs) book)) (r ∷ rs) r (ask_of e.input.builds b)) ruled) →
     (book : Book) → Stands sizes e book → DoesRuleIn sizes (state_of e book) e' (world_of f s e) (world_of f s' e') (plan_of e book) ruled
 asked_rules e e' s s' a b ruled is asks sizes f h book st = by_ask sizes e a b (λ book plan. DoesRuleIn sizes (state_of e book) e' (world_of f s e) (world_of f s' e') plan ruled) is asks h book st
 
 -- it is cut off
-pub asked_cuts : (e e' : Engine) (s s' : SinkTold) (a b : Ask) (why : Broken) → a ≡ b → StandsAsking e (Some a) → (sizes : Sizes) (f : FilesTold) →
+pub asked_cuts : (e e' : Engine) (s s' : SinkTold) (a b : Ask) (why : Broken) → a ≡ b → ReadingsAsk e (Some a) → (sizes : Sizes) (f : FilesTold) →
     ((book : Book) (r : Reading) (rs : List Reading) → Stands sizes e (with_work (r ∷ rs) book) →
     CutsIn sizes (state_of e (with_work (r ∷ rs) book)) e' (world_of f s e) (world_of f s' e') (answered (state_of e (with_work (r ∷ rs) book)) (r ∷ rs) r (ask_of e.input.builds b)) why) →
     (book : Book) → Stands sizes e book → CutsIn sizes (state_of e book) e' (world_of f s e) (world_of f s' e') (plan_of e book) why
 asked_cuts e e' s s' a b why is asks sizes f h book st = by_ask sizes e a b (λ book plan. CutsIn sizes (state_of e book) e' (world_of f s e) (world_of f s' e') plan why) is asks h book st
 
 -- where none is open
-pub by_none : (sizes : Sizes) (e : Engine) (P : Book → List Move → Type 0) → AsksFor e None → StandsAsking e None → e.input.call ≡ NotCalling →
+pub by_none : (sizes : Sizes) (e : Engine) (P : Book → List Move → Type 0) → AsksFor e None → ReadingsAsk e None → e.input.call ≡ NotCalling →
     ((book : Book) → Takes sizes None e book → P book (next_moves None e book)) → (book : Book) → Stands sizes e book → P book (plan_of e book)
 by_none sizes e P asks stand none h book st = at book.work st (stand e.input.builds book.work st.readings.frames) where
   taken : (work : List Reading) → Stands sizes e (with_work work book) → Takes sizes None e (with_work work book)

@@ -35,7 +35,7 @@ use Rattle.gullet.proofs.CallWeighing.{lighter_by}
 use Rattle.engine_state.proofs.Uncalled.{all_of}
 use Rattle.engine_state.proofs.Joining.{quiet_wrote, went_by, halts_least}
 use Rattle.engine_state.proofs.Reporting.{column_sound, input_sound, stands_still}
-use Rattle.engine_state.proofs.Standing.{only_frames}
+use Rattle.engine_state.proofs.AtLocations.{only_frames}
 use Rattle.engine_state.proofs.Weighing.{acted_lighter}
 use Rattle.stomach.specs.Halting.{HaltsIn}
 use Rattle.stomach.proofs.RuleHalts.{halts_in}

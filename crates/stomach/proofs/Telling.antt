@@ -5,7 +5,7 @@ use Rattle.tex_defs.specs.declared.Meaning.TheVariants as means
 use Rattle.tex_defs.specs.declared.Name.{Name}
 use Rattle.plain_tokens.specs.Names.{relax_primitive}
 use Rattle.rows.specs.declared.command.Call.{Call as Command}
-use Rattle.rows.specs.Readings.{Told, Puts, Relaxes}
+use Rattle.rows.specs.Readings.{Noted, Puts, Relaxes}
 use Rattle.tex_syntax.specs.declared.words.Outcome.{Outcome}
 use Rattle.tex_syntax.specs.declared.words.Report.{Report}
 use Rattle.tex_defs.specs.declared.Sizes.{Sizes}
@@ -18,7 +18,7 @@ use Rattle.reading_frames.specs.Weights.{frames_weight, innermost_weight, IsRepo
 use Rattle.plain_machine.specs.States.{State, Move, Assigned, Written, Reported}
 use Rattle.plain_machine.specs.Plan as plan
 use Rattle.plain_machine.specs.Runs.{steps}
-use Rattle.plain_machine.specs.Plan.{Page, is_global, put_one, reported, told, noting}
+use Rattle.plain_machine.specs.Plan.{Page, is_global, put_one, reported, report_noted, noting}
 use Rattle.plain_machine.specs.Does.{Did}
 use Rattle.plain_machine.proofs.Doing.{did_join}
 use Rattle.plain_machine.proofs.Pulls.{answered_none}
@@ -63,14 +63,14 @@ module _ (sizes : Sizes) (e : Engine) (f : FilesTold) (s0 : SinkTold) (book : Bo
       Reports sizes (state_of e1 at) (state_of e2 at) (world_of f s0 e) (world_of f s2 e2) (page_of e book) report (noting r)
   on_page h = subst (λ (p : Page). Reports sizes (state_of e1 at) (state_of e2 at) (world f s0 p.in_line) (world_of f s2 e2) p report (noting r)) page h
 
-  told_moves : Reports sizes (state_of e1 at) (state_of e2 at) (world_of f s0 e) (world_of f s2 e2) (page_of e book) report (noting r) → told (page_of e book) report inserted back r ≡ fronts inserted back e.last ++ (written ++ noting r)
+  told_moves : Reports sizes (state_of e1 at) (state_of e2 at) (world_of f s0 e) (world_of f s2 e2) (page_of e book) report (noting r) → report_noted (page_of e book) report inserted back r ≡ fronts inserted back e.last ++ (written ++ noting r)
   told_moves h =
       sym (append_assoc _ _ (reported (page_of e book) report (noting r))) ∙ ap (λ (ms : List Move). fronts inserted back e.last ++ ms) h.moves
 
   pub told_note_in : (e3 : Engine) (b : Broken) → Did sizes (state_of e at) (state_of e1 at) (world_of f s0 e) (world_of f s0 e) (fronts inserted back e.last) →
       Reports sizes (state_of e1 at) (state_of e2 at) (world_of f s0 e1) (world_of f s2 e2) (page_of e1 book) report (noting r) → e3.in_line ≡ e2.in_line →
       CutsIn sizes (state_of e2 at) e3 (world_of f s2 e2) (world_of f s2 e2) (noting r) b →
-      CutsIn sizes (state_of e at) e3 (world_of f s0 e) (world_of f s2 e3) (told (page_of e book) report inserted back r) b
+      CutsIn sizes (state_of e at) e3 (world_of f s0 e) (world_of f s2 e3) (report_noted (page_of e book) report inserted back r) b
   told_note_in e3 b front rep column cuts =
       let h = on_page rep in
       in_by sizes _ e3 _ _ (fronts inserted back e.last ++ (written ++ noting r)) _ b (told_moves h)
@@ -88,11 +88,11 @@ told_light e e1 e2 none same left call pending light count reported =
 -- BEHIND MOVES WITHOUT A REPORT the innermost reading goes on
 
 module _ (sizes : Sizes) (e e1 e2 : Engine) (book : Book) (w : World) (r : Reading) (rs : List Reading) (moves : List Move) (first : Did sizes (state_of e (with_work (r ∷ rs) book)) (state_of e1 (with_work (r ∷ rs) book)) w w moves) where
-  pub noted_went : steps (moves ++ noting r) ≡ 0 → Did sizes (state_of e1 (with_work (r ∷ rs) book)) (state_of e2 (with_work (fed_with Told (r ∷ rs)) book)) w w (noting r) → Stands sizes e2 (with_work (fed_with Told (r ∷ rs)) book) →
+  pub noted_went : steps (moves ++ noting r) ≡ 0 → Did sizes (state_of e1 (with_work (r ∷ rs) book)) (state_of e2 (with_work (fed_with Noted (r ∷ rs)) book)) w w (noting r) → Stands sizes e2 (with_work (fed_with Noted (r ∷ rs)) book) →
       Went sizes (state_of e (with_work (r ∷ rs) book)) e2 w w (moves ++ noting r) 0
   noted_went none did st = record {
-    book' = with_work (fed_with Told (r ∷ rs)) book;
-    stands = all_of sizes e2 (with_work (fed_with Told (r ∷ rs)) book) st;
+    book' = with_work (fed_with Noted (r ∷ rs)) book;
+    stands = all_of sizes e2 (with_work (fed_with Noted (r ∷ rs)) book) st;
     did = did_join sizes _ _ _ w w w moves (noting r) first did;
     count = none;
   }

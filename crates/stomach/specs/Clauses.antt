@@ -18,9 +18,9 @@ use Rattle.engine_state.specs.Stands.{Stands, page_of, state_of}
 use Rattle.gullet.specs.Stepping.{Stays}
 
 -- Where this is so with a reading r open, what is done by moves that depend on r, with nothing written, is as said.
-abbrev pub GoesIf : {A : Type 0} → (If : Type 0) → (Does : Sizes → State → Engine → World → World → List Move → A → Type 0) →
+abbrev pub DoesSilentlyIf : {A : Type 0} → (If : Type 0) → (Does : Sizes → State → Engine → World → World → List Move → A → Type 0) →
     (e e' : Engine) → (Page → Reading → List Move) → A → Type 0
-GoesIf If Does e e' moves a = (sizes : Sizes) (w : World) (book : Book) (r : Reading) (rs : List Reading) → Stands sizes e (with_work (r ∷ rs) book) → If →
+DoesSilentlyIf If Does e e' moves a = (sizes : Sizes) (w : World) (book : Book) (r : Reading) (rs : List Reading) → Stands sizes e (with_work (r ∷ rs) book) → If →
     Does sizes (state_of e (with_work (r ∷ rs) book)) e' w w (moves (page_of e book) r) a
 
 -- Where this is so with a reading open above rs, what is done by moves that depend on rs, with this written, is as said.
@@ -29,7 +29,7 @@ abbrev pub DoesIf : {A : Type 0} → (If : Type 0) → (Does : Sizes → State �
 DoesIf If Does e e' before after moves a = (sizes : Sizes) (f : FilesTold) (book : Book) (r : Reading) (rs : List Reading) → Stands sizes e (with_work (r ∷ rs) book) → If →
     Does sizes (state_of e (with_work (r ∷ rs) book)) e' (world_of f before e) (world_of f after e') (moves (page_of e book) rs) a
 
--- Where a command's result is out of bounds, whatever location l it is for, what is done, with this written, is as said.
+-- Where a command has no result, as it was out of bounds, what is done for it, with this written, is as said, whatever location l it was for.
 abbrev pub Overflows : {A : Type 0} → (Does : Sizes → State → Engine → World → World → List Move → A → Type 0) →
     (e e' : Engine) → (before after : SinkTold) → Call → A → Type 0
 Overflows Does e e' before after call a = (sizes : Sizes) (f : FilesTold) (book : Book) (r : Reading) (rs : List Reading) (l : Loc) → Stands sizes e (with_work (r ∷ rs) book) →

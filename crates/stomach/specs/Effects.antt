@@ -12,7 +12,7 @@ use Rattle.rows.specs.declared.command.Call.{Call}
 use Rattle.rows.specs.declared.command.Effect.{Effect}
 use Rattle.rows.specs.declared.command.Effect.TheVariants as effect
 use Rattle.plain_machine.specs.States.{Move, Set, Assigned, KeptForAssignment}
-use Rattle.plain_machine.specs.Plan.{Page, is_global, assigned, behind_assignment, kept_for_group, short_meaning, shown, standing_shown, value_shown, put_one, put_characters, marked, meaning_characters, style_of}
+use Rattle.plain_machine.specs.Plan.{Page, is_global, assigned, behind_assignment, kept_for_group, short_meaning, shown, location_shown, value_shown, put_one, put_characters, marked, meaning_characters, style_of}
 
 -- what is put in front
 abbrev pub put_by : Page → Effect → List Move
@@ -28,7 +28,7 @@ put_by page e = []
 -- what is done alone, where no token is obeyed and none expanded, nothing is computed, no list put in front, and no conditional goes on
 abbrev pub done_alone : Page → Call → Effect → List Move
 done_alone page c (effect.Show x) = shown page x
-done_alone page c (effect.ShowValue l) = standing_shown page l
+done_alone page c (effect.ShowValue l) = location_shown page l
 done_alone page c (effect.ShowNumber n) = value_shown page (whole_number n) []
 done_alone page c (effect.Let n x) = assigned page (Assigned (is_global page c) n (meaning_to_let page.now.meanings x))
 done_alone page c (effect.FutureLet n x y) = put_one y.token ++ (put_one x.token ++ assigned page (Assigned (is_global page c) n (meaning_to_let page.now.meanings y)))

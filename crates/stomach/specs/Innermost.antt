@@ -4,7 +4,7 @@ use Rattle.plain_readings.specs.Readings.{Reading}
 use Rattle.rows.specs.declared.command.Effect.TheVariants as effect
 use Rattle.reading_frames.specs.Views.{IsFetchedAt, Lists}
 use Rattle.reading_frames.specs.Stack.{asked_in, asked_of, asks_in}
-use Rattle.reading_frames.specs.Stands as frames
+use Rattle.reading_frames.specs.Frames as frames
 use Rattle.reading_frames.specs.declared.ask.Ask.{Ask}
 use Rattle.reading_frames.specs.declared.ask.Ask.TheVariants as asks
 use Rattle.engine_state.specs.declared.engine.Engine.{Engine}
@@ -18,13 +18,13 @@ abbrev pub AsksFor : Engine → Option Ask → Type 0
 AsksFor e a = (held : Lists) → asked_of held a ≡ asks_in e.readings.frames held
 
 -- and so it is with the reading for which it stands
-abbrev pub StandsAsking : Engine → Option Ask → Type 0
-StandsAsking e a = (held : Lists) (work : List Reading) → frames.FramesStand e.readings.frames held work → asked_of held a ≡ asked_in work
+abbrev pub ReadingsAsk : Engine → Option Ask → Type 0
+ReadingsAsk e a = (held : Lists) (work : List Reading) → frames.AreFramesOf e.readings.frames held work → asked_of held a ≡ asked_in work
 
 -- none is open, or the innermost asks for this
 pub record IsAsked (e : Engine) (a : Option Ask) : Type 0 where
   pub asks : AsksFor e a
-  pub stands : StandsAsking e a
+  pub stands : ReadingsAsk e a
   pub found : IfSome a (λ x. IsFetchedAt x)
 
 -- the innermost reading: a call, where one gathers its arguments, and else the innermost frame

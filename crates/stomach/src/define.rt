@@ -11,7 +11,7 @@ ghost use Rattle.engine_state.specs.Clauses.{CutsAtReading};
 ghost use Rattle.engine_state.specs.CutReadings.{CutsIn};
 ghost use Rattle.engine_state.specs.Rules.{Went};
 ghost use Rattle.engine_state.specs.Steps.{asked, weight};
-ghost use Rattle.stomach.specs.Clauses.{GoesIf};
+ghost use Rattle.stomach.specs.Clauses.{DoesSilentlyIf};
 
 use crate::effects::is_global;
 use engine_state::{Broken, Engine};
@@ -32,7 +32,7 @@ pub(crate) fn has_token(engine: &Engine, listed: bool) -> bool
 fn assign_macro(engine: &mut Engine, call: Call, name: Name) -> Result<(), Full>
     requires some { engine.old.input.builds ≢ [] }
     requires token { top_list engine.old.input.builds ≢ [] }
-    ensures rule { OnOk result (GoesIf (innermost_count engine.old.readings.frames ≡ 1) Went engine.old engine.new (λ page _. Defined (plain_global page call) name call.long call.outer (top_list engine.old.input.builds) ∷ []) 0) }
+    ensures rule { OnOk result (DoesSilentlyIf (innermost_count engine.old.readings.frames ≡ 1) Went engine.old engine.new (λ page _. Defined (plain_global page call) name call.long call.outer (top_list engine.old.input.builds) ∷ []) 0) }
     ensures err { IfErr result (λ full. CutsAtReading engine.old engine.new (λ page _. Defined (plain_global page call) name call.long call.outer (top_list engine.old.input.builds) ∷ []) (broken.Full full)) }
     ensures light { OnOk result (engine.old.input.call ≡ NotCalling → asks_in engine.old.readings.frames [] ≡ Some (Defines call name []) → weight engine.new < weight engine.old) }
     ensures call { engine.new.input.call ≡ engine.old.input.call }
@@ -62,8 +62,8 @@ pub(crate) fn define(
     listed: bool,
 ) -> Result<(), Broken>
     requires idle { engine.old.input.making ≡ None }
-    ensures rule { OnOk result (GoesIf (asked engine.old ≡ Some (Defines call name (kept_list_of listed engine.old.input.builds))) Went engine.old engine.new (λ page _. macro_defined page call name (kept_list_of listed engine.old.input.builds)) 0) }
-    ensures err { IfErr result (GoesIf (asked engine.old ≡ Some (Defines call name (kept_list_of listed engine.old.input.builds))) CutsIn engine.old engine.new (λ page _. macro_defined page call name (kept_list_of listed engine.old.input.builds))) }
+    ensures rule { OnOk result (DoesSilentlyIf (asked engine.old ≡ Some (Defines call name (kept_list_of listed engine.old.input.builds))) Went engine.old engine.new (λ page _. macro_defined page call name (kept_list_of listed engine.old.input.builds)) 0) }
+    ensures err { IfErr result (DoesSilentlyIf (asked engine.old ≡ Some (Defines call name (kept_list_of listed engine.old.input.builds))) CutsIn engine.old engine.new (λ page _. macro_defined page call name (kept_list_of listed engine.old.input.builds))) }
     ensures light { OnOk result (engine.old.input.call ≡ NotCalling → asks_in engine.old.readings.frames [] ≡ Some (Defines call name []) → weight engine.new < weight engine.old) }
     ensures column { engine.new.in_line ≡ engine.old.in_line }
     ensures idle { OnOk result (engine.new.input.making ≡ None) }

@@ -12,7 +12,7 @@ ghost use Rattle.rows.specs.declared.command.Effect.TheVariants as effects;
 ghost use Rattle.reading_frames.specs.Stack.{asks_in};
 ghost use Rattle.reading_frames.specs.Weights.{IsEnd};
 ghost use Rattle.plain_machine.specs.States.{Set, Assigned};
-ghost use Rattle.plain_machine.specs.Plan.{acts, acts_above, is_global as plain_global, marked as plain_marked, put_one, short_meaning as plain_short, standing_shown};
+ghost use Rattle.plain_machine.specs.Plan.{acts, acts_above, is_global as plain_global, marked as plain_marked, put_one, short_meaning as plain_short, location_shown};
 ghost use Rattle.engine_state.specs.Book.{Book};
 ghost use Rattle.engine_state.specs.Clauses.{Still, MakesMoves, CutsMoves, CutsWritingWhere, DoesAtReading, HoldsLists, WritesWhere};
 ghost use Rattle.engine_state.specs.Making.{IsInFront};
@@ -251,8 +251,8 @@ fn set_glue(engine: &mut Engine, loc: Loc, glue: Glue, global: bool) -> Result<(
 /// # Errors
 /// A write failed or wanted memory: a front of the text was written.
 fn show_value<S: Sink>(engine: &mut Engine, out: &mut S, loc: Loc) -> Result<(), Broken>
-    ensures did { OnOk result (IsThere loc → WritesWhere HoldsLists engine.old engine.new (S.told out.old) (S.told out.new) (λ page. standing_shown page loc)) }
-    ensures err { IfErr result (λ b. CutsWritingWhere HoldsLists engine.old engine.new (S.told out.old) (S.told out.new) (λ page. standing_shown page loc) b) }
+    ensures did { OnOk result (IsThere loc → WritesWhere HoldsLists engine.old engine.new (S.told out.old) (S.told out.new) (λ page. location_shown page loc)) }
+    ensures err { IfErr result (λ b. CutsWritingWhere HoldsLists engine.old engine.new (S.told out.old) (S.told out.new) (λ page. location_shown page loc) b) }
     ensures only { engine.new ≡ record engine.old { in_line = engine.new.in_line; flawed = engine.new.flawed } }
     ensures frames { SameFrames engine.old engine.new }
 {

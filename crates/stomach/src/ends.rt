@@ -8,11 +8,11 @@ ghost use Rattle.rows.specs.Readings.{Inner, Done};
 ghost use Rattle.reading_frames.specs.Stack.{asks_in};
 ghost use Rattle.reading_frames.specs.Weights.{IsReported};
 ghost use Rattle.plain_machine.specs.States.{Assigned, MagnificationSet};
-ghost use Rattle.plain_machine.specs.Plan.{inner_begun, done as plan_done, is_global as plain_global, is_magnification as plain_magnification, magnification_checked, magnification_set, noting, put_one, reported, told};
+ghost use Rattle.plain_machine.specs.Plan.{inner_begun, done as plan_done, is_global as plain_global, is_magnification as plain_magnification, magnification_checked, magnification_set, noting, put_one, reported, report_noted};
 ghost use Rattle.engine_state.specs.Clauses.{GoesAtReading, CutsAtReading};
 ghost use Rattle.engine_state.specs.Rules.{Went};
 ghost use Rattle.engine_state.specs.Steps.{asked, weight, IsFree, IsStep};
-ghost use Rattle.stomach.specs.Clauses.{GoesIf};
+ghost use Rattle.stomach.specs.Clauses.{DoesSilentlyIf};
 ghost use Rattle.stomach.specs.Halting.{DoesRuleAtReading, CutsRuleAtReading};
 ghost use Rattle.input_state.specs.Callings.{NotCalling};
 
@@ -20,7 +20,7 @@ use crate::effects::{give_meaning, is_global, set_number};
 use engine_state::{Broken, Engine, Ruled};
 use equivalents::Loc;
 use reading_frames::Opening;
-use rows::{Call, Kind, Value};
+use rows::{Call, Phrase, Value};
 use tex_defs::{Fatal, Meaning, Name, Token};
 use tex_syntax::{Outcome, Report};
 use world_io::Sink;
@@ -38,15 +38,15 @@ const TRUE_SIZE: u16 = 1000;
 ///
 /// # Errors
 /// There is no room for one more reading, or for its list: nothing has changed.
-pub(crate) fn begin_inner(engine: &mut Engine, kind: Kind, begins: bool) -> Result<(), Broken>
+pub(crate) fn begin_inner(engine: &mut Engine, kind: Phrase, begins: bool) -> Result<(), Broken>
     requires uncalled { engine.old.input.call ≡ NotCalling }
-    ensures rule { OnOk result (GoesIf (asked engine.old ≡ Some (Inner kind begins)) Went engine.old engine.new (λ _ _. inner_begun (Reads kind) begins) 0) }
+    ensures rule { OnOk result (DoesSilentlyIf (asked engine.old ≡ Some (Inner kind begins)) Went engine.old engine.new (λ _ _. inner_begun (Reads kind) begins) 0) }
     ensures err { IfErr result (λ b. CutsAtReading engine.old engine.new (λ _ _. inner_begun (Reads kind) begins) b) }
     ensures light { OnOk result (asks_in engine.old.readings.frames [] ≡ Some (Inner kind begins) → weight engine.new < weight engine.old) }
     ensures column { engine.new.in_line ≡ engine.old.in_line }
     ensures idle { engine.new.input.making ≡ engine.old.input.making }
 {
-    if let Kind::Command(_) = kind {
+    if let Phrase::Command(_) = kind {
         // What asks for a command within it is the frame of no reading: it ends.
         engine.close_reading();
         return Ok(());
@@ -67,7 +67,7 @@ pub(crate) fn begin_inner(engine: &mut Engine, kind: Kind, begins: bool) -> Resu
 pub(crate) fn done(engine: &mut Engine, value: Value, back: bool) -> Result<(), Broken>
     requires idle { engine.old.input.making ≡ None }
     requires uncalled { engine.old.input.call ≡ NotCalling }
-    ensures rule { OnOk result (GoesIf (asked engine.old ≡ Some (Done value back)) Went engine.old engine.new (λ page r. plan_done page r value back) 0) }
+    ensures rule { OnOk result (DoesSilentlyIf (asked engine.old ≡ Some (Done value back)) Went engine.old engine.new (λ page r. plan_done page r value back) 0) }
     ensures err { IfErr result (λ b. CutsAtReading engine.old engine.new (λ page r. plan_done page r value back) b) }
     ensures light { OnOk result (asks_in engine.old.readings.frames [] ≡ Some (Done value back) → weight engine.new < weight engine.old) }
     ensures column { engine.new.in_line ≡ engine.old.in_line }
@@ -91,8 +91,8 @@ pub(crate) fn tell<S: Sink>(
 ) -> Result<Ruled, Broken>
     requires idle { engine.old.input.making ≡ None }
     requires uncalled { engine.old.input.call ≡ NotCalling }
-    ensures rule { IfOk result (λ ruled. DoesRuleAtReading engine.old engine.new (S.told out.old) (S.told out.new) (λ page r. told page report inserted back r) ruled) }
-    ensures err { IfErr result (λ b. CutsRuleAtReading engine.old engine.new (S.told out.old) (S.told out.new) (λ page r. told page report inserted back r) b) }
+    ensures rule { IfOk result (λ ruled. DoesRuleAtReading engine.old engine.new (S.told out.old) (S.told out.new) (λ page r. report_noted page report inserted back r) ruled) }
+    ensures err { IfErr result (λ b. CutsRuleAtReading engine.old engine.new (S.told out.old) (S.told out.new) (λ page r. report_noted page report inserted back r) b) }
     ensures step { IfOk result (λ ruled. IsStep ruled → ⊥) }
     ensures light { IfOk result (λ ruled. IsFree ruled → IsReported (asks_in engine.old.readings.frames []) → weight engine.new < weight engine.old) }
     ensures idle { OnOk result (engine.new.input.making ≡ None) }

@@ -31,7 +31,6 @@ impl Innermost {
     {
         match engine.input.call() {
             Some(call) => *self = Innermost::Call(call),
-            // Each case by itself: the frequent ones are a few bytes, and the answer isn't copied whole.
             None if engine.readings.count() == 0 => *self = Innermost::Frame(None),
             None => match engine.readings.body_want() {
                 Some(want) => *self = Innermost::Frame(Some(Ask::More(want))),
@@ -41,6 +40,7 @@ impl Innermost {
     }
 
     /// Becomes the innermost frame of an engine, by what it asks for.
+    // Each case by itself: the frequent ones are a few bytes, and the answer isn't copied whole.
     fn ask(&mut self, engine: &Engine)
         requires uncalled { engine.now.input.call ≡ NotCalling }
         ensures is { IsInnermost engine.now self.new }

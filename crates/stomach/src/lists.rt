@@ -17,7 +17,7 @@ ghost use Rattle.engine_state.specs.Stands.{Stands, SameFrames};
 ghost use Rattle.engine_state.specs.Rules.{Went};
 ghost use Rattle.engine_state.specs.Steps.{asked, weight};
 ghost use Rattle.rows.specs.Suiting.{IsThere, TakesList};
-ghost use Rattle.stomach.specs.Clauses.{GivesList, GoesIf};
+ghost use Rattle.stomach.specs.Clauses.{GivesList, DoesSilentlyIf};
 ghost use Rattle.input_state.specs.Callings.{NotCalling};
 
 use crate::define::has_token;
@@ -92,7 +92,7 @@ pub(crate) fn give_list(engine: &mut Engine, loc: Loc) -> Result<(), Broken>
 fn assign_list(engine: &mut Engine, call: Call, loc: Loc) -> Result<(), Full>
     requires some { engine.old.input.builds ≢ [] }
     requires token { top_list engine.old.input.builds ≢ [] }
-    ensures rule { OnOk result (TakesList loc → GoesIf (innermost_count engine.old.readings.frames ≡ 1) Went engine.old engine.new (λ page _. ListSet (plain_global page call) loc (top_list engine.old.input.builds) ∷ []) 0) }
+    ensures rule { OnOk result (TakesList loc → DoesSilentlyIf (innermost_count engine.old.readings.frames ≡ 1) Went engine.old engine.new (λ page _. ListSet (plain_global page call) loc (top_list engine.old.input.builds) ∷ []) 0) }
     ensures err { IfErr result (λ full. CutsAtReading engine.old engine.new (λ page _. ListSet (plain_global page call) loc (top_list engine.old.input.builds) ∷ []) (broken.Full full)) }
     ensures light { OnOk result (engine.old.input.call ≡ NotCalling → (a : Ask) → asks_in engine.old.readings.frames [] ≡ Some a → IsEnd a → weight engine.new < weight engine.old) }
     ensures call { engine.new.input.call ≡ engine.old.input.call }
@@ -143,8 +143,8 @@ pub(crate) fn set_list(
     listed: bool,
 ) -> Result<(), Broken>
     requires idle { engine.old.input.making ≡ None }
-    ensures rule { OnOk result (TakesList loc → GoesIf (asked engine.old ≡ Some (ActsOn call (effects.SetList loc) (kept_list_of listed engine.old.input.builds))) Went engine.old engine.new (λ page _. list_set page call loc (kept_list_of listed engine.old.input.builds)) 0) }
-    ensures err { IfErr result (λ b. TakesList loc → GoesIf (asked engine.old ≡ Some (ActsOn call (effects.SetList loc) (kept_list_of listed engine.old.input.builds))) CutsIn engine.old engine.new (λ page _. list_set page call loc (kept_list_of listed engine.old.input.builds)) b) }
+    ensures rule { OnOk result (TakesList loc → DoesSilentlyIf (asked engine.old ≡ Some (ActsOn call (effects.SetList loc) (kept_list_of listed engine.old.input.builds))) Went engine.old engine.new (λ page _. list_set page call loc (kept_list_of listed engine.old.input.builds)) 0) }
+    ensures err { IfErr result (λ b. TakesList loc → DoesSilentlyIf (asked engine.old ≡ Some (ActsOn call (effects.SetList loc) (kept_list_of listed engine.old.input.builds))) CutsIn engine.old engine.new (λ page _. list_set page call loc (kept_list_of listed engine.old.input.builds)) b) }
     ensures light { OnOk result (engine.old.input.call ≡ NotCalling → (a : Ask) → asks_in engine.old.readings.frames [] ≡ Some a → IsEnd a → weight engine.new < weight engine.old) }
     ensures column { engine.new.in_line ≡ engine.old.in_line }
     ensures idle { OnOk result (engine.new.input.making ≡ None) }

@@ -15,7 +15,7 @@ ghost use Rattle.input_state.specs.Callings.{NotCalling};
 use engine_state::{Broken, Engine, Last, Ruled};
 use gullet::call_of;
 use reading_frames::Opening;
-use rows::{Head, Kind, find_row};
+use rows::{Head, Phrase, find_row};
 use save_stack::GroupKind;
 use tex_defs::{Meaning, RegisterKind, Seen, Token};
 use tex_syntax::{Report, Want};
@@ -123,7 +123,7 @@ fn begin_row(engine: &mut Engine, token: Token, head: Head) -> Result<Ruled, Bro
     ensures call { OnOk result (engine.new.input.call ≡ engine.old.input.call) }
     ensures idle { OnOk result (engine.new.input.making ≡ None) }
 {
-    engine.begin(Opening::Reads(Kind::Command(call_of(token, head))))?;
+    engine.begin(Opening::Reads(Phrase::Command(call_of(token, head))))?;
     Ok(Ruled::Step)
 }
 

@@ -5,7 +5,7 @@ ghost use Rattle.plain_readings.specs.Readings.{Reading};
 ghost use Rattle.rows.specs.Readings.{ActsOn};
 ghost use Rattle.reading_frames.specs.Views.{IsFetchedAt, Lists, kept_list_of};
 ghost use Rattle.reading_frames.specs.Stack.{asked_in, asked_of, asks_in};
-ghost use Rattle.reading_frames.specs.Stands as frames;
+ghost use Rattle.reading_frames.specs.Frames as frames;
 ghost use Rattle.plain_machine.specs.Plan.{acts_on, reported_as};
 ghost use Rattle.plain_machine.specs.States.{Closed};
 ghost use Rattle.input_state.specs.Reads.{gives_step};
@@ -119,7 +119,7 @@ fn ask_rule<S: Sink>(engine: &mut Engine, out: &mut S, ask: Ask) -> Result<Ruled
     requires uncalled { engine.old.input.call ≡ NotCalling }
     requires running { engine.old.stopped ≡ false }
     requires asks { (held : Lists) → asked_of held (Some ask) ≡ asks_in engine.old.readings.frames held }
-    requires stands { (held : Lists) (work : List Reading) → frames.FramesStand engine.old.readings.frames held work → asked_of held (Some ask) ≡ asked_in work }
+    requires stands { (held : Lists) (work : List Reading) → frames.AreFramesOf engine.old.readings.frames held work → asked_of held (Some ask) ≡ asked_in work }
     requires found { IsFetchedAt ask }
     ensures light { IfOk result (λ ruled. IsFree ruled → weight engine.new < weight engine.old) }
     ensures step { IfOk result (λ ruled. StepsIf ruled (stepping engine.old)) }

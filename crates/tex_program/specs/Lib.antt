@@ -1,3 +1,4 @@
+pub mod Clauses
 pub mod Named
 pub mod Says
 pub mod Tells

@@ -1,21 +1,15 @@
 // The run of a job, and what is told of it.
-ghost use Rattle.std.specs.Prelude.{◌≡◌, ◌≤◌, ◌<◌, ℕ, List, [], Some, None, false, true};
+ghost use Rattle.std.specs.Prelude.{◌≡◌, ◌≤◌, ◌<◌, [], None, false, true};
 ghost use Rattle.tex_defs.specs.Places.{Rose};
-ghost use Rattle.tex_defs.specs.declared.Sizes.{Sizes};
-ghost use Rattle.plain_machine.specs.States.{State};
-ghost use Rattle.plain_machine.specs.Does.{CutAt};
-ghost use Rattle.plain_machine.specs.Meaning.{First, MeansRun};
-ghost use Rattle.world_io.specs.Contents.{FilesTold, world};
 ghost use Rattle.world_io.specs.declared.traits.Fault.TheVariants.{Failed};
 ghost use Rattle.stomach.specs.Ran.{UnreadBy, StoppedBy};
-ghost use Rattle.stomach.specs.Read.{ReadsTo, AreTied};
+ghost use Rattle.stomach.specs.Read.{ReadsTo};
 ghost use Rattle.line_reader.specs.Readers.{AreOpen};
 ghost use Rattle.plain_tokens.specs.Pending.{bottom};
-ghost use Rattle.plain_machine.specs.Extended.{Rests, first_left};
 ghost use Rattle.stomach.specs.declared.early.Early.TheVariants.{Unread};
-ghost use Rattle.tex_program.specs.Says.{SaysSo, ReadAlike, HasReadCause, end_status};
-ghost use Rattle.tex_program.specs.Named.{Named, Opened};
-ghost use Rattle.engine_state.specs.Faults.{why_of};
+ghost use Rattle.tex_program.specs.Clauses.{TellsCut, TellsStop, TellsRun, TellsUnheld, MeansFile, TellsWriteFault};
+ghost use Rattle.tex_program.specs.Says.{end_status};
+ghost use Rattle.tex_program.specs.Named.{Named};
 ghost use Rattle.engine_state.specs.First.{Begins};
 ghost use Rattle.engine_state.specs.declared.engine.Engine.{Engine};
 
@@ -36,7 +30,7 @@ pub struct RunEnd {
 
 /// Tells of a run that was cut off.
 fn tell_broken<S: Sink>(out: &mut S, in_line: bool, broken: Broken) -> RunEnd
-    ensures says { (sizes : Sizes) (f : FilesTold) (s t : State) (n : ℕ) (w : _) → CutAt sizes s n t w (world f (S.told out.old) in_line) (why_of broken) → SaysSo sizes s n w (world f (S.told out.new) result.in_line) result.status }
+    ensures says { TellsCut (S.told out.old) (S.told out.new) in_line broken result }
     ensures no_read { result.status ≡ 5 → ⊥ }
     ensures not_usage { result.status ≡ 9 → ⊥ }
 {
@@ -58,8 +52,7 @@ fn tell_broken<S: Sink>(out: &mut S, in_line: bool, broken: Broken) -> RunEnd
 
 /// Tells that something of the files was needed and didn't come.
 fn tell_unread<S: Sink>(out: &mut S, in_line: bool, fault: Fault) -> RunEnd
-    ensures says { (sizes : Sizes) (f : FilesTold) (s : State) (n : ℕ) (w : _) (e : Engine) (left : Rests) → UnreadBy sizes s n e left w (world f (S.told out.old) in_line) →
-        HasReadCause (Unread fault) w (world f (S.told out.old) in_line) → SaysSo sizes s n w (world f (S.told out.new) result.in_line) result.status }
+    ensures says { TellsStop UnreadBy (Unread fault) (S.told out.old) (S.told out.new) in_line result }
     ensures read_fault { result.status ≡ 5 → fault ≡ Failed }
     ensures not_usage { result.status ≡ 9 → ⊥ }
 {
@@ -77,8 +70,7 @@ fn tell_unread<S: Sink>(out: &mut S, in_line: bool, fault: Fault) -> RunEnd
 
 /// Tells of a run that stopped early.
 fn tell_early<S: Sink>(out: &mut S, in_line: bool, early: Early) -> RunEnd
-    ensures says { (sizes : Sizes) (f : FilesTold) (s : State) (n : ℕ) (w : _) (e : Engine) (left : Rests) → StoppedBy sizes s n e left w (world f (S.told out.old) in_line) early →
-        HasReadCause early w (world f (S.told out.old) in_line) → SaysSo sizes s n w (world f (S.told out.new) result.in_line) result.status }
+    ensures says { TellsStop (λ sizes s n e left w w'. StoppedBy sizes s n e left w w' early) early (S.told out.old) (S.told out.new) in_line result }
     ensures read_fault { result.status ≡ 5 → early ≡ Unread Failed }
     ensures not_usage { result.status ≡ 9 → ⊥ }
 {
@@ -110,8 +102,7 @@ fn run_engine<F: Files, S: Sink>(
     requires idle { engine.old.input.making ≡ None }
     requires running { engine.old.stopped ≡ false }
     requires open { AreOpen readers.old.readers (F.told files.old) }
-    ensures says { ReadsTo readers.old.readers readers.new.readers (F.told files.old) (F.told files.new) (λ all left. (sizes : Sizes) (f f' : FilesTold) (quiet : _) (file : List ℕ) → ReadAlike (F.told files.old) (F.told files.new) f f' → Opened sizes engine.old quiet file → AreTied readers.old engine.old →
-        SaysSo sizes (First quiet file (Some (first_left all.left)) all.files) steps (world f (S.told out.old) false) (world f' (S.told out.new) result.in_line) result.status) }
+    ensures says { ReadsTo readers.old.readers readers.new.readers (F.told files.old) (F.told files.new) (λ all left. TellsRun readers.old engine.old (F.told files.old) (F.told files.new) (S.told out.old) (S.told out.new) steps result all) }
     ensures open { AreOpen readers.new.readers (F.told files.new) }
     ensures read_fault { result.status ≡ 5 → Rose (F.told files.old).read_faults (F.told files.new).read_faults }
     ensures not_usage { result.status ≡ 9 → ⊥ }
@@ -131,7 +122,7 @@ fn run_engine<F: Files, S: Sink>(
 
 /// Ends the job of a file that isn't held, by an engine that has kept the job's name.
 fn refuse_engine<S: Sink>(engine: &mut Engine, file: &[u8], out: &mut S) -> RunEnd
-    ensures says { (sizes : Sizes) (f : FilesTold) (quiet : _) (all : _) (n : ℕ) → Named sizes engine.old quiet file.now → SaysSo sizes (First quiet file.now None all) n (world f (S.told out.old) false) (world f (S.told out.new) result.in_line) result.status }
+    ensures says { TellsUnheld engine.old file.now (S.told out.old) (S.told out.new) result }
     ensures no_read { result.status ≡ 5 → ⊥ }
     ensures not_usage { result.status ≡ 9 → ⊥ }
 {
@@ -159,10 +150,9 @@ fn run_named<F: Files, S: Sink>(
     requires levels { 0 < engine.old.input.sizes.text_input_levels }
     requires room { engine.old.input.sizes.text_input_levels ≤ readers.old.most }
     requires none { readers.old.readers ≡ [] }
-    ensures means { (sizes : Sizes) (quiet : _) → Named sizes engine.old quiet file.now →
-        MeansRun sizes quiet file.now (F.told files.old).file steps (world (F.told files.old) (S.told out.old) false) (world (F.told files.new) (S.told out.new) result.in_line) result.status }
+    ensures means { MeansFile (λ sizes quiet. Named sizes engine.old quiet file.now) file.now (F.told files.old) (F.told files.new) (S.told out.old) (S.told out.new) steps result }
     ensures read_fault { result.status ≡ 5 → Rose (F.told files.old).read_faults (F.told files.new).read_faults }
-    ensures write_fault { (sizes : Sizes) (quiet : _) → Named sizes engine.old quiet file.now → result.status ≡ 6 → Rose (S.told out.old).faults (S.told out.new).faults }
+    ensures write_fault { TellsWriteFault (λ sizes quiet. Named sizes engine.old quiet file.now) (S.told out.old) (S.told out.new) result }
     ensures not_usage { result.status ≡ 9 → ⊥ }
 {
     match readers.open(files, file) {
@@ -199,10 +189,9 @@ pub fn run_file<F: Files, S: Sink>(
     requires levels { 0 < engine.old.input.sizes.text_input_levels }
     requires room { engine.old.input.sizes.text_input_levels ≤ readers.old.most }
     requires none { readers.old.readers ≡ [] }
-    ensures means { (sizes : Sizes) (quiet : _) → Begins sizes engine.old quiet →
-        MeansRun sizes quiet file.now (F.told files.old).file steps (world (F.told files.old) (S.told out.old) false) (world (F.told files.new) (S.told out.new) result.in_line) result.status }
+    ensures means { MeansFile (λ sizes quiet. Begins sizes engine.old quiet) file.now (F.told files.old) (F.told files.new) (S.told out.old) (S.told out.new) steps result }
     ensures read_fault { result.status ≡ 5 → Rose (F.told files.old).read_faults (F.told files.new).read_faults }
-    ensures write_fault { (sizes : Sizes) (quiet : _) → Begins sizes engine.old quiet → result.status ≡ 6 → Rose (S.told out.old).faults (S.told out.new).faults }
+    ensures write_fault { TellsWriteFault (λ sizes quiet. Begins sizes engine.old quiet) (S.told out.old) (S.told out.new) result }
     ensures not_usage { result.status ≡ 9 → ⊥ }
 {
     if let Err(broken) = engine.keep_name(job_name(file)) {

@@ -21,14 +21,14 @@ pub record FilesTold : Type 0 where
   pub write_faults : ℕ
   pub wants : ℕ
 
-abbrev pub stands_at : FilesTold → SinkTold → Place → File
-stands_at f s Transcript = s.bytes
-stands_at f s (OfFile n) = f.file n
+abbrev pub content_at : FilesTold → SinkTold → Place → File
+content_at f s Transcript = s.bytes
+content_at f s (OfFile n) = f.file n
 
 -- the world of these files and this sink
 abbrev pub world : FilesTold → SinkTold → Bool → World
 world f s in_line = record {
-  at = stands_at f s;
+  at = content_at f s;
   in_line = in_line;
   read_faults = f.read_faults;
   file_faults = f.write_faults;
@@ -63,11 +63,6 @@ pub record Grew (name bytes : List ℕ) (f f' : FilesTold) : Type 0 where
   pub reading : (i : ℕ) → f'.reading i ≡ f.reading i
   pub rest : (i : ℕ) → f'.rest i ≡ f.rest i
   pub writer : (i : ℕ) → f'.writer i ≡ f.writer i
-
--- the first bytes of these were written, and nothing else has changed
-pub record GrewFront (name bytes : List ℕ) (f f' : FilesTold) : Type 0 where
-  pub count : ℕ
-  pub grew : Grew name (take count bytes) f f'
 
 -- these are the bytes of the file of this name, and nothing else has changed
 pub record Puts (name bytes : List ℕ) (f f' : FilesTold) : Type 0 where

@@ -17,7 +17,7 @@ use Rattle.engine_state.specs.declared.engine.Engine.{Engine}
 use Rattle.engine_state.proofs.Uncalled.{all_of}
 use Rattle.engine_state.proofs.Counting.{counts_of}
 use Rattle.engine_state.proofs.Joining.{on_ok, same_err, skip_onward, went_by}
-use Rattle.engine_state.proofs.Standing.{same_engine}
+use Rattle.engine_state.proofs.AtLocations.{same_engine}
 use Rattle.gullet.proofs.CallBeginning.{at_once_has, gathers_has, none_stays, gathers_stays, called_none, called_went, called_cuts, begun_went, begun_cuts, on_both, if_both}
 use Rattle.gullet.proofs.CallWeighing.{on_err, on_err_to}
 use Rattle.gullet.proofs.CallsIn.{first_asks}

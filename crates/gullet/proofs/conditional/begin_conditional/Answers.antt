@@ -1,7 +1,7 @@
 use Rattle.std.proofs.Common.{◌≡◌, ◌+◌, ◌≤◌, [], ◌∷◌, sym, ap, ◌∙◌, subst, arith, drop}
 use Rattle.conditionals.specs.Open.{constant_test}
 use Rattle.plain_tokens.specs.Pending.{Pending}
-use Rattle.rows.specs.declared.words.Kind.TheVariants.{Command}
+use Rattle.rows.specs.declared.words.Phrase.TheVariants.{Command}
 use Rattle.plain_readings.specs.Readings.{Reading, Reads, opened}
 use Rattle.plain_readings.specs.Weights.{act_weight}
 use Rattle.reading_frames.specs.Stack.{Stack}

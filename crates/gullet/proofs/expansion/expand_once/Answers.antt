@@ -1,7 +1,7 @@
 use Rattle.std.proofs.Common.{◌≡◌, [], ◌∷◌, refl, sym, ap, subst, ◌∙◌}
 use Rattle.tex_syntax.specs.declared.words.Report.TheVariants.{UndefinedName}
 use Rattle.input_state.specs.Stored.{Stored}
-use Rattle.reading_frames.specs.Views.{kind_of}
+use Rattle.reading_frames.specs.Views.{reading_kind}
 use Rattle.conditionals.specs.Open.{constant_test}
 use Rattle.plain_machine.specs.Plan.{reported, called, input_met, conditional_begun, ender_met, expanded}
 use Rattle.plain_machine.specs.States.{Begun, FileEnds}
@@ -18,7 +18,7 @@ use Rattle.gullet.proofs.ExpandingWeighs.{same_light, begun_light, framed_light}
 use Rattle.engine_state.proofs.Joining.{same_err, went_by, column_went}
 use Rattle.engine_state.proofs.CuttingReadings.{cuts_in, stands_in, column_in, in_by}
 use Rattle.engine_state.proofs.Reporting.{full_out}
-use Rattle.engine_state.proofs.Standing.{same_engine}
+use Rattle.engine_state.proofs.AtLocations.{same_engine}
 use Rattle.gullet.proofs.expansion.expand_once.Goals as goal
 
 pub returns-in_err-ruled-in-Undefined-clause-err : goal.returns-in_err-ruled-in-Undefined-clause-err
@@ -49,7 +49,7 @@ returns-in_ok-call_name-in-Call-clause-rule g c = let e = c.args.engine.now in l
     (column_went sizes (state_of e book) c.call_name.new.engine f _ e.in_line (called (page_of e book) c.in-Call.token) 0 c.call_name.ensures.column (n.ensures.ok sizes _ book st))
 
 pub returns-in_err-begin-in-Begin-clause-err : goal.returns-in_err-begin-in-Begin-clause-err
-returns-in_err-begin-in-Begin-clause-err g c = let e = c.args.engine.now in let n = c.in_err-begin-in-Begin in let k = kind_of c.in-Begin.opening in
+returns-in_err-begin-in-Begin-clause-err g c = let e = c.args.engine.now in let n = c.in_err-begin-in-Begin in let k = reading_kind c.in-Begin.opening in
     same_err c.from_residual-in_err-begin-in-Begin.result (broken.Full n.field-0.0) _ c.from_residual-in_err-begin-in-Begin.ensures.1
     (λ sizes f book moves st.
     in_by sizes (state_of e book) c.begin.new.self _ _ (Begun k ∷ []) (expanded (page_of e book) c.args.seen moves) (broken.Full n.field-0.0) (moves_as (page_of e book) c.args.seen moves c.in-Begin.is (c.expansion_of.ensures.to (page_of e book) moves))
@@ -57,20 +57,20 @@ returns-in_err-begin-in-Begin-clause-err g c = let e = c.args.engine.now in let 
     (same_engine e c.begin.new.self n.ensures.err) st))
 
 pub returns-in_ok-begin-in-Begin-clause-rule : goal.returns-in_ok-begin-in-Begin-clause-rule
-returns-in_ok-begin-in-Begin-clause-rule g c = let e = c.args.engine.now in let n = c.in_ok-begin-in-Begin in let k = kind_of c.in-Begin.opening in
+returns-in_ok-begin-in-Begin-clause-rule g c = let e = c.args.engine.now in let n = c.in_ok-begin-in-Begin in let k = reading_kind c.in-Begin.opening in
     λ sizes f book moves st.
     went_by sizes (state_of e book) c.begin.new.self _ _ (Begun k ∷ []) (expanded (page_of e book) c.args.seen moves) 0 (moves_as (page_of e book) c.args.seen moves c.in-Begin.is (c.expansion_of.ensures.to (page_of e book) moves))
     (expansion_went sizes e c.begin.new.self book f _ k (n.ensures.fits sizes book (counts_of sizes e book st)) (n.ensures.state sizes book st) c.begin.ensures.same.others.in_line (n.ensures.stands sizes book st))
 
 pub returns-in_err-put_job-in-JobName-clause-err : goal.returns-in_err-put_job-in-JobName-clause-err
-returns-in_err-put_job-in-JobName-clause-err g c = let e = c.args.engine.now in let n = c.in_err-put_job-in-JobName in let k = kind_of c.in-JobName.opening in
+returns-in_err-put_job-in-JobName-clause-err g c = let e = c.args.engine.now in let n = c.in_err-put_job-in-JobName in let k = reading_kind c.in-JobName.opening in
     same_err c.from_residual-in_err-put_job-in-JobName.result n.field-0.0 _ c.from_residual-in_err-put_job-in-JobName.ensures.1
     (λ sizes f book moves st.
     in_by sizes (state_of e book) c.put_job.new.engine _ _ (job_moves (page_of e book) k) (expanded (page_of e book) c.args.seen moves) n.field-0.0 (moves_as (page_of e book) c.args.seen moves c.in-JobName.is (c.expansion_of.ensures.to (page_of e book) moves))
     (column_in sizes (state_of e book) c.put_job.new.engine f _ e.in_line (job_moves (page_of e book) k) n.field-0.0 c.put_job.ensures.column (n.ensures.err sizes _ book st)))
 
 pub returns-in_ok-put_job-in-JobName-clause-rule : goal.returns-in_ok-put_job-in-JobName-clause-rule
-returns-in_ok-put_job-in-JobName-clause-rule g c = let e = c.args.engine.now in let n = c.in_ok-put_job-in-JobName in let k = kind_of c.in-JobName.opening in
+returns-in_ok-put_job-in-JobName-clause-rule g c = let e = c.args.engine.now in let n = c.in_ok-put_job-in-JobName in let k = reading_kind c.in-JobName.opening in
     λ sizes f book moves st.
     went_by sizes (state_of e book) c.put_job.new.engine _ _ (job_moves (page_of e book) k) (expanded (page_of e book) c.args.seen moves) 0 (moves_as (page_of e book) c.args.seen moves c.in-JobName.is (c.expansion_of.ensures.to (page_of e book) moves))
     (column_went sizes (state_of e book) c.put_job.new.engine f _ e.in_line (job_moves (page_of e book) k) 0 c.put_job.ensures.column (n.ensures.rule sizes _ book st))

@@ -21,7 +21,7 @@ use Rattle.gullet.proofs.CallsIn.{complete_at}
 use Rattle.engine_state.proofs.Cutting.{cuts_by}
 use Rattle.engine_state.proofs.Joining.{ok_to, err_to, err_both, same_err}
 use Rattle.engine_state.proofs.CuttingReadings.{cuts_in, column_in}
-use Rattle.engine_state.proofs.Standing.{list_frames, same_engine}
+use Rattle.engine_state.proofs.AtLocations.{list_frames, same_engine}
 use Rattle.gullet.proofs.Ending.{no_ok, no_on}
 use Rattle.gullet.proofs.CallWeighing.{call_steps, steps_as_one, free_steps, closed_lighter}
 use Rattle.gullet.proofs.gathering.call_rule.Goals as goal

@@ -10,7 +10,7 @@ use Rattle.gullet.proofs.CallAway.{call_away_full, call_away_rule, call_away_cut
 use Rattle.gullet.proofs.CallEnding.{written_stands, put_stands}
 use Rattle.engine_state.proofs.Counting.{call_counts}
 use Rattle.engine_state.proofs.Joining.{same_err, ok_to, err_to, ok_both}
-use Rattle.engine_state.proofs.Standing.{only_frames, only_input}
+use Rattle.engine_state.proofs.AtLocations.{only_frames, only_input}
 use Rattle.gullet.proofs.Ending.{no_ok, no_on}
 use Rattle.gullet.proofs.CallWeighing.{on_err, on_err_to, frames_join, lighter_by}
 use Rattle.gullet.proofs.gathering.run_away_call.Goals as goal

@@ -2,7 +2,7 @@ use Rattle.std.proofs.Common.{◌≡◌, ◌∷◌, [], refl, sym, ap, subst, �
 use Rattle.std.proofs.lemmas.Grind.{common_steps}
 use Rattle.tex_syntax.specs.declared.words.Outcome.TheVariants.{AtFatal}
 use Rattle.tex_defs.specs.declared.Fatal.TheVariants as fatal
-use Rattle.rows.specs.Readings.{Told}
+use Rattle.rows.specs.Readings.{Noted}
 use Rattle.plain_machine.specs.States.{Feeds}
 use Rattle.input_state.specs.Stored.{Stored}
 use Rattle.input_state.specs.Callings.{call_in}
@@ -36,21 +36,21 @@ returns-in_err-report-clause-err g c = let e = c.args.engine.now in let e1 = c.p
     same_err c.from_residual-in_err-report.result i.field-0.0 _ c.from_residual-in_err-report.ensures.1
     (λ sizes f book r rs st. let W = with_work (r ∷ rs) book in let st1 = put_stands sizes e e1 W p.frames p.others p.store c.in_ok-put_one.ensures.idle st in let st2 = put_stands sizes e1 e2 W q.frames q.others q.store c.in_ok-put_one-2.ensures.idle st1 in
     brace_cuts sizes e e1 e2 f _ c.args.name c.args.engine.now.last book r rs (p.page W) (q.page W) (λ w. c.in_ok-put_one.ensures.did sizes w W (call_counts sizes e W st) st.idle) (λ w. c.in_ok-put_one-2.ensures.did sizes w W (call_counts sizes e1 W st1) st1.idle) c.report.new.self _ i.field-0.0
-    (i.ensures.err sizes f W (Feeds Told ∷ []) st2.sound.sized.few_reports))
+    (i.ensures.err sizes f W (Feeds Noted ∷ []) st2.sound.sized.few_reports))
 
 pub returns-then-not-branch-clause-rule : goal.returns-then-not-branch-clause-rule
 returns-then-not-branch-clause-rule g c = let e = c.args.engine.now in let e1 = c.put_one.new.self in let e2 = c.put_one-2.new.self in let p = c.put_one.ensures in let q = c.put_one-2.ensures in
     let no : c.in_ok-report.field-0 ≡ false = grind (arith, common_steps, c.if-not-branch.true) in
     λ sizes f book r rs st. let W = with_work (r ∷ rs) book in let st1 = put_stands sizes e e1 W p.frames p.others p.store c.in_ok-put_one.ensures.idle st in let st2 = put_stands sizes e1 e2 W q.frames q.others q.store c.in_ok-put_one-2.ensures.idle st1 in
     brace_halts sizes e e1 e2 f _ c.args.name c.args.engine.now.last book r rs (p.page W) (q.page W) (λ w. c.in_ok-put_one.ensures.did sizes w W (call_counts sizes e W st) st.idle) (λ w. c.in_ok-put_one-2.ensures.did sizes w W (call_counts sizes e1 W st1) st1.idle) c.report.new.self _ (AtFatal fatal.HundredErrors)
-    (c.in_ok-report.ensures.last no sizes f W (Feeds Told ∷ []))
+    (c.in_ok-report.ensures.last no sizes f W (Feeds Noted ∷ []))
 
 pub returns-clause-rule : goal.returns-clause-rule
 returns-clause-rule g c = let e = c.args.engine.now in let e1 = c.put_one.new.self in let e2 = c.put_one-2.new.self in let e3 = c.report.new.self in let p = c.put_one.ensures in let q = c.put_one-2.ensures in let t = c.report.ensures in
     let yes : c.in_ok-report.field-0 ≡ true = grind (arith, common_steps, c.if-not-branch.false) in
     λ sizes f book r rs st. let W = with_work (r ∷ rs) book in let st1 = put_stands sizes e e1 W p.frames p.others p.store c.in_ok-put_one.ensures.idle st in let st2 = put_stands sizes e1 e2 W q.frames q.others q.store c.in_ok-put_one-2.ensures.idle st1 in
     brace_went sizes e e1 e2 f _ c.args.name c.args.engine.now.last book r rs (p.page W) (q.page W) (λ w. c.in_ok-put_one.ensures.did sizes w W (call_counts sizes e W st) st.idle) (λ w. c.in_ok-put_one-2.ensures.did sizes w W (call_counts sizes e1 W st1) st1.idle) e3 _ c.go_on_behind_brace.new.engine
-    (ap call_in (t.frames.call ∙ q.frames.call ∙ p.frames.call) ∙ c.requires.call) (reported_stands sizes e2 e3 W t.frames t.input (c.in_ok-report.ensures.sized yes sizes) st2) c.go_on_behind_brace.ensures (c.in_ok-report.ensures.on yes sizes f W (Feeds Told ∷ []))
+    (ap call_in (t.frames.call ∙ q.frames.call ∙ p.frames.call) ∙ c.requires.call) (reported_stands sizes e2 e3 W t.frames t.input (c.in_ok-report.ensures.sized yes sizes) st2) c.go_on_behind_brace.ensures (c.in_ok-report.ensures.on yes sizes f W (Feeds Noted ∷ []))
 
 -- WHAT BECOMES LIGHTER, WHETHER THERE IS A STEP, AND WHAT STAYS
 

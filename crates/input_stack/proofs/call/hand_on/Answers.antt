@@ -19,8 +19,8 @@ no_number table args (Place c) not = itself table (Place c)
 no_number table args (Number n) not = absurd (not n refl)
 no_number table args EndPlaces not = itself table EndPlaces
 
-pub first_of-requires : goal.first_of-requires
-first_of-requires c = c.requires.held (id_of c.in-Some.list) (cell_counts c.args.args.now c.saturating_sub-place.result c.in-Some.list c.if-place-args.true c.in-Some.is)
+pub first_token-requires : goal.first_token-requires
+first_token-requires c = c.requires.held (id_of c.in-Some.list) (cell_counts c.args.args.now c.saturating_sub-place.result c.in-Some.list c.if-place-args.true c.in-Some.is)
 
 pub opened-requires-clause-held : goal.opened-requires-clause-held
 opened-requires-clause-held c = c.requires.held (id_of c.in-Some.list) (cell_counts c.args.args.now c.saturating_sub-place.result c.in-Some.list c.if-place-args.true c.in-Some.is)
@@ -30,16 +30,16 @@ opened-requires-clause-countable c =
     let t = c.args.lists.now in
     let n = id_of c.in-Some.list in
     let e = item_is t c.args.args.now c.args.token c.in-Number.n c.saturating_sub-place.result (Some c.in-Some.list) c.if-place-args.true c.saturating_sub-place.ensures c.in-Number.is c.in-Some.is in
-    let f = first_met n (tokens_at t n) c.in-Some-first_of.first (sym c.in-Some-first_of.is ∙ c.first_of.ensures) in
+    let f = first_met n (tokens_at t n) c.in-Some-first_token.first (sym c.in-Some-first_token.is ∙ c.first_token.ensures) in
     subst (λ (xs : List Item). IsCountable t (first xs)) (e ∙ f) c.requires.countable
 
-pub returns-in-Some-first_of : goal.returns-in-Some-first_of
-returns-in-Some-first_of c =
+pub returns-in-Some-first_token : goal.returns-in-Some-first_token
+returns-in-Some-first_token c =
     let t = c.args.lists.now in
     let n = id_of c.in-Some.list in
     let e = item_is t c.args.args.now c.args.token c.in-Number.n c.saturating_sub-place.result (Some c.in-Some.list) c.if-place-args.true c.saturating_sub-place.ensures c.in-Number.is c.in-Some.is in
-    let f = first_met n (tokens_at t n) c.in-Some-first_of.first (sym c.in-Some-first_of.is ∙ c.first_of.ensures) in
-    subst (λ (xs : List Item). HandsOn t c.opened.new.lists xs c.in-Some-first_of.first (Some c.opened.result)) (sym (e ∙ f)) (record {
+    let f = first_met n (tokens_at t n) c.in-Some-first_token.first (sym c.in-Some-first_token.is ∙ c.first_token.ensures) in
+    subst (λ (xs : List Item). HandsOn t c.opened.new.lists xs c.in-Some-first_token.first (Some c.opened.result)) (sym (e ∙ f)) (record {
       token = refl;
       left = ap₂ (λ (k : ℕ) (ts : List Token). map (Later k) ts) c.opened.ensures.same c.opened.ensures.left;
       reading = ap (λ (k : ℕ). Some k) c.opened.ensures.same;
@@ -49,12 +49,12 @@ returns-in-Some-first_of c =
       shares = c.opened.ensures.shares;
     })
 
-pub returns-in_default-first_of : goal.returns-in_default-first_of
-returns-in_default-first_of c =
+pub returns-in_default-first_token : goal.returns-in_default-first_token
+returns-in_default-first_token c =
     let t = c.args.lists.now in
     let n = id_of c.in-Some.list in
     let e = item_is t c.args.args.now c.args.token c.in-Number.n c.saturating_sub-place.result (Some c.in-Some.list) c.if-place-args.true c.saturating_sub-place.ensures c.in-Number.is c.in-Some.is in
-    let f = empty_met n (tokens_at t n) (sym c.in_default-first_of.is ∙ c.first_of.ensures) in
+    let f = empty_met n (tokens_at t n) (sym c.in_default-first_token.is ∙ c.first_token.ensures) in
     let g = ap (λ (xs : List Item). is_gap (first xs)) (sym (e ∙ f)) ∙ c.requires.some in
     absurd (true≢false g)
 

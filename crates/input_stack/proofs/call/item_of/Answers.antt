@@ -6,19 +6,19 @@ use Rattle.input_stack.specs.CallViews.{met}
 use Rattle.input_stack.proofs.CallItems.{cell_counts, item_is, item_past, first_met, empty_met}
 use Rattle.input_stack.proofs.call.item_of.Goals as goal
 
-pub first_of-requires : goal.first_of-requires
-first_of-requires c = c.requires (id_of c.in-Some.list) (cell_counts c.args.args.now c.saturating_sub-place.result c.in-Some.list c.if-place-args.true c.in-Some.is)
+pub first_token-requires : goal.first_token-requires
+first_token-requires c = c.requires (id_of c.in-Some.list) (cell_counts c.args.args.now c.saturating_sub-place.result c.in-Some.list c.if-place-args.true c.in-Some.is)
 
-pub returns-in-Some-first_of : goal.returns-in-Some-first_of
-returns-in-Some-first_of c =
+pub returns-in-Some-first_token : goal.returns-in-Some-first_token
+returns-in-Some-first_token c =
     let e = item_is c.args.lists.now c.args.args.now c.args.token c.in-Number.n c.saturating_sub-place.result (Some c.in-Some.list) c.if-place-args.true c.saturating_sub-place.ensures c.in-Number.is c.in-Some.is in
-    let f = first_met (id_of c.in-Some.list) (tokens_at c.args.lists.now (id_of c.in-Some.list)) c.in-Some-first_of.first (sym c.in-Some-first_of.is ∙ c.first_of.ensures) in
+    let f = first_met (id_of c.in-Some.list) (tokens_at c.args.lists.now (id_of c.in-Some.list)) c.in-Some-first_token.first (sym c.in-Some-first_token.is ∙ c.first_token.ensures) in
     sym (ap (λ (xs : List Item). met (first xs)) (e ∙ f))
 
-pub returns-in-None-first_of : goal.returns-in-None-first_of
-returns-in-None-first_of c =
+pub returns-in-None-first_token : goal.returns-in-None-first_token
+returns-in-None-first_token c =
     let e = item_is c.args.lists.now c.args.args.now c.args.token c.in-Number.n c.saturating_sub-place.result (Some c.in-Some.list) c.if-place-args.true c.saturating_sub-place.ensures c.in-Number.is c.in-Some.is in
-    let f = empty_met (id_of c.in-Some.list) (tokens_at c.args.lists.now (id_of c.in-Some.list)) (sym c.in-None-first_of.is ∙ c.first_of.ensures) in
+    let f = empty_met (id_of c.in-Some.list) (tokens_at c.args.lists.now (id_of c.in-Some.list)) (sym c.in-None-first_token.is ∙ c.first_token.ensures) in
     sym (ap (λ (xs : List Item). met (first xs)) (e ∙ f))
 
 pub returns-in-None : goal.returns-in-None

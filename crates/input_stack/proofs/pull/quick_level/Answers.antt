@@ -2,7 +2,7 @@ use Rattle.std.proofs.Common.{ap, subst}
 use Rattle.input_stack.specs.Whole.{with_arguments}
 use Rattle.input_stack.specs.Wholes.{whole}
 use Rattle.input_stack.specs.CallViews.{IsCall}
-use Rattle.input_stack.specs.Standing.{IsLevel}
+use Rattle.input_stack.specs.Stacks.{IsLevel}
 use Rattle.input_stack.proofs.AtOnce.{some_list, some_call}
 use Rattle.input_stack.proofs.pull.quick_level.Goals as goal
 

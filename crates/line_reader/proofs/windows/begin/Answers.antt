@@ -1,6 +1,6 @@
 use Rattle.std.proofs.Common.{◌≡◌, ◌<◌, ◌≤◌, ◌∷◌, ◌++◌, [], List, ℕ, false, true, length, sym, ap, subst, ◌∙◌, arith}
 use Rattle.std.proofs.lemmas.List.{length_push}
-use Rattle.line_reader.specs.Ahead.{Ahead, StandsAt, is_begun, with_ahead, ahead_of}
+use Rattle.line_reader.specs.Ahead.{Ahead, IsWindowAt, is_begun, with_ahead, ahead_of}
 use Rattle.line_reader.proofs.AheadOf.{with-same, with-new, ahead-new}
 use Rattle.line_reader.proofs.windows.begin.Goals as goal
 
@@ -17,7 +17,7 @@ add-requires c = record { room = new_room c.args.reader _ c.args.windows.now.ite
 
 pub returns-in-Some-clause-after : goal.returns-in-Some-clause-after
 returns-in-Some-clause-after c =
-    let s : StandsAt c.args.reader c.deref.result.now c.in-Some.field-0 = c.in-Some.ensures in
+    let s : IsWindowAt c.args.reader c.deref.result.now c.in-Some.field-0 = c.in-Some.ensures in
     sym (with-same c.args.reader c.args.windows.now.items (subst (λ (ws : List Ahead). is_begun c.args.reader ws ≡ true) c.deref.ensures.value s.begun))
 
 pub returns-in-None-clause-after : goal.returns-in-None-clause-after

@@ -7,7 +7,7 @@ use Rattle.tex_syntax.specs.declared.words.Want.{Want}
 use Rattle.tex_syntax.specs.declared.words.Want.TheVariants.{Expanded, Nonblank}
 use Rattle.rows.specs.declared.command.Call.{Call}
 use Rattle.rows.specs.Tokens.{is_character}
-use Rattle.rows.specs.Readings.{Fed, Tok, Told, Ask}
+use Rattle.rows.specs.Readings.{Fed, Tok, Noted, Ask}
 use Rattle.plain_readings.specs.Spelling.{is_endcsname, makes, endcsname_missing, spelling, characters}
 use Rattle.plain_readings.specs.FileNames.{character_meant, is_blank, opens, named_on, file_naming, character_before, file_characters}
 use Rattle.plain_readings.specs.Laws.{Spells}
@@ -22,7 +22,7 @@ made c ts = (refl, ap (λ (us : List Token). us ∷ []) (append-nil ts))
 
 missing : (c : Call) (ts : List Token) (fed : List Fed) → Held c (ts ++ []) (endcsname_missing c ts fed)
 missing c ts [] = tt
-missing c ts (Told ∷ fed) = made c ts
+missing c ts (Noted ∷ fed) = made c ts
 missing c ts (y ∷ fed) = tt
 
 either : (b : Bool) (c : Call) (held : List Token) (p q : Ask) → Held c held p → Held c held q → Held c held (if b then p else q)

@@ -23,7 +23,7 @@ returns c = record {
   };
   names = record { name = refl; name_held = refl; empty = refl; let_name = refl; missing = refl; missing_held = refl };
   files = record { space = refl; space_held = refl; relax = refl; relax_held = refl; implicit = refl; implicit_held = refl; empty = refl; active = refl };
-  skipped = record { plain = refl; inner_else = refl; nested = refl; marked = refl; named = refl; goes_on = refl; once = refl; senseless = refl; held = refl };
+  skipped = record { plain = refl; inner_else = refl; nested = refl; marked = refl; named = refl; goes_on = refl; once = refl; unasked = refl; held = refl };
   built = record { text = refl; text_held = refl; raw_text = refl; entered = refl; entered_held = refl; brace = refl; message_held = refl; empty_message_held = refl; number_held = refl; def_held = refl; waiting = refl; waiting_held = refl; macro_entered = refl; macro_entered_list = refl; macro_held = refl };
   calls = record { arguments = refl; arguments_held = refl; empty = refl; empty_held = refl; extra = refl; paragraph = refl; checked = refl; checked_held = refl; mismatch = refl };
   checks = record { text = refl; number = refl; behind = refl; unguarded = refl; within_unguarded = refl; call = refl; argument = refl; skipped = refl; within_skipped = refl; command = refl; none = refl };

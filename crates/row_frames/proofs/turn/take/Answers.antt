@@ -55,10 +55,10 @@ returns-in-Numbered c ts =
 
 pub returns-in-Noting : goal.returns-in-Noting
 returns-in-Noting c ts =
-    at c.args.stage c.args.call (values c.args.read.now) ts c.args.y c.told.result (kept.Noting c.in-Noting.note c.in-Noting.next) c.args.kept c.in-Noting.is
-    (c.told.ensures c.args.stage c.args.call (values c.args.read.now) ts)
+    at c.args.stage c.args.call (values c.args.read.now) ts c.args.y c.noted.result (kept.Noting c.in-Noting.note c.in-Noting.next) c.args.kept c.in-Noting.is
+    (c.noted.ensures c.args.stage c.args.call (values c.args.read.now) ts)
 
 pub returns-in-Retrying : goal.returns-in-Retrying
 returns-in-Retrying c ts =
-    at c.args.stage c.args.call (values c.args.read.now) ts c.args.y c.retold.result (kept.Retrying c.in-Retrying.call c.in-Retrying.want c.in-Retrying.note) c.args.kept c.in-Retrying.is
-    (c.retold.ensures c.args.call (values c.args.read.now) ts)
+    at c.args.stage c.args.call (values c.args.read.now) ts c.args.y c.looks_again.result (kept.Retrying c.in-Retrying.call c.in-Retrying.want c.in-Retrying.note) c.args.kept c.in-Retrying.is
+    (c.looks_again.ensures c.args.call (values c.args.read.now) ts)

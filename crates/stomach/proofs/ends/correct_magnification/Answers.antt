@@ -16,7 +16,7 @@ use Rattle.engine_state.specs.Stands.{state_of}
 use Rattle.engine_state.specs.Steps.{pending_weight}
 use Rattle.engine_state.proofs.Joining.{same_err, column_went}
 use Rattle.engine_state.proofs.CuttingReadings.{column_in, stands_in}
-use Rattle.engine_state.proofs.Standing.{frames_join}
+use Rattle.engine_state.proofs.AtLocations.{frames_join}
 use Rattle.stomach.proofs.Magnifying.{corrected_free, mag_did, mag_frames, mag_stands, reported_in, reported_went}
 use Rattle.stomach.proofs.RuleCloses.{reported_stands, reported_halts}
 use Rattle.stomach.proofs.Telling.{noted_in, noted_went, told_light}

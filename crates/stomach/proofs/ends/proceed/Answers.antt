@@ -4,7 +4,7 @@ use Rattle.engine_state.specs.declared.broken.Broken.TheVariants as broken
 use Rattle.engine_state.specs.Book.{with_work}
 use Rattle.engine_state.specs.Stands.{state_of}
 use Rattle.engine_state.proofs.Joining.{same_err}
-use Rattle.engine_state.proofs.Standing.{same_engine}
+use Rattle.engine_state.proofs.AtLocations.{same_engine}
 use Rattle.stomach.proofs.Magnifying.{note_free}
 use Rattle.stomach.proofs.Telling.{noted_went, told_light}
 use Rattle.stomach.proofs.ends.proceed.Goals as goal

@@ -15,7 +15,7 @@ use Rattle.engine_state.proofs.Joining.{same_err}
 use Rattle.engine_state.proofs.CuttingReadings.{stands_in}
 use Rattle.engine_state.proofs.Putting.{told_first, told_second, told_went, told_halts, told_cuts}
 use Rattle.engine_state.proofs.Reporting.{input_sound, stands_still}
-use Rattle.engine_state.proofs.Standing.{frames_join}
+use Rattle.engine_state.proofs.AtLocations.{frames_join}
 use Rattle.stomach.proofs.Telling.{frames_halt, told_note_in, told_light}
 use Rattle.stomach.proofs.ends.tell.Goals as goal
 

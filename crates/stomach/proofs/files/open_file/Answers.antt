@@ -17,7 +17,7 @@ use Rattle.reading_frames.specs.declared.ask.Ask.{Ask}
 use Rattle.reading_frames.specs.declared.ask.Ask.TheVariants as ask
 use Rattle.reading_frames.specs.Views.{Lists, kept_list_of}
 use Rattle.reading_frames.specs.Stack.{asked_in, asked_of}
-use Rattle.reading_frames.specs.Stands as frames
+use Rattle.reading_frames.specs.Frames as frames
 use Rattle.world_io.specs.Contents.{world}
 use Rattle.engine_state.specs.declared.engine.Engine.{Engine}
 use Rattle.engine_state.specs.declared.outcome.Ruled.{Ruled}
@@ -46,7 +46,7 @@ returns-in_err-count-clause-rule g c =
     let b = i.field-0.0 in
     let a : Ask = ask.ActsOn n.field-0-0 (effect.StartInput n.back) n.listed in
     let is : c.ask.result ≡ Some a = n.is ∙ ap (λ (x : Ask). Some x) (n.field-0-is ∙ ap (λ (x : Effect). ask.ActsOn n.field-0-0 x n.listed) n.field-0-1-is) in
-    let asks = subst (λ (o : Option Ask). (held : Lists) (work : List Reading) → frames.FramesStand e.readings.frames held work → asked_of held o ≡ asked_in work) is c.ask.ensures.stands in
+    let asks = subst (λ (o : Option Ask). (held : Lists) (work : List Reading) → frames.AreFramesOf e.readings.frames held work → asked_of held o ≡ asked_in work) is c.ask.ensures.stands in
     let column : e.in_line ≡ e'.in_line = sym c.seek.ensures.column in
     reads_same (λ (all left : Rests). RuledTo rs e s rs e' s all left c.from_residual.result) rs.readers _
     (λ left may. of_err c.from_residual.result (early.Broken b) (λ (r : Result Ruled Early). RuledTo rs e s rs e' s left left r) c.from_residual.ensures.1
@@ -65,7 +65,7 @@ returns-in-Some-clause-rule g c =
     let i = c.in_ok-count in
     let a : Ask = ask.ActsOn n.field-0-0 (effect.StartInput n.back) n.listed in
     let is : c.ask.result ≡ Some a = n.is ∙ ap (λ (x : Ask). Some x) (n.field-0-is ∙ ap (λ (x : Effect). ask.ActsOn n.field-0-0 x n.listed) n.field-0-1-is) in
-    let asks = subst (λ (o : Option Ask). (held : Lists) (work : List Reading) → frames.FramesStand e.readings.frames held work → asked_of held o ≡ asked_in work) is c.ask.ensures.stands in
+    let asks = subst (λ (o : Option Ask). (held : Lists) (work : List Reading) → frames.AreFramesOf e.readings.frames held work → asked_of held o ≡ asked_in work) is c.ask.ensures.stands in
     let column : e.in_line ≡ e'.in_line = sym c.seek.ensures.column in
     reads_same (λ (all left : Rests). RuledTo rs e s rs e' s all left (Err (early.Broken (broken.Full c.in-Some.full)))) rs.readers _
     (λ left may sizes f book stands tied. by_name sizes e a asks (λ (bk : Book). CutBy sizes (whole_state left e bk) (step_count (needs_step e)) e' left (world f s e.in_line) (world f s e'.in_line) (broken.Full c.in-Some.full))
@@ -89,7 +89,7 @@ returns-then-not-has_room-clause-rule g c =
     let i = c.in_ok-count in
     let a : Ask = ask.ActsOn n.field-0-0 (effect.StartInput n.back) n.listed in
     let is : c.ask.result ≡ Some a = n.is ∙ ap (λ (x : Ask). Some x) (n.field-0-is ∙ ap (λ (x : Effect). ask.ActsOn n.field-0-0 x n.listed) n.field-0-1-is) in
-    let asks = subst (λ (o : Option Ask). (held : Lists) (work : List Reading) → frames.FramesStand e.readings.frames held work → asked_of held o ≡ asked_in work) is c.ask.ensures.stands in
+    let asks = subst (λ (o : Option Ask). (held : Lists) (work : List Reading) → frames.AreFramesOf e.readings.frames held work → asked_of held o ≡ asked_in work) is c.ask.ensures.stands in
     let column : e.in_line ≡ e'.in_line = sym c.seek.ensures.column in
     let ts = kept_list_of n.listed e.input.builds in
     let none = starts_uncalled e.input.call (asked e) c.requires.starts in
@@ -110,7 +110,7 @@ returns-in_err-open-clause-rule g c =
     let i = c.in_ok-count in
     let a : Ask = ask.ActsOn n.field-0-0 (effect.StartInput n.back) n.listed in
     let is : c.ask.result ≡ Some a = n.is ∙ ap (λ (x : Ask). Some x) (n.field-0-is ∙ ap (λ (x : Effect). ask.ActsOn n.field-0-0 x n.listed) n.field-0-1-is) in
-    let asks = subst (λ (o : Option Ask). (held : Lists) (work : List Reading) → frames.FramesStand e.readings.frames held work → asked_of held o ≡ asked_in work) is c.ask.ensures.stands in
+    let asks = subst (λ (o : Option Ask). (held : Lists) (work : List Reading) → frames.AreFramesOf e.readings.frames held work → asked_of held o ≡ asked_in work) is c.ask.ensures.stands in
     let column : e.in_line ≡ e'.in_line = sym c.seek.ensures.column in
     let ts = kept_list_of n.listed e.input.builds in
     let none = starts_uncalled e.input.call (asked e) c.requires.starts in
@@ -139,7 +139,7 @@ returns-then-branch-clause-rule g c =
     let i = c.in_ok-count in
     let a : Ask = ask.ActsOn n.field-0-0 (effect.StartInput n.back) n.listed in
     let is : c.ask.result ≡ Some a = n.is ∙ ap (λ (x : Ask). Some x) (n.field-0-is ∙ ap (λ (x : Effect). ask.ActsOn n.field-0-0 x n.listed) n.field-0-1-is) in
-    let asks = subst (λ (o : Option Ask). (held : Lists) (work : List Reading) → frames.FramesStand e.readings.frames held work → asked_of held o ≡ asked_in work) is c.ask.ensures.stands in
+    let asks = subst (λ (o : Option Ask). (held : Lists) (work : List Reading) → frames.AreFramesOf e.readings.frames held work → asked_of held o ≡ asked_in work) is c.ask.ensures.stands in
     let column : e.in_line ≡ e'.in_line = sym c.seek.ensures.column in
     let ts = kept_list_of n.listed e.input.builds in
     let none = starts_uncalled e.input.call (asked e) c.requires.starts in
@@ -174,7 +174,7 @@ returns-in_err-refuse_spelt-clause-rule g c =
     let i = c.in_ok-count in
     let a : Ask = ask.ActsOn n.field-0-0 (effect.StartInput n.back) n.listed in
     let is : c.ask.result ≡ Some a = n.is ∙ ap (λ (x : Ask). Some x) (n.field-0-is ∙ ap (λ (x : Effect). ask.ActsOn n.field-0-0 x n.listed) n.field-0-1-is) in
-    let asks = subst (λ (o : Option Ask). (held : Lists) (work : List Reading) → frames.FramesStand e.readings.frames held work → asked_of held o ≡ asked_in work) is c.ask.ensures.stands in
+    let asks = subst (λ (o : Option Ask). (held : Lists) (work : List Reading) → frames.AreFramesOf e.readings.frames held work → asked_of held o ≡ asked_in work) is c.ask.ensures.stands in
     let column : e.in_line ≡ e'.in_line = sym c.seek.ensures.column in
     let ts = kept_list_of n.listed e.input.builds in
     let none = starts_uncalled e.input.call (asked e) c.requires.starts in
@@ -216,7 +216,7 @@ returns-clause-rule g c =
     let i = c.in_ok-count in
     let a : Ask = ask.ActsOn n.field-0-0 (effect.StartInput n.back) n.listed in
     let is : c.ask.result ≡ Some a = n.is ∙ ap (λ (x : Ask). Some x) (n.field-0-is ∙ ap (λ (x : Effect). ask.ActsOn n.field-0-0 x n.listed) n.field-0-1-is) in
-    let asks = subst (λ (o : Option Ask). (held : Lists) (work : List Reading) → frames.FramesStand e.readings.frames held work → asked_of held o ≡ asked_in work) is c.ask.ensures.stands in
+    let asks = subst (λ (o : Option Ask). (held : Lists) (work : List Reading) → frames.AreFramesOf e.readings.frames held work → asked_of held o ≡ asked_in work) is c.ask.ensures.stands in
     let column : e.in_line ≡ e'.in_line = sym c.seek.ensures.column in
     let ts = kept_list_of n.listed e.input.builds in
     let none = starts_uncalled e.input.call (asked e) c.requires.starts in

@@ -14,7 +14,7 @@ use Rattle.engine_state.specs.Steps.{pending_weight}
 use Rattle.engine_state.proofs.Counting.{counts_of}
 use Rattle.engine_state.proofs.Joining.{same_err}
 use Rattle.engine_state.proofs.CuttingReadings.{stands_in}
-use Rattle.engine_state.proofs.Standing.{frames_join}
+use Rattle.engine_state.proofs.AtLocations.{frames_join}
 use Rattle.gullet.proofs.JobName.{name_stands}
 use Rattle.stomach.proofs.SpeltNames.{spelt_frames, spelt_stands}
 use Rattle.stomach.proofs.FilesSought.{behind_name, ungiven_in, unspelt_in, sought, sought_name, sought_room, sought_next, sought_lighter}

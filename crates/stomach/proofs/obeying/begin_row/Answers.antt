@@ -1,6 +1,6 @@
 use Rattle.std.proofs.Common.{[], ◌∷◌, sym, ap, refl, false}
 use Rattle.rows.specs.declared.command.Call.{Call}
-use Rattle.rows.specs.declared.words.Kind.TheVariants.{Command}
+use Rattle.rows.specs.declared.words.Phrase.TheVariants.{Command}
 use Rattle.plain_readings.specs.Readings.{Reads}
 use Rattle.plain_machine.specs.States.{Begun}
 use Rattle.engine_state.specs.declared.broken.Broken.TheVariants as broken

@@ -5,7 +5,7 @@ use Rattle.engine_state.proofs.Uncalled.{all_of}
 use Rattle.engine_state.proofs.Joining.{same_err, ok_to, err_to, onward_by, went_by}
 use Rattle.engine_state.proofs.CuttingReadings.{cuts_in, in_by}
 use Rattle.engine_state.proofs.Reporting.{line_went}
-use Rattle.engine_state.proofs.Standing.{only_frames, column_all}
+use Rattle.engine_state.proofs.AtLocations.{only_frames, column_all}
 use Rattle.stomach.proofs.TokensObeyed.{line_moves}
 use Rattle.stomach.proofs.obeying.obey.Goals as goal
 

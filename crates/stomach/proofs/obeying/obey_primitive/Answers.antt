@@ -8,7 +8,7 @@ use Rattle.engine_state.proofs.Uncalled.{all_of}
 use Rattle.engine_state.proofs.Joining.{same_err, ok_to, err_to, onward_by, went_by}
 use Rattle.engine_state.proofs.CuttingReadings.{cuts_in, in_by, column_in}
 use Rattle.engine_state.proofs.Reporting.{line_went}
-use Rattle.engine_state.proofs.Standing.{only_frames, column_all}
+use Rattle.engine_state.proofs.AtLocations.{only_frames, column_all}
 use Rattle.stomach.proofs.TokensObeyed.{row_found, row_moves, end_moves, begingroup_moves, endgroup_moves, endcsname_moves, other_moves}
 use Rattle.stomach.proofs.GroupsMet.{onward_column}
 use Rattle.stomach.proofs.obeying.obey_primitive.Goals as goal

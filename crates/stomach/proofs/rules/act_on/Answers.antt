@@ -19,7 +19,7 @@ use Rattle.gullet.proofs.Stepping.{free_of}
 use Rattle.stomach.proofs.ActingAlone.{front_stands}
 use Rattle.stomach.proofs.ActsEnding.{small_gathered}
 use Rattle.engine_state.proofs.CuttingReadings.{column_in, in_by, stands_in}
-use Rattle.engine_state.proofs.Standing.{only_frames}
+use Rattle.engine_state.proofs.AtLocations.{only_frames}
 use Rattle.stomach.proofs.RuleCloses.{acts_else, closed_as, column_did, column_stands, name_free}
 use Rattle.stomach.proofs.Lighter.{closed_lighter_as}
 use Rattle.stomach.proofs.RuleHalts.{rules_by}

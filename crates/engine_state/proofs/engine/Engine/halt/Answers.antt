@@ -1,7 +1,7 @@
 use Rattle.engine_state.specs.Stands.{state_of, page_of}
 use Rattle.engine_state.proofs.Joining.{same_err}
 use Rattle.engine_state.proofs.Reporting.{last_is, last_cut}
-use Rattle.engine_state.proofs.Standing.{only_input}
+use Rattle.engine_state.proofs.AtLocations.{only_input}
 use Rattle.engine_state.proofs.engine.Engine.halt.Goals as goal
 
 pub returns-in_err-write_last-clause-err : goal.returns-in_err-write_last-clause-err

@@ -11,7 +11,7 @@ use Rattle.engine_state.proofs.Counting.{call_counts}
 use Rattle.engine_state.proofs.CheckingMoves.{put_stands, takes_still, put_rule, put_behind, put_cuts, incomplete_same, unnoted}
 use Rattle.engine_state.proofs.Joining.{same_err, ok_to, ok_both, err_to}
 use Rattle.engine_state.proofs.CuttingReadings.{cuts_in, column_in}
-use Rattle.engine_state.proofs.Standing.{frames_join}
+use Rattle.engine_state.proofs.AtLocations.{frames_join}
 use Rattle.engine_state.proofs.engine.Engine.insert_fi.Goals as goal
 
 pub returns-in_err-put_one-clause-err : goal.returns-in_err-put_one-clause-err

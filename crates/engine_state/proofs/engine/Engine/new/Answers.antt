@@ -16,8 +16,8 @@ use Rattle.prim_table.specs.Primitives.{primitive_names}
 use Rattle.plain_machine.specs.Plan.{job_due, first_state, is_known}
 use Rattle.name_table.specs.Strings.{Strings}
 use Rattle.reading_frames.specs.Stack.{Stack}
-use Rattle.reading_frames.specs.Stands as frames
-use Rattle.reading_frames.specs.Stands.{AreShallow}
+use Rattle.reading_frames.specs.Frames as frames
+use Rattle.reading_frames.specs.Frames.{AreShallow}
 use Rattle.plain_machine.specs.States.{no_files, no_token}
 use Rattle.input_state.specs.Stored.{Stored, gathered}
 use Rattle.engine_state.proofs.Known.{first_known}
@@ -67,7 +67,7 @@ returns c = let i = c.in_ok-input.ensures in let n = c.in-Ok.ensures in let o = 
         };
         idle = making;
         readings = record {
-          frames = subst (λ (x : Stack). frames.FramesStand x.frames c.in_ok-input.input.builds []) (sym o) (ap (λ (x : Stored). x.builds) i);
+          frames = subst (λ (x : Stack). frames.AreFramesOf x.frames c.in_ok-input.input.builds []) (sym o) (ap (λ (x : Stored). x.builds) i);
           shallow = subst (λ (x : Stack). AreShallow x.frames c.in_ok-input.input.builds) (sym o) tt;
         };
         uncalled = ap (λ (x : Stored). x.call) i;

@@ -1,6 +1,6 @@
 use Rattle.std.proofs.Common.{ap}
 use Rattle.input_state.specs.Calls.{after_call}
-use Rattle.input_state.specs.Standing.{standing_put}
+use Rattle.input_state.specs.AtLocations.{location_put}
 use Rattle.input_state.specs.Stored.{Stored}
 use Rattle.engine_state.specs.declared.broken.Broken.TheVariants as broken
 use Rattle.engine_state.proofs.Joining.{same_err}
@@ -25,4 +25,4 @@ pub returns-clause-stands : goal.returns-clause-stands
 returns-clause-stands c = let e = c.args.self.now in let i = c.in_ok-put_list.ensures in let e2 = record e { input = c.put_list.new.self } in
     λ sizes book st.
     let is = ap (λ (x : Stored). record e { input = x }) i.ok in
-    pending_stands sizes e e2 book (after_call (standing_put e.input.lists e.input.groups c.args.loc) e.input.pending) is (given_sound sizes e book st.sound c.args.loc e2 is c.put_list.ensures.keeps) st
+    pending_stands sizes e e2 book (after_call (location_put e.input.lists e.input.groups c.args.loc) e.input.pending) is (given_sound sizes e book st.sound c.args.loc e2 is c.put_list.ensures.keeps) st

@@ -3,7 +3,7 @@ use Rattle.engine_state.specs.Rules.{counted}
 use Rattle.engine_state.specs.Stands.{page_of}
 use Rattle.engine_state.proofs.Joining.{same_err, ok_to, err_to}
 use Rattle.engine_state.proofs.Reporting.{text_moves, text_did, text_halts, text_cut}
-use Rattle.engine_state.proofs.Standing.{only_sized, only_few, only_frames, only_input, frames_join}
+use Rattle.engine_state.proofs.AtLocations.{only_sized, only_few, only_frames, only_input, frames_join}
 use Rattle.engine_state.proofs.engine.Engine.report_as.Goals as goal
 
 pub returns-in_err-write_error_message-clause-err : goal.returns-in_err-write_error_message-clause-err

@@ -1,7 +1,7 @@
 use Rattle.std.proofs.Common.{[]}
 use Rattle.engine_state.proofs.Joining.{same_err}
 use Rattle.engine_state.proofs.Reporting.{reports_went}
-use Rattle.engine_state.proofs.Standing.{all_input}
+use Rattle.engine_state.proofs.AtLocations.{all_input}
 use Rattle.engine_state.proofs.engine.Engine.report_only.Goals as goal
 
 pub returns-in_err-report-clause-err : goal.returns-in_err-report-clause-err

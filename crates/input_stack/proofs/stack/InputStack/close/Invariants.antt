@@ -2,7 +2,7 @@ use Rattle.std.proofs.Common.{◌≡◌, length, reverse}
 use Rattle.token_lists.specs.Accounts.{Moves, Keeps}
 use Rattle.input_stack.specs.Wholes.{count_in}
 use Rattle.input_stack.specs.View.{innermost, held}
-use Rattle.input_stack.specs.Standing.{AreRead}
+use Rattle.input_stack.specs.Stacks.{AreRead}
 use Rattle.input_stack.proofs.stack.InputStack.close.Given as goal
 
 abbrev pub invariant-loop : goal.invariant-loop

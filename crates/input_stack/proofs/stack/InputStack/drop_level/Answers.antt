@@ -1,7 +1,7 @@
 use Rattle.std.proofs.Common.{refl, subst, reverse}
 use Rattle.input_stack.specs.View.{innermost}
 use Rattle.input_stack.specs.Wholes.{whole, own, beneath, wholes}
-use Rattle.input_stack.specs.Standing.{AreRead}
+use Rattle.input_stack.specs.Stacks.{AreRead}
 use Rattle.input_stack.proofs.Kept.{beneath_read}
 use Rattle.input_stack.proofs.Wholes.{popped_top, popped_counts, popped_within}
 use Rattle.input_stack.proofs.Tops.{top_covers, dropped_held, dropped_keeps}

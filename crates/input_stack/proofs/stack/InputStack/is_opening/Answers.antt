@@ -5,7 +5,7 @@ use Rattle.input_stack.specs.Puts.{Item, next_item}
 use Rattle.input_stack.specs.CallViews.{met, is_opening}
 use Rattle.input_stack.specs.WholeLevel.{WholeLevel}
 use Rattle.input_stack.specs.View.{pending_in}
-use Rattle.input_stack.specs.Standing.{IsLevel}
+use Rattle.input_stack.specs.Stacks.{IsLevel}
 use Rattle.std.specs.Prelude.{All}
 use Rattle.std.proofs.Common.{subst}
 use Rattle.input_stack.proofs.Ready.{within_left, next_left, top_left, every_left, left_every, none_opens, ready_level, ready_under}

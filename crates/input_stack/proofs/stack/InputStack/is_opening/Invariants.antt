@@ -2,7 +2,7 @@ use Rattle.std.proofs.Common.{◌≡◌}
 use Rattle.std.specs.Prelude.{All}
 use Rattle.input_stack.specs.Puts.{next_item}
 use Rattle.input_stack.specs.View.{pending, pending_in}
-use Rattle.input_stack.specs.Standing.{IsLevel}
+use Rattle.input_stack.specs.Stacks.{IsLevel}
 use Rattle.input_stack.proofs.Ready.{left, AreLeft}
 use Rattle.input_stack.proofs.stack.InputStack.is_opening.Given as goal
 

@@ -6,7 +6,7 @@ use Rattle.std.specs.Prelude.{All}
 use Rattle.input_stack.specs.Pulls.{looks, IsInBuffer}
 use Rattle.input_stack.specs.WholeLevel.{WholeLevel}
 use Rattle.input_stack.specs.View.{pending_in}
-use Rattle.input_stack.specs.Standing.{IsLevel}
+use Rattle.input_stack.specs.Stacks.{IsLevel}
 use Rattle.input_stack.proofs.Ready.{within_left, next_left, top_left, every_left, left_every, none_looks, ready_level, ready_in_buffer, ready_none, ready_some, ready_under, ready_under_buffer}
 use Rattle.input_stack.proofs.stack.InputStack.looks.Goals as goal
 

@@ -2,7 +2,7 @@ use Rattle.std.proofs.Common.{◌≡◌, length}
 use Rattle.std.specs.Prelude.{All}
 use Rattle.input_stack.specs.Pulls.{looks, IsInBuffer}
 use Rattle.input_stack.specs.View.{pending, pending_in}
-use Rattle.input_stack.specs.Standing.{IsLevel}
+use Rattle.input_stack.specs.Stacks.{IsLevel}
 use Rattle.input_stack.proofs.Ready.{left, AreLeft}
 use Rattle.input_stack.proofs.stack.InputStack.looks.Given as goal
 

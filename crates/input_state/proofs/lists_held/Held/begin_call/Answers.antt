@@ -2,9 +2,8 @@ use Rattle.std.proofs.Common.{◌≡◌, ◌∙◌, List, ap, sym, arith}
 use Rattle.tex_defs.specs.declared.Token.{Token}
 use Rattle.token_lists.specs.Table.{tokens_at}
 use Rattle.token_lists.specs.Ids.{id_of}
-use Rattle.macro_call.specs.Modes.{mode_of}
 use Rattle.macro_call.specs.PlainScans.{first_scan}
-use Rattle.plain_tokens.specs.Arguments.{has_parameters, begins_with_place}
+use Rattle.plain_tokens.specs.Arguments.{has_parameters, begins_with_place, mode_of}
 use Rattle.plain_tokens.specs.Meanings.{name_meaning}
 use Rattle.plain_tokens.specs.Tables.{lists_words}
 use Rattle.input_state.specs.HeldLists.{HeldLists}

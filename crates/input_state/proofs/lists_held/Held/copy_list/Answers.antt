@@ -6,7 +6,7 @@ use Rattle.token_lists.specs.Table.{tokens_at}
 use Rattle.input_state.specs.Appends.{IsAppendedInPart}
 use Rattle.input_state.specs.HeldLists.{HeldLists}
 use Rattle.input_state.specs.HeldViews.{named}
-use Rattle.input_state.specs.Standing.{list_number, standing_tokens}
+use Rattle.input_state.specs.AtLocations.{list_number, location_tokens}
 use Rattle.input_state.proofs.Lengthening.{kept_apart, copied_text, adds_nothing, adds_none, if_both, first_sound, first_macros, first_grown, first_fits, first_short}
 use Rattle.input_state.proofs.Sounds.{push_shared, push_building, used_now, ok_of}
 use Rattle.input_state.proofs.lists_held.Held.copy_list.Goals as goal
@@ -49,7 +49,7 @@ returns-clause-ok c =
     let shared = push_shared i.lists i.stack (named i.table i.call) i.making i.builds.items c.pop.new.self.items a c.in-Some-pop.ensures.items c.self.invariant.shared in
     let apart = kept_apart i.lists i.stack (option_to_list i.making) (reverse c.pop.new.self.items) a (named i.table i.call) shared id c.in-Some.ensures.held in
     let copied = copied_text i.lists i.table c.args.loc id c.at_first-from.result v c.in-Some.ensures.list c.at_first-from.ensures.first (ap (λ (w : HeldLists). w.lists) c.self.view_is) (ap (λ (w : HeldLists). w.groups) c.self.view_is) in
-    ok_of c.append_from-copied.result _ _ e.grown (λ k. first_grown i.lists new i.stack (named i.table i.call) i.making i.builds.items c.push_reserved.new.self.items c.pop.new.self.items a b c.in-Some-pop.ensures.items c.push_reserved.ensures.items i.sizes _ _ c.self.invariant v c.self.view_is e.same e.building e.others e.account e.length (c.push_reserved.ensures.capacity ∙ c.in-Some-pop.ensures.capacity) (standing_tokens v.lists v.groups c.args.loc) (k id c.at_first-from.ensures.on apart ∙ ap (λ (us : List Token). tokens_at i.lists (build_id a) ++ us) copied))
+    ok_of c.append_from-copied.result _ _ e.grown (λ k. first_grown i.lists new i.stack (named i.table i.call) i.making i.builds.items c.push_reserved.new.self.items c.pop.new.self.items a b c.in-Some-pop.ensures.items c.push_reserved.ensures.items i.sizes _ _ c.self.invariant v c.self.view_is e.same e.building e.others e.account e.length (c.push_reserved.ensures.capacity ∙ c.in-Some-pop.ensures.capacity) (location_tokens v.lists v.groups c.args.loc) (k id c.at_first-from.ensures.on apart ∙ ap (λ (us : List Token). tokens_at i.lists (build_id a) ++ us) copied))
 
 pub returns-clause-fits : goal.returns-clause-fits
 returns-clause-fits c =
@@ -63,7 +63,7 @@ returns-clause-fits c =
     let shared = push_shared i.lists i.stack (named i.table i.call) i.making i.builds.items c.pop.new.self.items a c.in-Some-pop.ensures.items c.self.invariant.shared in
     let apart = kept_apart i.lists i.stack (option_to_list i.making) (reverse c.pop.new.self.items) a (named i.table i.call) shared id c.in-Some.ensures.held in
     let copied = copied_text i.lists i.table c.args.loc id c.at_first-from.result v c.in-Some.ensures.list c.at_first-from.ensures.first (ap (λ (w : HeldLists). w.lists) c.self.view_is) (ap (λ (w : HeldLists). w.groups) c.self.view_is) in
-    ok_of c.append_from-copied.result _ _ e.grown (λ k. first_fits i.lists new i.stack (named i.table i.call) i.making i.builds.items c.push_reserved.new.self.items c.pop.new.self.items a b c.in-Some-pop.ensures.items c.push_reserved.ensures.items i.sizes _ _ c.self.invariant v c.self.view_is e.same e.building e.others e.account e.length (c.push_reserved.ensures.capacity ∙ c.in-Some-pop.ensures.capacity) e.words (omega (arith, c.used-words.ensures.is, c.used-words.ensures.within)) (standing_tokens v.lists v.groups c.args.loc) (k id c.at_first-from.ensures.on apart ∙ ap (λ (us : List Token). tokens_at i.lists (build_id a) ++ us) copied))
+    ok_of c.append_from-copied.result _ _ e.grown (λ k. first_fits i.lists new i.stack (named i.table i.call) i.making i.builds.items c.push_reserved.new.self.items c.pop.new.self.items a b c.in-Some-pop.ensures.items c.push_reserved.ensures.items i.sizes _ _ c.self.invariant v c.self.view_is e.same e.building e.others e.account e.length (c.push_reserved.ensures.capacity ∙ c.in-Some-pop.ensures.capacity) e.words (omega (arith, c.used-words.ensures.is, c.used-words.ensures.within)) (location_tokens v.lists v.groups c.args.loc) (k id c.at_first-from.ensures.on apart ∙ ap (λ (us : List Token). tokens_at i.lists (build_id a) ++ us) copied))
 
 pub returns-clause-err : goal.returns-clause-err
 returns-clause-err c =
@@ -78,7 +78,7 @@ returns-clause-err c =
     let apart = kept_apart i.lists i.stack (option_to_list i.making) (reverse c.pop.new.self.items) a (named i.table i.call) shared id c.in-Some.ensures.held in
     let copied = copied_text i.lists i.table c.args.loc id c.at_first-from.result v c.in-Some.ensures.list c.at_first-from.ensures.first (ap (λ (w : HeldLists). w.lists) c.self.view_is) (ap (λ (w : HeldLists). w.groups) c.self.view_is) in
     if_both c.append_from-copied.result _ _ _ e.err e.full (λ k full is_full.
-    first_short i.lists new i.stack (named i.table i.call) i.making i.builds.items c.push_reserved.new.self.items c.pop.new.self.items a b c.in-Some-pop.ensures.items c.push_reserved.ensures.items i.sizes _ _ c.self.invariant v c.self.view_is e.same e.building e.others e.account e.length (c.push_reserved.ensures.capacity ∙ c.in-Some-pop.ensures.capacity) e.words (omega (arith, c.used-words.ensures.is, c.used-words.ensures.within)) (standing_tokens v.lists v.groups c.args.loc) (subst (λ (us : List Token). IsAppendedInPart us (tokens_at i.lists (build_id a)) (tokens_at new (build_id a))) copied (k id c.at_first-from.ensures.on apart)) full is_full)
+    first_short i.lists new i.stack (named i.table i.call) i.making i.builds.items c.push_reserved.new.self.items c.pop.new.self.items a b c.in-Some-pop.ensures.items c.push_reserved.ensures.items i.sizes _ _ c.self.invariant v c.self.view_is e.same e.building e.others e.account e.length (c.push_reserved.ensures.capacity ∙ c.in-Some-pop.ensures.capacity) e.words (omega (arith, c.used-words.ensures.is, c.used-words.ensures.within)) (location_tokens v.lists v.groups c.args.loc) (subst (λ (us : List Token). IsAppendedInPart us (tokens_at i.lists (build_id a)) (tokens_at new (build_id a))) copied (k id c.at_first-from.ensures.on apart)) full is_full)
 
 pub returns-clause-keeps : goal.returns-clause-keeps
 returns-clause-keeps c =

@@ -6,9 +6,9 @@ use Rattle.input_stack.specs.View.{pending}
 use Rattle.input_state.specs.HeldViews.{named, all_builds}
 use Rattle.input_state.specs.HeldLists.{HeldLists, call_refusal}
 use Rattle.input_state.specs.Calls.{called}
-use Rattle.input_state.specs.Standing.{list_number, numbered_put, standing_put}
+use Rattle.input_state.specs.AtLocations.{list_number, numbered_put, location_put}
 use Rattle.input_state.proofs.SharedPut.{shared_sound, shared_view, shared_macros}
-use Rattle.input_state.proofs.StandingPut.{standing_now, standing_is, standing_refused}
+use Rattle.input_state.proofs.LocationPut.{standing_now, standing_is, standing_refused}
 use Rattle.input_state.proofs.CallKept.{countable_now, back_held, shared_stands, refused_sound, refused_view, refused_macros}
 use Rattle.input_state.proofs.lists_held.Held.put_list.Goals as goal
 
@@ -50,7 +50,7 @@ returns-in-Ok-clause-ok c =
     let is_held : 0 < eqtb.held i.table k = omega (arith, c.in-Some.ensures.held, ap (eqtb.held i.table) c.share-list.ensures.same) in
     let at : list_number i.table.groups c.args.loc ≡ Some k = c.in-Some.ensures.list ∙ ap (λ (j : ℕ). Some j) (sym c.share-list.ensures.same) in
     let e = c.in-Ok.ensures in
-    shared_view i.lists c.share-list.new.lists c.push_shared.new.lists i.stack c.push_shared.new.self i.making i.builds.items (named i.table i.call) i.sizes _ c.self.invariant k (tokens_at i.lists k) is_held c.share-list.ensures.shares e.stands (standing_now i.lists c.share-list.new.lists i.stack i.making i.builds.items (named i.table i.call) i.sizes _ c.self.invariant k c.share-list.ensures.shares (pending c.push_shared.new.lists c.push_shared.new.self) e.ok) e.account e.kept e.lasting e.size e.parameter_size c.args.self.now c.self.view_is (standing_put c.args.self.now.lists c.args.self.now.groups c.args.loc) (standing_is i.lists c.share-list.new.lists i.stack i.making i.builds.items (named i.table i.call) i.sizes _ c.self.invariant k c.share-list.ensures.shares c.args.self.now c.self.view_is c.args.loc at)
+    shared_view i.lists c.share-list.new.lists c.push_shared.new.lists i.stack c.push_shared.new.self i.making i.builds.items (named i.table i.call) i.sizes _ c.self.invariant k (tokens_at i.lists k) is_held c.share-list.ensures.shares e.stands (standing_now i.lists c.share-list.new.lists i.stack i.making i.builds.items (named i.table i.call) i.sizes _ c.self.invariant k c.share-list.ensures.shares (pending c.push_shared.new.lists c.push_shared.new.self) e.ok) e.account e.kept e.lasting e.size e.parameter_size c.args.self.now c.self.view_is (location_put c.args.self.now.lists c.args.self.now.groups c.args.loc) (standing_is i.lists c.share-list.new.lists i.stack i.making i.builds.items (named i.table i.call) i.sizes _ c.self.invariant k c.share-list.ensures.shares c.args.self.now c.self.view_is c.args.loc at)
 
 pub returns-in-Ok-clause-keeps : goal.returns-in-Ok-clause-keeps
 returns-in-Ok-clause-keeps c =

@@ -4,7 +4,7 @@ use Rattle.equivalents.specs.Cases.{case_codes, case_changed}
 use Rattle.input_state.specs.HeldAppends.{held_appended_made}
 use Rattle.input_state.specs.HeldLists.{first_list}
 use Rattle.input_state.specs.InputViews.{stored_of}
-use Rattle.input_state.specs.Standing.{AppendsShort, with_appended_made}
+use Rattle.input_state.specs.AtLocations.{AppendsShort, with_appended_made}
 use Rattle.input_state.specs.Stored.{Stored, words}
 use Rattle.std.proofs.lemmas.Result.{IfErr-weaker}
 use Rattle.input_state.proofs.Joined.{keeps, words_are_held, stops_short}

@@ -1,6 +1,6 @@
 use Rattle.std.proofs.Common.{subst}
 use Rattle.plain_tokens.specs.Pending.{all_puts}
-use Rattle.input_state.specs.Standing.{SetsList}
+use Rattle.input_state.specs.AtLocations.{SetsList}
 use Rattle.input_state.specs.HeldLists.{first_list}
 use Rattle.input_state.specs.Stored.{Stored}
 use Rattle.input_state.proofs.Sounds.{ok_of}

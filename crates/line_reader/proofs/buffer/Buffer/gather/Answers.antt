@@ -2,7 +2,7 @@ use Rattle.std.proofs.Common.{◌≡◌, ◌+◌, ◌≤◌, ◌++◌, ℕ, List
 use Rattle.std.specs.Prelude.{Some, None}
 use Rattle.std.proofs.lemmas.List.{length-take-le}
 use Rattle.plain_tokens.specs.Lines.{has_feed, before_feed, behind_feed, without_last}
-use Rattle.line_reader.specs.Ahead.{Ahead, StandsAt, ahead_of, with_ahead}
+use Rattle.line_reader.specs.Ahead.{Ahead, IsWindowAt, ahead_of, with_ahead}
 use Rattle.line_reader.specs.OpenLines.{used, refusal}
 use Rattle.line_reader.proofs.Views.{room, part_of_view}
 use Rattle.line_reader.proofs.Gathering.{is_none, bytes_at, reader_at, set_at, length_set, gathered_is, gathered_sound, sure_is, byte_fits, ahead_same}
@@ -13,7 +13,7 @@ returns-in-Some-refusal-clause-answer c =
     let i = c.self.inside in
     let b = c.args.self.now in
     let p = c.measure-piece.result in
-    let at : StandsAt c.args.id i.windows.items c.in-Some.at = subst (λ (ws : List Ahead). StandsAt c.args.id ws c.in-Some.at) c.deref.ensures.value c.in-Some.ensures in
+    let at : IsWindowAt c.args.id i.windows.items c.in-Some.at = subst (λ (ws : List Ahead). IsWindowAt c.args.id ws c.in-Some.at) c.deref.ensures.value c.in-Some.ensures in
     let m : c.bytes.result.now ≡ ahead_of c.args.id i.windows.items = c.bytes.ensures.bytes ∙ bytes_at c.args.id i.windows.items c.in-Some.at at c.index.result.now c.index.ensures in
     let sure = sure_is _ _ _ _ _ _ _ _ _ _ _ c.self.view_is c.self.invariant c.args.id p.sure c.deref-2.result.now c.bytes.result.now c.deref-2.ensures.value m c.measure-piece.ensures.sure in
     subst (λ (n : ℕ). refusal b (n + 1) ≡ Some c.in-Some-refusal.full) sure (sym c.refusal.ensures ∙ c.in-Some-refusal.is)
@@ -23,7 +23,7 @@ move_to-requires-clause-within c =
     let i = c.self.inside in
     let b = c.args.self.now in
     let p = c.measure-piece.result in
-    let at : StandsAt c.args.id i.windows.items c.in-Some.at = subst (λ (ws : List Ahead). StandsAt c.args.id ws c.in-Some.at) c.deref.ensures.value c.in-Some.ensures in
+    let at : IsWindowAt c.args.id i.windows.items c.in-Some.at = subst (λ (ws : List Ahead). IsWindowAt c.args.id ws c.in-Some.at) c.deref.ensures.value c.in-Some.ensures in
     let m : c.bytes.result.now ≡ ahead_of c.args.id i.windows.items = c.bytes.ensures.bytes ∙ bytes_at c.args.id i.windows.items c.in-Some.at at c.index.result.now c.index.ensures in
     let w = c.index_mut-window.result.now in
     let same : c.bytes.result.now ≡ w.bytes = m ∙ sym (bytes_at c.args.id i.windows.items c.in-Some.at at w c.index_mut-window.ensures.value) in
@@ -34,7 +34,7 @@ move_to-requires-clause-known c =
     let i = c.self.inside in
     let b = c.args.self.now in
     let p = c.measure-piece.result in
-    let at : StandsAt c.args.id i.windows.items c.in-Some.at = subst (λ (ws : List Ahead). StandsAt c.args.id ws c.in-Some.at) c.deref.ensures.value c.in-Some.ensures in
+    let at : IsWindowAt c.args.id i.windows.items c.in-Some.at = subst (λ (ws : List Ahead). IsWindowAt c.args.id ws c.in-Some.at) c.deref.ensures.value c.in-Some.ensures in
     let m : c.bytes.result.now ≡ ahead_of c.args.id i.windows.items = c.bytes.ensures.bytes ∙ bytes_at c.args.id i.windows.items c.in-Some.at at c.index.result.now c.index.ensures in
     let w = c.index_mut-window.result.now in
     let same : c.bytes.result.now ≡ w.bytes = m ∙ sym (bytes_at c.args.id i.windows.items c.in-Some.at at w c.index_mut-window.ensures.value) in
@@ -45,7 +45,7 @@ move_to-requires-clause-room c =
     let i = c.self.inside in
     let b = c.args.self.now in
     let p = c.measure-piece.result in
-    let at : StandsAt c.args.id i.windows.items c.in-Some.at = subst (λ (ws : List Ahead). StandsAt c.args.id ws c.in-Some.at) c.deref.ensures.value c.in-Some.ensures in
+    let at : IsWindowAt c.args.id i.windows.items c.in-Some.at = subst (λ (ws : List Ahead). IsWindowAt c.args.id ws c.in-Some.at) c.deref.ensures.value c.in-Some.ensures in
     let m : c.bytes.result.now ≡ ahead_of c.args.id i.windows.items = c.bytes.ensures.bytes ∙ bytes_at c.args.id i.windows.items c.in-Some.at at c.index.result.now c.index.ensures in
     let sure = sure_is _ _ _ _ _ _ _ _ _ _ _ c.self.view_is c.self.invariant c.args.id p.sure c.deref-2.result.now c.bytes.result.now c.deref-2.ensures.value m c.measure-piece.ensures.sure in
     let fits : used b + (p.sure + 1) ≤ b.buffer_size = room b (p.sure + 1) (λ full e. c.in_default-refusal.not-Some full (c.refusal.ensures ∙ e)) in
@@ -59,7 +59,7 @@ invariant_of-self c =
     let b = c.args.self.now in
     let p = c.measure-piece.result in
     let a : List ℕ = ahead_of c.args.id i.windows.items in
-    let at : StandsAt c.args.id i.windows.items c.in-Some.at = subst (λ (ws : List Ahead). StandsAt c.args.id ws c.in-Some.at) c.deref.ensures.value c.in-Some.ensures in
+    let at : IsWindowAt c.args.id i.windows.items c.in-Some.at = subst (λ (ws : List Ahead). IsWindowAt c.args.id ws c.in-Some.at) c.deref.ensures.value c.in-Some.ensures in
     let m : c.bytes.result.now ≡ a = c.bytes.ensures.bytes ∙ bytes_at c.args.id i.windows.items c.in-Some.at at c.index.result.now c.index.ensures in
     let w = c.index_mut-window.result.now in
     let bytes : w.bytes ≡ a = bytes_at c.args.id i.windows.items c.in-Some.at at w c.index_mut-window.ensures.value in
@@ -75,7 +75,7 @@ returns-clause-answer c =
     let i = c.self.inside in
     let b = c.args.self.now in
     let p = c.measure-piece.result in
-    let at : StandsAt c.args.id i.windows.items c.in-Some.at = subst (λ (ws : List Ahead). StandsAt c.args.id ws c.in-Some.at) c.deref.ensures.value c.in-Some.ensures in
+    let at : IsWindowAt c.args.id i.windows.items c.in-Some.at = subst (λ (ws : List Ahead). IsWindowAt c.args.id ws c.in-Some.at) c.deref.ensures.value c.in-Some.ensures in
     let m : c.bytes.result.now ≡ ahead_of c.args.id i.windows.items = c.bytes.ensures.bytes ∙ bytes_at c.args.id i.windows.items c.in-Some.at at c.index.result.now c.index.ensures in
     let sure = sure_is _ _ _ _ _ _ _ _ _ _ _ c.self.view_is c.self.invariant c.args.id p.sure c.deref-2.result.now c.bytes.result.now c.deref-2.ensures.value m c.measure-piece.ensures.sure in
     let none : c.refusal.result ≡ None = is_none _ c.in_default-refusal.not-Some in
@@ -86,7 +86,7 @@ returns-clause-feed c =
     let i = c.self.inside in
     let b = c.args.self.now in
     let p = c.measure-piece.result in
-    let at : StandsAt c.args.id i.windows.items c.in-Some.at = subst (λ (ws : List Ahead). StandsAt c.args.id ws c.in-Some.at) c.deref.ensures.value c.in-Some.ensures in
+    let at : IsWindowAt c.args.id i.windows.items c.in-Some.at = subst (λ (ws : List Ahead). IsWindowAt c.args.id ws c.in-Some.at) c.deref.ensures.value c.in-Some.ensures in
     let m : c.bytes.result.now ≡ ahead_of c.args.id i.windows.items = c.bytes.ensures.bytes ∙ bytes_at c.args.id i.windows.items c.in-Some.at at c.index.result.now c.index.ensures in
     let same : c.bytes.result.now ≡ ahead_of c.args.id b.ahead = m ∙ sym (ahead_same _ _ _ _ _ _ _ _ _ _ _ c.self.view_is c.self.invariant c.args.id) in
     subst (λ (xs : List ℕ). has_feed xs ≡ p.ends) same c.measure-piece.ensures.found
@@ -97,7 +97,7 @@ returns-clause-after c =
     let b = c.args.self.now in
     let p = c.measure-piece.result in
     let a : List ℕ = ahead_of c.args.id i.windows.items in
-    let at : StandsAt c.args.id i.windows.items c.in-Some.at = subst (λ (ws : List Ahead). StandsAt c.args.id ws c.in-Some.at) c.deref.ensures.value c.in-Some.ensures in
+    let at : IsWindowAt c.args.id i.windows.items c.in-Some.at = subst (λ (ws : List Ahead). IsWindowAt c.args.id ws c.in-Some.at) c.deref.ensures.value c.in-Some.ensures in
     let m : c.bytes.result.now ≡ a = c.bytes.ensures.bytes ∙ bytes_at c.args.id i.windows.items c.in-Some.at at c.index.result.now c.index.ensures in
     let w = c.index_mut-window.result.now in
     let bytes : w.bytes ≡ a = bytes_at c.args.id i.windows.items c.in-Some.at at w c.index_mut-window.ensures.value in

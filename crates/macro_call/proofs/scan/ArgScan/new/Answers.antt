@@ -2,7 +2,8 @@ use Rattle.std.proofs.Common.{◌≡◌, sym, ap, ◌∙◌, Option, List, false
 use Rattle.token_lists.specs.Ids.{id_of}
 use Rattle.token_lists.specs.Table.{Entry, tokens_at}
 use Rattle.macro_call.specs.declared.scan.ArgScan.{ArgScan}
-use Rattle.macro_call.specs.Modes.{par_mode, mode_of}
+use Rattle.plain_tokens.specs.Arguments.{mode_of}
+use Rattle.macro_call.specs.Modes.{par_mode}
 use Rattle.macro_call.specs.PlainScans.{first_scan}
 use Rattle.macro_call.specs.Scans.{scan_of}
 use Rattle.macro_call.proofs.Begun.{begun_start, begun_place, told_at, new_text, new_gathers}

@@ -1,8 +1,8 @@
 -- Those that were open stand beneath the one that begins.
 use Rattle.std.proofs.Common.{◌≡◌, List, [], ◌∷◌, reverse, subst, arith}
-use Rattle.reading_frames.specs.Views.{kind_of}
+use Rattle.reading_frames.specs.Views.{reading_kind}
 use Rattle.reading_frames.specs.Stack.{frames_of}
-use Rattle.reading_frames.specs.Stands.{FramesStand, opened_lists}
+use Rattle.reading_frames.specs.Frames.{AreFramesOf, opened_lists}
 use Rattle.reading_frames.specs.declared.frame.Frame.{Frame}
 use Rattle.reading_frames.proofs.Feeding.{begun}
 use Rattle.reading_frames.proofs.Stacks.{pushed}
@@ -21,10 +21,10 @@ returns-clause-begins c = λ held work stands.
           grind (arith, c.self.view_is, w.self-inside-is, frames)
       | in_default w ↦ grind (arith, c.self.view_is, w.self-inside-is, w.in_default.is, c.self.invariant.whole w.in_default.is)
     ] in
-    begun (kind_of c.args.opening) c.begin.result (reverse c.match-self.self-inside.beneath.items) held (opened_lists c.args.opening held) work (c.begin.ensures.begins held)
-    (subst (λ (fs : List Frame). FramesStand fs held work) same stands)
+    begun (reading_kind c.args.opening) c.begin.result (reverse c.match-self.self-inside.beneath.items) held (opened_lists c.args.opening held) work (c.begin.ensures.begins held)
+    (subst (λ (fs : List Frame). AreFramesOf fs held work) same stands)
 
 pub returns-clause-lists : goal.returns-clause-lists
 returns-clause-lists c = λ held.
     let b = c.begin.ensures.begins held in
-    whole (c.begin.result ∷ []) (opened_lists c.args.opening held) (lists (kind_of c.args.opening) []) held (b.lists_are []) b.holds b.beneath
+    whole (c.begin.result ∷ []) (opened_lists c.args.opening held) (lists (reading_kind c.args.opening) []) held (b.lists_are []) b.holds b.beneath

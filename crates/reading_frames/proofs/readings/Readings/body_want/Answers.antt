@@ -6,5 +6,5 @@ use Rattle.reading_frames.proofs.readings.Readings.body_want.Goals as goal
 
 pub returns-in-Build-clause-stands : goal.returns-in-Build-clause-stands
 returns-in-Build-clause-stands c =
-    body_stands c.args.self.now.frames (reverse c.self.inside.beneath.items) c.in-Some.frame c.in-Build.scan c.body_want.result
-    (sym (ap (λ (s : Stack). s.frames) c.self.view_is) ∙ ap (λ (o : Option Frame). frames_of o (reverse c.self.inside.beneath.items)) c.in-Some.is) c.in-Build.is c.body_want.ensures.asks
+    body_stands c.args.self.now.frames (reverse c.self.inside.beneath.items) c.in-Some.frame c.in-Build.scan c.next_in_body.result
+    (sym (ap (λ (s : Stack). s.frames) c.self.view_is) ∙ ap (λ (o : Option Frame). frames_of o (reverse c.self.inside.beneath.items)) c.in-Some.is) c.in-Build.is c.next_in_body.ensures.asks

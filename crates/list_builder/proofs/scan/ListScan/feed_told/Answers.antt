@@ -1,9 +1,0 @@
-use Rattle.plain_state.specs.Definitions.{Told}
-use Rattle.list_builder.proofs.Feeding.{fed_answers, fed_cut_short}
-use Rattle.list_builder.proofs.scan.ListScan.feed_told.Goals as goal
-
-pub returns-clause-answers : goal.returns-clause-answers
-returns-clause-answers c = fed_answers c.args.lists.now c.go.new.lists c.args.self.now c.go.new.self Told c.told-step.result c.told-step.ensures.takes c.go.result c.go.ensures.goes
-
-pub returns-clause-cut_short : goal.returns-clause-cut_short
-returns-clause-cut_short c = fed_cut_short c.args.lists.now c.go.new.lists c.args.self.now c.go.new.self Told c.told-step.result c.told-step.ensures.takes c.go.result c.go.ensures.cut_short

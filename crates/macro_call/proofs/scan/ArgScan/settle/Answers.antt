@@ -1,7 +1,0 @@
-use Rattle.token_lists.specs.Table.{tokens_at}
-use Rattle.macro_call.specs.Scans.{scan_of}
-use Rattle.macro_call.proofs.PlainScans.{scans_gather}
-use Rattle.macro_call.proofs.scan.ArgScan.settle.Goals as goal
-
-pub returns-clause-stands : goal.returns-clause-stands
-returns-clause-stands c = λ table macro fed. scans_gather.settled (tokens_at table macro) (scan_of table c.args.self.now) fed
