@@ -37,7 +37,6 @@ list_frames e e' p is = record { readings = ap (λ (x : Engine). x.readings) is;
 pub only_sized : (sizes : Sizes) (e e' : Engine) → OnlyColumn e e' → IsSized sizes e → IsSized sizes e'
 only_sized sizes e e' only h = subst (IsSized sizes) (sym only.same) (record {
   few_reports = h.few_reports;
-  small = h.small;
   own = h.own;
   readings = h.readings;
   conditionals = h.conditionals;

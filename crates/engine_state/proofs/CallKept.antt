@@ -1,5 +1,5 @@
 -- A call stands as it did.
-use Rattle.std.proofs.Common.{◌≡◌, ℕ, List, [], ◌∷◌, refl, sym, ap, subst, ◌∙◌, Bool, true}
+use Rattle.std.proofs.Common.{◌≡◌, ℕ, List, [], ◌∷◌, refl, sym, ap, subst, ◌∙◌, Bool, true, drop}
 use Rattle.std.specs.Prelude.{Option, Some, None}
 use Rattle.std.proofs.lemmas.Bool.{eq-eqb, or_left}
 use Rattle.tex_defs.specs.declared.Sizes.{Sizes}
@@ -20,13 +20,14 @@ use Rattle.input_state.specs.Callings.{Calling, call_lists, call_in}
 use Rattle.input_state.specs.Macros.{list_at, is_shared}
 use Rattle.input_state.specs.Stored.{Stored}
 use Rattle.reading_frames.specs.declared.frame.Frame.{Frame}
-use Rattle.reading_frames.specs.Stack.{Stack}
+use Rattle.reading_frames.specs.declared.frame.Frame.TheVariants as frame
+use Rattle.reading_frames.specs.Stack.{Stack, without_call}
 use Rattle.reading_frames.specs.Frames as frames
 use Rattle.reading_frames.specs.Frames.{AreShallow}
 use Rattle.input_state.specs.declared.answer.Call.{Call}
 use Rattle.engine_state.specs.declared.engine.Engine.{Engine}
 use Rattle.engine_state.specs.Book.{Book}
-use Rattle.engine_state.specs.Calls.{AllStand, ReadingsStand, CallStands, CallAt, asks_of}
+use Rattle.engine_state.specs.Calls.{AllStand, ReadingsStand, CallStands, CallAt, FramesBeneath, asks_of}
 use Rattle.engine_state.specs.Stands.{IsSound, FramesStand, SameReadings, SameFrames, SameStore}
 
 -- THE FRAMES
@@ -42,6 +43,26 @@ readings_still e e' work same h =
 
 pub frames_kept : (e e' : Engine) (work : List Reading) → SameFrames e e' → FramesStand e work → FramesStand e' work
 frames_kept e e' work same h = readings_still e e' work (record { readings = same.readings; lists = same.lists; call = ap call_in same.call }) h
+
+pub beneath_still : (e e' : Engine) (c : Call) (work : List Reading) → e'.readings ≡ e.readings → e'.input.builds ≡ e.input.builds → FramesBeneath c e work → FramesBeneath c e' work
+beneath_still e e' c work readings lists h =
+    let items : e'.readings.frames ≡ e.readings.frames = ap (λ (s : Stack). s.frames) readings in
+    record {
+      innermost = items ∙ (h.innermost ∙ ap (λ (fs : List Frame). frame.Call c.name ∷ drop 1 fs) (sym items));
+      frames = subst (λ (l : List (List Token)). frames.AreFramesOf (drop 1 e'.readings.frames) l work) (sym lists) (subst (λ (fs : List Frame). frames.AreFramesOf (drop 1 fs) e.input.builds work) (sym items) h.frames);
+      shallow = subst (λ (l : List (List Token)). AreShallow (drop 1 e'.readings.frames) l) (sym lists) (subst (λ (fs : List Frame). AreShallow (drop 1 fs) e.input.builds) (sym items) h.shallow);
+    }
+
+-- without the call they are those beneath it
+module _ (e : Engine) (c : Call) (work : List Reading) (h : FramesBeneath c e work) where
+  left : without_call e.readings.frames ≡ drop 1 e.readings.frames
+  left = ap without_call h.innermost
+
+  pub left_frames : frames.AreFramesOf (without_call e.readings.frames) e.input.builds work
+  left_frames = subst (λ (fs : List Frame). frames.AreFramesOf fs e.input.builds work) (sym left) h.frames
+
+  pub left_shallow : AreShallow (without_call e.readings.frames) e.input.builds
+  left_shallow = subst (λ (fs : List Frame). AreShallow fs e.input.builds) (sym left) h.shallow
 
 -- A NAME THAT MEANS A MACRO
 
@@ -75,7 +96,7 @@ call_still e e' number c r same store h =
 all_by : (e e' : Engine) (number : ℕ → ℕ) (c : Option Call) (work : List Reading) → SameFrames e e' → SameStore e.input e'.input → ReadingsStand c e number work → ReadingsStand c e' number work
 all_by e e' number None work same store h = frames_kept e e' work same h
 all_by e e' number (Some c) [] same store h = h
-all_by e e' number (Some c) (r ∷ rs) same store h = (call_still e e' number c r same.call store h.0, frames_kept e e' rs same h.1)
+all_by e e' number (Some c) (r ∷ rs) same store h = (call_still e e' number c r same.call store h.0, beneath_still e e' c rs same.readings same.lists h.1)
 
 pub all_still : (sizes : Sizes) (e e' : Engine) (book : Book) → SameFrames e e' → SameStore e.input e'.input → IsSound sizes e' book.number book.all_lists → e'.input.making ≡ None → AllStand sizes e book → AllStand sizes e' book
 all_still sizes e e' book same store sound idle st = record {

@@ -58,6 +58,7 @@ frame_built (frame.Spelling scan) n o h = h
 frame_built (frame.FileName scan) n o h = h
 frame_built (frame.Behind c x) n o h = h
 frame_built (frame.Skips scan) n o h = tt
+frame_built (frame.Call name) n o h = h
 
 all_built : (fs : List Frame) (n : ℕ) → IfSome (innermost_found fs n) IsBuilt
 all_built [] n = tt
@@ -90,6 +91,7 @@ frame_held (frame.Spelling scan) n m o le h = h
 frame_held (frame.FileName scan) n m o le h = h
 frame_held (frame.Behind c x) n m o le h = h
 frame_held (frame.Skips scan) n m o le h = tt
+frame_held (frame.Call name) n m o le h = h
 
 all_held : (fs : List Frame) (n : ℕ) (held : Lists) (work : List Reading) → n ≤ length held → frames.AreFramesOf fs (drop n held) work → IfSome (innermost_found fs n) (IsBelow (length held))
 all_held [] n held work le h = tt

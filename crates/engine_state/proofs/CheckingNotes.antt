@@ -170,7 +170,7 @@ module _ (sizes : Sizes) (e e2 : Engine) (book : Book) (name : Name) (r : Readin
         (store_scan e.input e2.input (with_scan cut_scan e.input.call) (ap (λ (y : Engine). y.input) after)) st.sound;
     idle = ap (λ (y : Engine). y.input.making) after ∙ st.idle;
     all = subst (λ (y : Engine). ReadingsStand (call_in y.input.call) y book.number now) (sym after)
-        (subst (λ (o : _). ReadingsStand o (record e { input = record e.input { call = with_scan cut_scan e.input.call } }) book.number now) (sym (cut_call name e.input.call is)) (c.stands _ refl, record { frames = k.1.frames; shallow = k.1.shallow }));
+        (subst (λ (o : _). ReadingsStand o (record e { input = record e.input { call = with_scan cut_scan e.input.call } }) book.number now) (sym (cut_call name e.input.call is)) (c.stands _ refl, record { innermost = k.1.innermost; frames = k.1.frames; shallow = k.1.shallow }));
   }
 
   made_now : made (Feeds Cut) (state_of e book) ≡ state_of e2 (with_work now book)

@@ -1,12 +1,9 @@
 -- The engine's tables count as the machine's.
-use Rattle.std.proofs.Common.{◌≡◌, ℕ, ◌+◌, ◌<◌, ◌≤◌, List, [], ◌∷◌, ◌++◌, length, refl, ap, ◌∙◌, take, arith}
-use Rattle.std.specs.Prelude.{Option, Some, None, Bool, true, false, nat_le, if◌then◌else◌}
+use Rattle.std.proofs.Common.{◌≡◌, ℕ, ◌+◌, ◌<◌, ◌≤◌, List, [], ◌∷◌, ◌++◌, length, drop, refl, ap, ◌∙◌, arith}
+use Rattle.std.specs.Prelude.{Option, Some, None, Bool, true, nat_le}
 use Rattle.tex_defs.specs.declared.Token.{Token}
 use Rattle.std.proofs.lemmas.Bool.Decides.{nat_tests}
 use Rattle.tex_defs.specs.declared.Sizes.{Sizes}
-use Rattle.tex_defs.specs.declared.Table.TheVariants.{ExpansionDepth, DelayedWrites}
-use Rattle.tex_defs.specs.Sizes.{first_out_of_range, first_out_among, is_in_range, size_of, tables}
-use Rattle.tex_defs.specs.declared.Table.{Table}
 use Rattle.tex_defs.specs.declared.Full.{Full}
 use Rattle.rows.specs.Readings.{Tok}
 use Rattle.plain_readings.specs.Readings.{Kind, Reading, lists}
@@ -23,7 +20,7 @@ use Rattle.input_state.specs.Callings.{call_in}
 use Rattle.engine_state.specs.declared.engine.Engine.{Engine}
 use Rattle.engine_state.specs.Book.{Book}
 use Rattle.engine_state.specs.Calls.{AllStand, ReadingsStand}
-use Rattle.engine_state.specs.Stands.{Stands, Counts, state_of, depth, call_count, depth_full}
+use Rattle.engine_state.specs.Stands.{Stands, Counts, state_of, depth}
 use Rattle.engine_state.proofs.Uncalled.{all_of}
 use Rattle.engine_state.proofs.Storing.{words_more}
 
@@ -33,11 +30,11 @@ frames_depth [] held (r ∷ rs) h = absurd h
 frames_depth (f ∷ fs) held [] h = absurd h
 frames_depth (f ∷ fs) held (r ∷ rs) h = omega (arith, frames_depth fs (below f held) rs h.1)
 
--- a call counts
-count_by : (e : Engine) (number : ℕ → ℕ) (c : Option Call) (work : List Reading) → ReadingsStand c e number work → length work ≡ length e.readings.frames + call_count c
-count_by e number None work h = omega (arith, frames_depth e.readings.frames e.input.builds work h.frames)
+-- a call is one of them
+count_by : (e : Engine) (number : ℕ → ℕ) (c : Option Call) (work : List Reading) → ReadingsStand c e number work → length work ≡ length e.readings.frames
+count_by e number None work h = frames_depth e.readings.frames e.input.builds work h.frames
 count_by e number (Some c) [] h = absurd h
-count_by e number (Some c) (r ∷ rs) h = omega (arith, frames_depth e.readings.frames e.input.builds rs h.1.frames)
+count_by e number (Some c) (r ∷ rs) h = omega (arith, frames_depth (drop 1 e.readings.frames) e.input.builds rs h.1.frames, ap (λ (fs : List Frame). length fs) h.1.innermost)
 
 pub call_counts : (sizes : Sizes) (e : Engine) (book : Book) → AllStand sizes e book → Counts sizes e book
 call_counts sizes e book st = record { sound = st.sound; depth = count_by e book.number (call_in e.input.call) book.work st.all }
@@ -48,29 +45,6 @@ counts_of sizes e book st = call_counts sizes e book (all_of sizes e book st)
 pub none_of : {A : Type 0} → (o : Option A) → ((x : A) → o ≡ Some x → ⊥) → o ≡ None
 none_of None h = refl
 none_of (Some x) h = absurd (h x refl)
-
--- one reading more
-pub has_room : (used size : ℕ) → used < size → None ≡ depth_full used size
-has_room used size less = grind (arith, nat_tests)
-
--- no reading more
-pub no_room : (used size u s : ℕ) → size ≤ used → u ≡ used → s ≡ size → Some (record { table = ExpansionDepth; used = u; size = s }) ≡ depth_full used size
-no_room used size u s le same_used same_size = grind (arith, nat_tests)
-
-if_in : (b : Bool) (x : Option Table) (t : Table) → (if b then x else Some t) ≡ None → (b ≡ true) × (x ≡ None)
-if_in true x t h = (refl, h)
-if_in false x t h = absurd cc
-
--- where no table is out of its range, this one is in its own
-in_range : (sizes : Sizes) (before behind : List Table) (t : Table) → first_out_among sizes (before ++ t ∷ behind) ≡ None → is_in_range t (size_of sizes t) ≡ true
-in_range sizes [] behind t h = (if_in (is_in_range t (size_of sizes t)) (first_out_among sizes behind) t h).0
-in_range sizes (v ∷ before) behind t h = in_range sizes before behind t (if_in (is_in_range v (size_of sizes v)) (first_out_among sizes (before ++ t ∷ behind)) v h).1
-
--- the readings of a run can be counted
-pub small_depth : (sizes : Sizes) → first_out_of_range sizes ≡ None → sizes.expansion_depth < 4294967294
-small_depth sizes h =
-    let k = in_range sizes (take 11 tables) (DelayedWrites ∷ []) ExpansionDepth h in
-    grind (arith, nat_tests, k)
 
 -- one reading more, by the machine and by the engine
 module _ (sizes : Sizes) (e : Engine) (book : Book) (k : Kind) (o : Option Full) (counts : Counts sizes e book) (room : depth e < e.readings.size) where

@@ -1,5 +1,5 @@
 -- Moves that are cut off, where the open readings are known.
-use Rattle.std.proofs.Common.{◌≡◌, ℕ, List, [], ◌∷◌, ◌++◌, refl, sym, ap, subst, ◌∙◌}
+use Rattle.std.proofs.Common.{◌≡◌, ℕ, List, [], ◌∷◌, ◌++◌, drop, refl, sym, ap, subst, ◌∙◌}
 use Rattle.std.specs.Prelude.{Bool, Option, Some, None}
 use Rattle.tex_defs.specs.declared.Sizes.{Sizes}
 use Rattle.tex_defs.specs.declared.Token.{Token}
@@ -37,13 +37,13 @@ near_all sizes b e book st = record { lists = e.input.builds; front = None; grow
 pub near_none : (b : Broken) (e : Engine) (work : List Reading) → e.input.call ≡ NotCalling → FramesStand e work → FramesAtCut b e work
 near_none b e work none h = record { lists = e.input.builds; front = None; grown = refl; leads = tt; stand = subst (λ (c : Option Call). FramesIn b c e e.input.builds work) (sym (ap call_in none)) h.frames }
 
-work_still : (e e' : Engine) (lists : List (List Token)) (work : List Reading) → SameFrames e e' → frames.AreFramesOf e.readings.frames lists work → frames.AreFramesOf e'.readings.frames lists work
-work_still e e' lists work same h = subst (λ (x : List Frame). frames.AreFramesOf x lists work) (sym (ap (λ (r : Stack). r.frames) same.readings)) h
+work_still : (e e' : Engine) (n : ℕ) (lists : List (List Token)) (work : List Reading) → SameFrames e e' → frames.AreFramesOf (drop n e.readings.frames) lists work → frames.AreFramesOf (drop n e'.readings.frames) lists work
+work_still e e' n lists work same h = subst (λ (x : List Frame). frames.AreFramesOf (drop n x) lists work) (sym (ap (λ (r : Stack). r.frames) same.readings)) h
 
 in_still : (b : Broken) (e e' : Engine) (c : Option Call) (lists : List (List Token)) (work : List Reading) → SameFrames e e' → FramesIn b c e lists work → FramesIn b c e' lists work
-in_still b e e' None lists work same h = work_still e e' lists work same h
+in_still b e e' None lists work same h = work_still e e' 0 lists work same h
 in_still b e e' (Some c) lists [] same h = h
-in_still b e e' (Some c) lists (r ∷ rs) same h = (subst (λ (k : Calling). CallAtCut b c k r) (sym same.call) h.0, work_still e e' lists rs same h.1)
+in_still b e e' (Some c) lists (r ∷ rs) same h = (subst (λ (k : Calling). CallAtCut b c k r) (sym same.call) h.0, work_still e e' 1 lists rs same h.1)
 
 -- they are as they were
 pub near_still : (b : Broken) (e e' : Engine) (work : List Reading) → SameFrames e e' → FramesAtCut b e work → FramesAtCut b e' work

@@ -55,7 +55,6 @@ module _ (e : Engine) (g : Groups) (closing : List Token) (ending : Option Group
     sound_after sizes number all_lists h = record {
       sized = record {
         few_reports = h.sized.few_reports;
-        small = h.sized.small;
         own = h.sized.own;
         readings = h.sized.readings;
         conditionals = h.sized.conditionals;
@@ -180,7 +179,6 @@ module _ (e : Engine) (t : Token) (o : Option Token) (none : o ≡ None) (kept :
     sound = record {
       sized = record {
         few_reports = h.sound.sized.few_reports;
-        small = h.sound.sized.small;
         own = h.sound.sized.own;
         readings = h.sound.sized.readings;
         conditionals = h.sound.sized.conditionals;

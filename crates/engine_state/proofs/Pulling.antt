@@ -45,8 +45,7 @@ use Rattle.input_state.specs.declared.answer.Pulled as answers
 use Rattle.input_state.specs.declared.answer.Pulled.TheVariants as answer
 use Rattle.line_lexer.specs.declared.Lexed as answered
 use Rattle.reading_frames.specs.Stack.{Stack, asks_in}
-use Rattle.reading_frames.specs.Weights.{frames_weight, stack_weight}
-use Rattle.plain_readings.specs.Weights.{act_frame}
+use Rattle.reading_frames.specs.Weights.{stack_weight}
 use Rattle.engine_state.specs.declared.broken.Broken.{Broken}
 use Rattle.engine_state.specs.declared.broken.Broken.TheVariants as broken
 use Rattle.input_state.specs.declared.answer.Call.{Call}
@@ -61,7 +60,7 @@ use Rattle.engine_state.specs.declared.outcome.Next.{Next}
 use Rattle.engine_state.specs.Book.{Book}
 use Rattle.engine_state.specs.Calls.{AllStand, ReadingsStand, CallStands}
 use Rattle.engine_state.specs.Entering.{with_names, EntryFits, EntryRefused}
-use Rattle.engine_state.specs.Stands.{Counts, IsSized, IsSound, SameStore, SameFrames, FramesStand, call_count, state_of, page_of, depth}
+use Rattle.engine_state.specs.Stands.{Counts, IsSized, IsSound, SameStore, SameFrames, FramesStand, state_of, page_of, depth}
 use Rattle.engine_state.specs.CutReadings.{CutsIn}
 use Rattle.engine_state.specs.Rules.{world_of, onward_of, enters_of, scanning_of, token_moves, name_moves, WantsHere, Takes, Cuts, Went, Meets, Nexts, DoesOnward}
 use Rattle.engine_state.proofs.CallKept.{all_still}
@@ -75,7 +74,7 @@ use Rattle.engine_state.proofs.Coming.{meets_by, meets_later, next_by, next_late
 -- AN ENGINE THAT HAS WRITTEN
 
 pub same_depth : (e e' : Engine) → SameFrames e e' → depth e' ≡ depth e
-same_depth e e' h = ap (λ (s : Stack). length s.frames + call_count (call_in e'.input.call)) h.readings ∙ ap (λ (k : Calling). length e.readings.frames + call_count (call_in k)) h.call
+same_depth e e' h = ap (λ (s : Stack). length s.frames) h.readings
 
 pub counts_still : (sizes : Sizes) (e e' : Engine) (book : Book) → SameFrames e e' → IsSound sizes e' book.number book.all_lists → Counts sizes e book → Counts sizes e' book
 counts_still sizes e e' book same sound h = record { sound = sound; depth = h.depth ∙ sym (same_depth e e' same) }
@@ -154,7 +153,6 @@ module _ (sizes : Sizes) (e : Engine) (book : Book) where
   sized_names : (new : List (List ℕ)) → IsSized sizes e → IsSized sizes (with_names new e)
   sized_names new h = record {
     few_reports = h.few_reports;
-    small = h.small;
     own = h.own;
     readings = h.readings;
     conditionals = h.conditionals;
@@ -189,7 +187,7 @@ module _ (sizes : Sizes) (e : Engine) (book : Book) where
   readings_names : (new : List (List ℕ)) (c : Option Call) (work : List Reading) → ReadingsStand c e book.number work → ReadingsStand c (with_names new e) book.number work
   readings_names new None work h = frames_names new work h
   readings_names new (Some c) [] h = h
-  readings_names new (Some c) (r ∷ rs) h = (call_names new c r h.0, frames_names new rs h.1)
+  readings_names new (Some c) (r ∷ rs) h = (call_names new c r h.0, record { innermost = h.1.innermost; frames = h.1.frames; shallow = h.1.shallow })
 
   pub takes_names : (want : Option Want) (new : List (List ℕ)) → Takes sizes want e book → Takes sizes want (with_names new e) book
   takes_names want new h = (wants_by e (with_names new e) (call_in e.input.call) want refl h.0, record { sound = sound_names new h.1.sound; idle = h.1.idle; all = readings_names new (call_in e.input.call) book.work h.1.all })
@@ -652,7 +650,7 @@ module _ (p : Pulled) (a : answers.Pulled) (old new : Stored) (h : Pulls p a old
 
 weight_by : (e e' : Engine) (c : Option Call) → e'.readings ≡ e.readings → readings_weight c e' ≡ readings_weight c e
 weight_by e e' None same = ap stack_weight same
-weight_by e e' (Some c) same = ap (λ (s : Stack). frames_weight s.frames + (act_frame + call_weight c.ask)) same
+weight_by e e' (Some c) same = ap (λ (s : Stack). stack_weight s + call_weight c.ask) same
 
 pub same_weight : (e e' : Engine) → e'.readings ≡ e.readings → e'.input.call ≡ e.input.call → readings_weight (call_in e'.input.call) e' ≡ readings_weight (call_in e.input.call) e
 same_weight e e' readings call = ap (λ (k : Calling). readings_weight (call_in k) e') call ∙ weight_by e e' (call_in e.input.call) readings

@@ -33,7 +33,7 @@ use Rattle.engine_state.specs.declared.broken.Broken.{Broken}
 use Rattle.engine_state.specs.declared.broken.Broken.TheVariants as broken
 use Rattle.engine_state.specs.declared.engine.Engine.{Engine}
 use Rattle.engine_state.specs.Book.{Book, with_work}
-use Rattle.engine_state.specs.Stands.{SameFrames, call_count, Counts, IsSized, IsSound, Stands, SameStore, state_of, page_of, own_style}
+use Rattle.engine_state.specs.Stands.{SameFrames, Counts, IsSized, IsSound, Stands, SameStore, state_of, page_of, own_style}
 use Rattle.engine_state.specs.Rules.{world_of, Cuts, Went, Reports, Halts}
 use Rattle.engine_state.proofs.Uncalled.{all_of}
 use Rattle.engine_state.proofs.Cutting.{cuts_by, later_cuts, full_cuts}
@@ -159,7 +159,7 @@ module _ (i i1 i2 i3 : Stored) (a1 : i1 ≡ record i { pending = end_token_lists
 pub counts_still : (sizes : Sizes) (e e1 : Engine) (book : Book) → SameFrames e e1 → IsSound sizes e1 book.number book.all_lists → Counts sizes e book → Counts sizes e1 book
 counts_still sizes e e1 book same sound h = record {
   sound = sound;
-  depth = omega (arith, h.depth, ap (λ (r : Stack). length r.frames) same.readings, ap (λ (k : Calling). call_count (call_in k)) same.call);
+  depth = omega (arith, h.depth, ap (λ (r : Stack). length r.frames) same.readings);
 }
 
 -- BACK

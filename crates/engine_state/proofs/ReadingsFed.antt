@@ -147,7 +147,7 @@ module _ (sizes : Sizes) (e : Engine) (stack : Stack) (g : Grown) (y : Fed)
       (same_with e (framed_with e stack (with_tokens g e.input.builds) e'.input.lists) stack (with_tokens g e.input.builds) refl size (subst (λ (x : Engine). KeepsShared e.input x.input) is kept)) refl (grown_held book st) st
       (stands e.input.builds book.work st.readings.frames) (shallow e.input.builds st.readings.shallow))) where
         still : Stands sizes (framed_with e stack (with_tokens g e.input.builds) e'.input.lists) (with_work (fed_with y book.work) book) → Stands sizes (fed_engine e stack y (with_tokens g e.input.builds) e'.input.lists) (with_work (fed_with y book.work) book)
-        still h = record { sound = record { sized = record { few_reports = h.sound.sized.few_reports; small = h.sound.sized.small; own = h.sound.sized.own; readings = h.sound.sized.readings; conditionals = h.sound.sized.conditionals; input = h.sound.sized.input; names = h.sound.sized.names; located = h.sound.sized.located }; tied = h.sound.tied; bodies = h.sound.bodies }; idle = h.idle; readings = record { frames = h.readings.frames; shallow = h.readings.shallow }; uncalled = h.uncalled }
+        still h = record { sound = record { sized = record { few_reports = h.sound.sized.few_reports; own = h.sound.sized.own; readings = h.sound.sized.readings; conditionals = h.sound.sized.conditionals; input = h.sound.sized.input; names = h.sound.sized.names; located = h.sound.sized.located }; tied = h.sound.tied; bodies = h.sound.bodies }; idle = h.idle; readings = record { frames = h.readings.frames; shallow = h.readings.shallow }; uncalled = h.uncalled }
 
   module _ (book : Book) (r : Reading) (rs : List Reading) (st : Stands sizes e (with_work (r ∷ rs) book)) where
     pub moves : grown_and_fed r.kind r.fed y ≡ map Grows (tokens_of g) ++ Feeds y ∷ []

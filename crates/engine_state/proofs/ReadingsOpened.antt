@@ -147,7 +147,6 @@ pub by_stack : (sizes : Sizes) (e : Engine) (book : Book) (stack : Stack) → st
 by_stack sizes e book stack size sound = record {
   sized = record {
     few_reports = sound.sized.few_reports;
-    small = sound.sized.small;
     own = sound.sized.own;
     readings = size ∙ sound.sized.readings;
     conditionals = sound.sized.conditionals;

@@ -95,7 +95,7 @@ module _ (sizes : Sizes) (e : Engine) (book : Book) (sound : IsSound sizes e boo
 
   putting_sound : IsSound sizes putting book.number book.all_lists
   putting_sound = record {
-    sized = record { few_reports = sound.sized.few_reports; small = sound.sized.small; own = sound.sized.own; readings = sound.sized.readings; conditionals = sound.sized.conditionals; input = sound.sized.input; names = sound.sized.names; located = sound.sized.located };
+    sized = record { few_reports = sound.sized.few_reports; own = sound.sized.own; readings = sound.sized.readings; conditionals = sound.sized.conditionals; input = sound.sized.input; names = sound.sized.names; located = sound.sized.located };
     tied = tied_put book.number book.all_lists (lists_held e.input.groups) (end_token_lists e.input.pending) e.input.lists (tied_settled book.number book.all_lists (lists_held e.input.groups) e.input.pending e.input.lists sound.tied) id p is (ap (λ (b : Bool). b || is_put id (all_puts (end_token_lists e.input.pending))) held);
     bodies = sound.bodies;
   }

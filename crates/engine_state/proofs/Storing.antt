@@ -123,7 +123,6 @@ module _ (number : ℕ → ℕ) (all_lists : List (List Token)) where
 pub sized_still : (sizes : Sizes) (e e' : Engine) → e'.sizes ≡ e.sizes → e'.readings.size ≡ e.readings.size → e'.conditionals ≡ e.conditionals → e'.names ≡ e.names → e'.reports ≡ e.reports → SameStore e.input e'.input → IsSized sizes e → IsSized sizes e'
 sized_still sizes e e' own depth conditionals names reports store h = record {
   few_reports = omega (arith, reports, h.few_reports);
-  small = h.small;
   own = own ∙ h.own;
   readings = depth ∙ h.readings;
   conditionals = ap (λ (c : Conditions). c.size) conditionals ∙ h.conditionals;
@@ -136,7 +135,6 @@ sized_still sizes e e' own depth conditionals names reports store h = record {
 pub sized_but : (sizes : Sizes) (e : Engine) (k : Conditions) (naming : Bool) → k.size ≡ e.conditionals.size → IsSized sizes e → IsSized sizes (record e { conditionals = k; naming = naming })
 sized_but sizes e k naming size h = record {
   few_reports = h.few_reports;
-  small = h.small;
   own = h.own;
   readings = h.readings;
   conditionals = size ∙ h.conditionals;
@@ -149,7 +147,6 @@ sized_but sizes e k naming size h = record {
 pub counted_here : (sizes : Sizes) (e : Engine) (n : ℕ) → n ≤ reports_room → IsSized sizes e → IsSized sizes (record e { reports = n })
 counted_here sizes e n few h = record {
   few_reports = few;
-  small = h.small;
   own = h.own;
   readings = h.readings;
   conditionals = h.conditionals;

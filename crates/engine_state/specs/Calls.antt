@@ -1,5 +1,5 @@
 -- A call that gathers its arguments: the innermost reading of all.
-use Rattle.std.specs.Prelude.{◌≡◌, ℕ, Bool, true, false, List, [], ◌∷◌, ◌++◌, Option, Some, None}
+use Rattle.std.specs.Prelude.{◌≡◌, ℕ, Bool, true, false, List, [], ◌∷◌, ◌++◌, drop, Option, Some, None}
 use Rattle.tex_syntax.specs.declared.words.Want.TheVariants.{Raw}
 use Rattle.tex_syntax.specs.declared.words.Report.{Report}
 use Rattle.tex_syntax.specs.declared.words.Scanned.TheVariants as scanned
@@ -19,6 +19,9 @@ use Rattle.plain_state.specs.Reports as texts
 use Rattle.plain_machine.specs.States.{Move, Written}
 use Rattle.plain_machine.specs.Plan.{Page, put_one, failed, page_behind}
 use Rattle.macro_call.specs.PlainScans.{Scan, resume_scan, scan_work}
+use Rattle.reading_frames.specs.Frames as frames
+use Rattle.reading_frames.specs.Frames.{AreShallow}
+use Rattle.reading_frames.specs.declared.frame.Frame.TheVariants as frame
 use Rattle.input_state.specs.CallFeeds.{call_work}
 use Rattle.input_state.specs.Callings.{Calling, NotCalling, Gathering, Stopped, Gathered, call_lists, call_in}
 use Rattle.input_state.specs.Macros.{list_at}
@@ -109,12 +112,18 @@ pub record CallStands (e : Engine) (number : ℕ → ℕ) (c : Call) (r : Readin
   pub at : CallAt c.ask c.name long (list_at e.input.lists id) e.input.call r.fed
   pub holds : lists r.kind r.fed ≡ call_lists e.input.call
 
--- A call is the innermost reading, and begins where a token is wanted or what stands behind `\expandafter` is expanded; the frames, with the lists
--- that they hold, are those beneath it, or all of them.
+-- A call is the innermost frame, and those beneath, with the lists that they hold, stand for these readings.
+pub record FramesBeneath (c : Call) (e : Engine) (work : List Reading) : Type 0 where
+  pub innermost : e.readings.frames ≡ frame.Call c.name ∷ drop 1 e.readings.frames
+  pub frames : frames.AreFramesOf (drop 1 e.readings.frames) e.input.builds work
+  pub shallow : AreShallow (drop 1 e.readings.frames) e.input.builds
+
+-- The open frames stand for the open readings, one for one, each with its lists. Only the innermost may be a call, which begins where a token is wanted
+-- or what stands behind `\expandafter` is expanded.
 abbrev pub ReadingsStand : Option Call → Engine → (number : ℕ → ℕ) → List Reading → Type 0
 ReadingsStand None e number work = FramesStand e work
 ReadingsStand (Some c) e number [] = ⊥
-ReadingsStand (Some c) e number (r ∷ rs) = CallStands e number c r × FramesStand e rs
+ReadingsStand (Some c) e number (r ∷ rs) = CallStands e number c r × FramesBeneath c e rs
 
 -- The engine's open readings and its shared lists are those of the book, and no list is being made; a call gathers its arguments or none does.
 pub record AllStand (sizes : Sizes) (e : Engine) (book : Book) : Type 0 where
@@ -126,7 +135,7 @@ pub record AllStand (sizes : Sizes) (e : Engine) (book : Book) : Type 0 where
 abbrev pub FramesOf : Option Call → Engine → List Reading → Type 0
 FramesOf None e work = FramesStand e work
 FramesOf (Some c) e [] = ⊥
-FramesOf (Some c) e (r ∷ rs) = CallReads c e.input.call r × FramesStand e rs
+FramesOf (Some c) e (r ∷ rs) = CallReads c e.input.call r × FramesBeneath c e rs
 
 -- AN ARGUMENT THAT RUNS AWAY
 

@@ -1,5 +1,5 @@
 -- Where a rule is cut off within what a token comes to.
-use Rattle.std.specs.Prelude.{◌≡◌, ℕ, Bool, List, [], ◌∷◌, ◌++◌, Option, Some, None}
+use Rattle.std.specs.Prelude.{◌≡◌, ℕ, Bool, List, [], ◌∷◌, ◌++◌, drop, Option, Some, None}
 use Rattle.tex_defs.specs.Places.{World}
 use Rattle.tex_defs.specs.declared.Full.{Full}
 use Rattle.tex_defs.specs.declared.Seen.{Seen}
@@ -68,7 +68,7 @@ pub data CallAtCut (b : Broken) (c : Call) (k : Calling) (r : Reading) : Type 0 
 abbrev pub FramesIn : Broken → Option Call → Engine → (lists : List (List Token)) → List Reading → Type 0
 FramesIn b None e lists work = frames.AreFramesOf e.readings.frames lists work
 FramesIn b (Some c) e lists [] = ⊥
-FramesIn b (Some c) e lists (r ∷ rs) = CallAtCut b c e.input.call r × frames.AreFramesOf e.readings.frames lists rs
+FramesIn b (Some c) e lists (r ∷ rs) = CallAtCut b c e.input.call r × frames.AreFramesOf (drop 1 e.readings.frames) lists rs
 
 -- the innermost list has one token more, or none
 abbrev pub with_token : Option Token → List (List Token) → List (List Token)

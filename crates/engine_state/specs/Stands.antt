@@ -75,11 +75,9 @@ own_style e = style_in e.input.groups.now e.names.names
 
 -- THE TABLES
 
--- the tables' sizes are these, a reading more than may be open can be counted, the last report that a run may have hasn't come,
--- and each name that is entered has a location
+-- the tables' sizes are these, the last report that a run may have hasn't come, and each name that is entered has a location
 pub record IsSized (sizes : Sizes) (e : Engine) : Type 0 where
   pub few_reports : e.reports ≤ reports_room
-  pub small : sizes.expansion_depth < 4294967294
   pub own : e.sizes ≡ sizes
   pub readings : e.readings.size ≡ sizes.expansion_depth
   pub conditionals : e.conditionals.size ≡ sizes.condition_stack_size
@@ -111,22 +109,13 @@ pub record Stands (sizes : Sizes) (e : Engine) (book : Book) : Type 0 where
   pub readings : FramesStand e book.work
   pub uncalled : IsUncalled e
 
--- a call that gathers its arguments is one more
-abbrev pub call_count : Option Call → ℕ
-call_count None = 0
-call_count (Some c) = 1
-
 abbrev pub depth : Engine → ℕ
-depth e = length e.readings.frames + call_count (call_in e.input.call)
+depth e = length e.readings.frames
 
 -- The engine counts the open readings and the shared lists as the machine.
 pub record Counts (sizes : Sizes) (e : Engine) (book : Book) : Type 0 where
   pub sound : IsSound sizes e book.number book.all_lists
   pub depth : length book.work ≡ depth e
-
--- why there is no room for one more reading
-abbrev pub depth_full : ℕ → ℕ → Option Full
-depth_full used size = if nat_lt used size then None else Some (record { table = ExpansionDepth; used = used; size = size })
 
 -- WHAT STAYS
 

@@ -6,9 +6,9 @@ use Rattle.tex_defs.specs.declared.Seen.{Seen}
 use Rattle.plain_tokens.specs.Pending.{Pending, Source, Progress, Begun, Closed, pulled}
 use Rattle.plain_machine.specs.Extended.{starts}
 use Rattle.rows.specs.Readings as reading
-use Rattle.plain_readings.specs.Weights.{act_frame, act_weight}
+use Rattle.plain_readings.specs.Weights.{act_weight}
 use Rattle.reading_frames.specs.Stack.{asks_in}
-use Rattle.reading_frames.specs.Weights.{frames_weight, stack_weight}
+use Rattle.reading_frames.specs.Weights.{stack_weight}
 use Rattle.input_state.specs.Reads.{gives_step}
 use Rattle.input_state.specs.declared.answer.Call.{Call}
 use Rattle.input_state.specs.Callings.{call_in}
@@ -72,16 +72,16 @@ outer_weight outer = sum_by (λ s. length s.line + file_weight s.file) outer
 abbrev pub pending_weight : Pending → ℕ
 pending_weight p = (length p.line + file_weight p.file) + outer_weight p.outer
 
--- a call: as much as a reading that acts, and what it asks for
+-- what a call asks for
 abbrev pub call_weight : CallAsk → ℕ
 call_weight call.More = 0
 call_weight call.ExtraBrace = act_weight + 1
 call_weight a = act_weight
 
--- the open readings: a call stands above the frames
+-- the open readings
 abbrev pub readings_weight : Option Call → Engine → ℕ
 readings_weight None e = stack_weight e.readings
-readings_weight (Some c) e = frames_weight e.readings.frames + (act_frame + call_weight c.ask)
+readings_weight (Some c) e = stack_weight e.readings + call_weight c.ask
 
 -- a rule without a step makes the engine lighter
 abbrev pub weight : Engine → ℕ

@@ -20,7 +20,7 @@ ghost use Rattle.engine_state.specs.Book.{with_work};
 ghost use Rattle.engine_state.specs.Clauses.{CutsAtReading, FeedsReading, IsMadeBy, RefusedAs, StandsFor, WhereDone, WhereOpen, WhereSound};
 ghost use Rattle.engine_state.specs.CutReadings.{with_token};
 ghost use Rattle.engine_state.specs.Feeding.{HasTop, IsKept, TokensFit, TokensCut, with_tokens};
-ghost use Rattle.engine_state.specs.Stands.{Stands, SameBut, state_of, depth, depth_full};
+ghost use Rattle.engine_state.specs.Stands.{Stands, SameBut, state_of};
 ghost use Rattle.engine_state.specs.Steps.{asked};
 ghost use Rattle.engine_state.specs.declared.broken.Broken.TheVariants as broken;
 
@@ -51,31 +51,6 @@ fn token_need(grown: Grown) -> u32
 }
 
 impl Engine {
-    /// How many readings are open.
-    fn depth(&self) -> u64
-        ensures is { result ≡ depth self.now }
-        ensures within { result ≤ self.now.readings.size + 1 }
-    {
-        u64::from(self.readings.count()) + u64::from(self.input.call().is_some())
-    }
-
-    /// Why there is no room for one more reading.
-    pub fn depth_refusal(&self) -> Option<Full>
-        ensures room { result ≡ None → depth self.now < self.now.readings.size }
-        ensures is { self.now.readings.size < 4294967294 → result ≡ depth_full (depth self.now) self.now.readings.size }
-    {
-        let used = self.depth();
-        let size = self.readings.size();
-        if used < u64::from(size) {
-            return None;
-        }
-        Some(Full {
-            table: Table::ExpansionDepth,
-            used: used.min(u64::from(u32::MAX)) as u32,
-            size,
-        })
-    }
-
     /// Begins a reading, and with it the list that it builds.
     ///
     /// # Errors
@@ -92,9 +67,6 @@ impl Engine {
         ensures frames { OnOk result (frames_weight self.new.readings.frames ≡ frames_weight self.old.readings.frames + opening_frame opening) }
         ensures beneath { OnOk result (drop 1 self.new.readings.frames ≡ self.old.readings.frames) }
     {
-        if let Some(full) = self.depth_refusal() {
-            return Err(full);
-        }
         if let Err(full) = self.readings.begin(opening) {
             return Err(full);
         }
@@ -121,9 +93,6 @@ impl Engine {
         ensures frames { OnOk result (frames_weight self.new.readings.frames ≡ frames_weight self.old.readings.frames + opening_frame opening) }
         ensures beneath { OnOk result (drop 1 self.new.readings.frames ≡ self.old.readings.frames) }
     {
-        if let Some(full) = self.depth_refusal() {
-            return Err(full);
-        }
         let grown = match self.readings.begin_with(opening, self.last) {
             Ok(grown) => grown,
             Err(full) => return Err(full),

@@ -39,6 +39,7 @@ use Rattle.engine_state.specs.declared.broken.Broken.TheVariants as broken
 use Rattle.engine_state.specs.declared.engine.Engine.{Engine}
 use Rattle.engine_state.specs.Book.{Book, with_work}
 use Rattle.engine_state.specs.Calls.{AllStand, ReadingsStand, CallStands, Gathers, HasWork, open_call}
+use Rattle.reading_frames.specs.Stack.{call_begun}
 use Rattle.engine_state.specs.Stands.{SameFrames, SameStore, Stands, state_of, page_of}
 use Rattle.engine_state.specs.Rules.{Cuts, Went}
 use Rattle.engine_state.proofs.Uncalled.{all_of}
@@ -213,7 +214,7 @@ module _ (sizes : Sizes) (e : Engine) (book : Book) (t : Token) (name : Name) (i
 
   -- the engine with the call, its lists as they were
   abbrev calling : Engine
-  calling = record e { input = record e.input { call = Gathering name scan } }
+  calling = record e { readings = call_begun name e.readings; input = record e.input { call = Gathering name scan } }
 
   call_stands : has_parameters ts ≡ true → CallStands calling book.number (open_call name) (fresh K)
   call_stands places = record {
@@ -232,15 +233,15 @@ module _ (sizes : Sizes) (e : Engine) (book : Book) (t : Token) (name : Name) (i
   calling_stands places = record {
     sound = sound_still sizes e calling book.number book.all_lists refl refl refl refl refl (store_scan e.input calling.input (Gathering name scan) refl) st.sound;
     idle = st.idle;
-    all = subst (λ (o : Option Call). ReadingsStand o calling book.number (fresh K ∷ book.work)) (sym (first_asks name ts (mode_of h.long))) (call_stands places, record { frames = st.readings.frames; shallow = st.readings.shallow });
+    all = subst (λ (o : Option Call). ReadingsStand o calling book.number (fresh K ∷ book.work)) (sym (first_asks name ts (mode_of h.long))) (call_stands places, record { innermost = refl; frames = st.readings.frames; shallow = st.readings.shallow });
   }
 
-  module _ (long : Bool) (e2 : Engine) (same : long ≡ h.long) (after : e2 ≡ record e { input = record e.input { call = Gathering name (first_scan (text_of e.input.lists e.input.groups.now.meanings name) (mode_of long)); lists = e2.input.lists } }) (all_lists : KeepsShared e.input e2.input) where
+  module _ (long : Bool) (e2 : Engine) (same : long ≡ h.long) (after : e2 ≡ record e { readings = call_begun name e.readings; input = record e.input { call = Gathering name (first_scan (text_of e.input.lists e.input.groups.now.meanings name) (mode_of long)); lists = e2.input.lists } }) (all_lists : KeepsShared e.input e2.input) where
     now : e2 ≡ record calling { input = record calling.input { lists = e2.input.lists } }
     now =
         after
-        ∙ ap (λ (b : Bool). record e { input = record e.input { call = Gathering name (first_scan (text_of e.input.lists e.input.groups.now.meanings name) (mode_of b)); lists = e2.input.lists } }) same
-        ∙ ap (λ (x : List Token). record e { input = record e.input { call = Gathering name (first_scan x (mode_of h.long)); lists = e2.input.lists } }) text_is
+        ∙ ap (λ (b : Bool). record e { readings = call_begun name e.readings; input = record e.input { call = Gathering name (first_scan (text_of e.input.lists e.input.groups.now.meanings name) (mode_of b)); lists = e2.input.lists } }) same
+        ∙ ap (λ (x : List Token). record e { readings = call_begun name e.readings; input = record e.input { call = Gathering name (first_scan x (mode_of h.long)); lists = e2.input.lists } }) text_is
 
     store : SameStore calling.input e2.input
     store = record {

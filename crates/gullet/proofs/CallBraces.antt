@@ -207,7 +207,7 @@ module _ (sizes : Sizes) (e e1 e2 : Engine) (f : FilesTold) (s0 : SinkTold) (nam
                     (store_scan e3.input e4.input (with_scan noted_scan e3.input.call) (ap (λ (y : Engine). y.input) after)) st.sound;
                 idle = ap (λ (y : Engine). y.input.making) after ∙ st.idle;
                 all = subst (λ (y : Engine). ReadingsStand (call_in y.input.call) y book.number work) (sym after)
-                    (subst (λ (o : Option Call). ReadingsStand o (record e3 { input = record e3.input { call = with_scan noted_scan e3.input.call } }) book.number work) (sym (noted_asks name e3.input.call is)) (b.stands _ refl, record { frames = k.1.frames; shallow = k.1.shallow }));
+                    (subst (λ (o : Option Call). ReadingsStand o (record e3 { input = record e3.input { call = with_scan noted_scan e3.input.call } }) book.number work) (sym (noted_asks name e3.input.call is)) (b.stands _ refl, record { innermost = k.1.innermost; frames = k.1.frames; shallow = k.1.shallow }));
               };
               did = did_join sizes _ _ _ _ _ _ (put_one x.token ++ put_one par_token) (written ++ Feeds Noted ∷ []) both (did_join sizes _ _ _ _ _ _ written (Feeds Noted ∷ []) h.did
                   (did_one sizes (Feeds Noted) _ _ _ _ refl made_now (quiet_wrote (Feeds Noted) f s3 e3.in_line e4.in_line tt (ap (λ (y : Engine). y.in_line) after))));

@@ -22,9 +22,10 @@ use Rattle.input_state.specs.declared.answer.Call.{Call}
 use Rattle.engine_state.specs.declared.engine.Engine.{Engine}
 use Rattle.engine_state.specs.Book.{Book, with_work}
 use Rattle.engine_state.specs.Calls.{AllStand, ReadingsStand, CallStands, asks_of}
+use Rattle.reading_frames.specs.Stack.{call_ended}
 use Rattle.engine_state.specs.Stands.{IsSized, SameFrames, SameOthers, SameStore, OnlyColumn, state_of, page_of, own_style}
 use Rattle.engine_state.specs.Rules.{world_of, plan_of, Went, Halts, Reports}
-use Rattle.engine_state.proofs.CallKept.{all_still}
+use Rattle.engine_state.proofs.CallKept.{all_still, left_frames, left_shallow}
 use Rattle.engine_state.proofs.Joining.{quiet_wrote, went_by, halts_least}
 use Rattle.engine_state.proofs.AtLocations.{column_all}
 use Rattle.engine_state.proofs.Reporting.{input_sound, others_sound}
@@ -53,9 +54,9 @@ lists_gone i held is = ap (λ (l : List (List Token)). drop (length l) (gathered
 
 -- the engine without its call
 module _ (sizes : Sizes) (e e2 : Engine) (book : Book) (r : Reading) (rs : List Reading) (c : Call) (is : call_in e.input.call ≡ Some c) (st : AllStand sizes e (with_work (r ∷ rs) book))
-    (after : e2 ≡ record e { input = record e.input { call = NotCalling; lists = e2.input.lists } }) (all_lists : KeepsShared e.input e2.input) where
+    (after : e2 ≡ record e { readings = call_ended e.readings; input = record e.input { call = NotCalling; lists = e2.input.lists } }) (all_lists : KeepsShared e.input e2.input) where
   abbrev ended : Engine
-  ended = record e { input = record e.input { call = NotCalling; lists = e2.input.lists } }
+  ended = record e { readings = call_ended e.readings; input = record e.input { call = NotCalling; lists = e2.input.lists } }
 
   store : SameStore e.input e2.input
   store = store_call e.input e2.input NotCalling (ap (λ (x : Engine). x.input) after) all_lists
@@ -67,7 +68,7 @@ module _ (sizes : Sizes) (e e2 : Engine) (book : Book) (r : Reading) (rs : List 
   closed_stands = record {
     sound = sound_still sizes e e2 book.number book.all_lists (ap (λ (x : Engine). x.sizes) after) (ap (λ (x : Engine). x.readings.size) after) (ap (λ (x : Engine). x.conditionals) after) (ap (λ (x : Engine). x.names) after) (ap (λ (x : Engine). x.reports) after) store st.sound;
     idle = ap (λ (x : Engine). x.input.making) after ∙ st.idle;
-    all = subst (λ (x : Engine). ReadingsStand (call_in x.input.call) x book.number rs) (sym after) (record { frames = k.1.frames; shallow = k.1.shallow });
+    all = subst (λ (x : Engine). ReadingsStand (call_in x.input.call) x book.number rs) (sym after) (record { frames = left_frames e c rs k.1; shallow = left_shallow e c rs k.1 });
   }
 
   closed_state : made Closed (state_of e (with_work (r ∷ rs) book)) ≡ state_of e2 (with_work rs book)
@@ -92,7 +93,7 @@ reported_stands sizes e e1 book same input sized st =
     all_still sizes e e1 book same (store_is e.input e1.input input) (input_sound sizes e e1 book input sized st.sound) (ap (λ (i : Stored). i.making) input ∙ st.idle) st
 
 pub failed_went : (sizes : Sizes) (e e1 e2 : Engine) (book : Book) (r : Reading) (rs : List Reading) (c : Call) (f : FilesTold) (s0 s1 : SinkTold) (report : Report) → call_in e.input.call ≡ Some c → AllStand sizes e (with_work (r ∷ rs) book) →
-    SameFrames e e1 → e1.input ≡ e.input → (IsSized sizes e → IsSized sizes e1) → e2 ≡ record e1 { input = record e1.input { call = NotCalling; lists = e2.input.lists } } → KeepsShared e1.input e2.input →
+    SameFrames e e1 → e1.input ≡ e.input → (IsSized sizes e → IsSized sizes e1) → e2 ≡ record e1 { readings = call_ended e1.readings; input = record e1.input { call = NotCalling; lists = e2.input.lists } } → KeepsShared e1.input e2.input →
     Reports sizes (state_of e (with_work (r ∷ rs) book)) (state_of e1 (with_work (r ∷ rs) book)) (world_of f s0 e) (world_of f s1 e1) (page_of e book) report (Closed ∷ []) →
     Went sizes (state_of e (with_work (r ∷ rs) book)) e2 (world_of f s0 e) (world_of f s1 e2) (failed (page_of e book) report) 0
 failed_went sizes e e1 e2 book r rs c f s0 s1 report is st same input sized after all_lists h =

@@ -165,7 +165,7 @@ module _ (sizes : Sizes) (e e2 : Engine) (book : Book) (r : Reading) (rs : List 
     sound = sound;
     idle = ap (λ (y : Engine). y.input.making) behind ∙ st.idle;
     all = subst (λ (y : Engine). ReadingsStand (call_in y.input.call) y book.number (fed ∷ rs)) (sym behind)
-        (subst (λ (o : Option Call). ReadingsStand o now book.number (fed ∷ rs)) (sym (called_after name h.long text k.scan r.fed x k.has_work k.gathers e2.input.call came)) (call_stands, record { frames = stood.1.frames; shallow = stood.1.shallow }));
+        (subst (λ (o : Option Call). ReadingsStand o now book.number (fed ∷ rs)) (sym (called_after name h.long text k.scan r.fed x k.has_work k.gathers e2.input.call came)) (call_stands, record { innermost = stood.1.innermost; frames = stood.1.frames; shallow = stood.1.shallow }));
   }
 
   -- the states before and behind

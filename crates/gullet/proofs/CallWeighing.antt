@@ -1,11 +1,13 @@
 -- What a rule of a call makes lighter, and whether it has a step.
-use Rattle.std.proofs.Common.{◌≡◌, ◌+◌, ◌<◌, ◌≤◌, ap, ◌∙◌, subst, arith, Bool, false}
+use Rattle.std.proofs.Common.{◌≡◌, ◌+◌, ◌<◌, ◌≤◌, ap, ◌∙◌, subst, arith, Bool, false, List, [], ◌∷◌}
 use Rattle.std.specs.Prelude.{Option, Some, None, Result, Ok, Err, IfOk, OnOk, OnErr, ◌&&◌}
 use Rattle.tex_defs.specs.declared.Name.{Name}
 use Rattle.plain_tokens.specs.Pending.{pulled}
-use Rattle.plain_readings.specs.Weights.{act_frame, act_weight}
-use Rattle.reading_frames.specs.Stack.{Stack}
-use Rattle.reading_frames.specs.Weights.{frames_weight, stack_weight}
+use Rattle.plain_readings.specs.Weights.{act_weight}
+use Rattle.reading_frames.specs.declared.frame.Frame.{Frame}
+use Rattle.reading_frames.specs.declared.frame.Frame.TheVariants as frame
+use Rattle.reading_frames.specs.Stack.{Stack, call_ended, without_call}
+use Rattle.reading_frames.specs.Weights.{frames_weight, innermost_weight, stack_weight}
 use Rattle.reading_frames.proofs.Weights.{small as weights_small}
 use Rattle.input_state.specs.Reads.{gives_step}
 use Rattle.input_state.specs.Stored.{Stored}
@@ -45,7 +47,7 @@ frames_join e e1 e2 a b = record { readings = b.readings ∙ a.readings; lists =
 
 readings_same : (e e1 : Engine) (c : Option Call) → e1.readings ≡ e.readings → readings_weight c e1 ≡ readings_weight c e
 readings_same e e1 None same = ap stack_weight same
-readings_same e e1 (Some c) same = ap (λ (s : Stack). frames_weight s.frames + (act_frame + call_weight c.ask)) same
+readings_same e e1 (Some c) same = ap (λ (s : Stack). stack_weight s + call_weight c.ask) same
 
 pub same_weight : (e e1 : Engine) → SameFrames e e1 → pending_weight e1.input.pending ≡ pending_weight e.input.pending → weight e1 ≡ weight e
 same_weight e e1 same left =
@@ -63,24 +65,30 @@ heavy call.Gathered is = omega arith
 heavy call.Mismatch is = omega arith
 heavy (call.ParEnded silent) is = omega arith
 
+-- the frames without the call weigh less than those with an end
+frames_left : (fs : List Frame) → frames_weight (without_call fs) + innermost_weight (without_call fs) < frames_weight fs + innermost_weight fs + act_weight
+frames_left [] = omega arith
+frames_left (frame.Call name ∷ fs) = omega (arith, weights_small fs)
+frames_left (f ∷ fs) = omega arith
+
 -- the engine without its call
-pub closed_light : (e : Engine) (i : Stored) (c : Call) → call_in e.input.call ≡ Some c → call_asks_more c.ask ≡ false → pending_weight i.pending ≡ pending_weight e.input.pending → i.call ≡ NotCalling → weight (record e { input = i }) < weight e
+pub closed_light : (e : Engine) (i : Stored) (c : Call) → call_in e.input.call ≡ Some c → call_asks_more c.ask ≡ false → pending_weight i.pending ≡ pending_weight e.input.pending → i.call ≡ NotCalling → weight (record e { readings = call_ended e.readings; input = i }) < weight e
 closed_light e i c is none left gone =
     let had : readings_weight (call_in e.input.call) e ≡ readings_weight (Some c) e = ap (λ (c : Option Call). readings_weight c e) is in
-    let has : readings_weight (call_in i.call) (record e { input = i }) ≡ stack_weight e.readings = ap (λ (k : Calling). readings_weight (call_in k) (record e { input = i })) gone in
-    omega (arith, had, has, left, heavy c.ask none, weights_small e.readings.frames)
+    let has : readings_weight (call_in i.call) (record e { readings = call_ended e.readings; input = i }) ≡ stack_weight (call_ended e.readings) = ap (λ (k : Calling). readings_weight (call_in k) (record e { readings = call_ended e.readings; input = i })) gone in
+    omega (arith, had, has, left, heavy c.ask none, frames_left e.readings.frames)
 
 -- the same, where other lists may stand in front
-pub closed_within : (e x : Engine) (c : Call) → x ≡ record e { input = x.input } → x.input.call ≡ NotCalling → pending_weight x.input.pending ≡ pending_weight e.input.pending → call_in e.input.call ≡ Some c → call_asks_more c.ask ≡ false → weight x < weight e
+pub closed_within : (e x : Engine) (c : Call) → x ≡ record e { readings = call_ended e.readings; input = x.input } → x.input.call ≡ NotCalling → pending_weight x.input.pending ≡ pending_weight e.input.pending → call_in e.input.call ≡ Some c → call_asks_more c.ask ≡ false → weight x < weight e
 closed_within e x c now gone left is none =
-    let light : weight (record e { input = x.input }) < weight e = closed_light e x.input c is none left gone in
+    let light : weight (record e { readings = call_ended e.readings; input = x.input }) < weight e = closed_light e x.input c is none left gone in
     omega (arith, light, ap weight now)
 
 -- its call ends
-pub closed_lighter : (e e1 e2 : Engine) (i : Stored) (c : Call) → SameFrames e e1 → pending_weight e1.input.pending ≡ pending_weight e.input.pending → pending_weight i.pending ≡ pending_weight e1.input.pending → i.call ≡ NotCalling → e2 ≡ record e1 { input = i } → call_in e.input.call ≡ Some c → call_asks_more c.ask ≡ false → weight e2 < weight e
+pub closed_lighter : (e e1 e2 : Engine) (i : Stored) (c : Call) → SameFrames e e1 → pending_weight e1.input.pending ≡ pending_weight e.input.pending → pending_weight i.pending ≡ pending_weight e1.input.pending → i.call ≡ NotCalling → e2 ≡ record e1 { readings = call_ended e1.readings; input = i } → call_in e.input.call ≡ Some c → call_asks_more c.ask ≡ false → weight e2 < weight e
 closed_lighter e e1 e2 i c same before left gone after is none =
-    let light : weight (record e1 { input = i }) < weight e1 = closed_light e1 i c (ap call_in same.call ∙ is) none left gone in
-    let now : weight e2 ≡ weight (record e1 { input = i }) = ap weight after in
+    let light : weight (record e1 { readings = call_ended e1.readings; input = i }) < weight e1 = closed_light e1 i c (ap call_in same.call ∙ is) none left gone in
+    let now : weight e2 ≡ weight (record e1 { readings = call_ended e1.readings; input = i }) = ap weight after in
     omega (arith, light, now, same_weight e e1 same before)
 
 -- it goes on behind its extra brace

@@ -3,6 +3,7 @@ use Rattle.std.proofs.Common.{◌≡◌, ℕ, ◌+◌, ◌≤◌, List, ap, ◌�
 use Rattle.std.specs.Prelude.{Option, Some}
 use Rattle.tex_defs.specs.declared.Name.{Name}
 use Rattle.plain_readings.specs.Weights.{act_frame, act_weight}
+use Rattle.reading_frames.specs.Stack.{call_begun}
 use Rattle.reading_frames.specs.Weights.{frames_weight, opening_frame, innermost_weight, stack_weight}
 use Rattle.reading_frames.specs.declared.ask.Opening.{Opening}
 use Rattle.reading_frames.proofs.Rules.{openings}
@@ -51,10 +52,11 @@ module _ (e : Engine) (none : e.input.call ≡ NotCalling) (light : innermost_we
       omega (arith, is, left, light)
 
   -- a call begins
-  pub called_light : (e' : Engine) (name : Name) (i : Stored) → e' ≡ record e { input = i } → call_in i.call ≡ Some (open_call name) → pending_weight i.pending ≡ pending_weight e.input.pending → weight e' ≤ most
+  pub called_light : (e' : Engine) (name : Name) (i : Stored) → e' ≡ record e { readings = call_begun name e.readings; input = i } → call_in i.call ≡ Some (open_call name) → pending_weight i.pending ≡ pending_weight e.input.pending → weight e' ≤ most
   called_light e' name i is asks left =
-      let now : weight e' ≡ weight (record e { input = i }) = ap weight is in
-      let readings : readings_weight (call_in i.call) (record e { input = i }) ≡ readings_weight (Some (open_call name)) e = ap (λ (c : Option Call). readings_weight c (record e { input = i })) asks in
+      let begun : Engine = record e { readings = call_begun name e.readings; input = i } in
+      let now : weight e' ≡ weight begun = ap weight is in
+      let readings : readings_weight (call_in i.call) begun ≡ readings_weight (Some (open_call name)) begun = ap (λ (c : Option Call). readings_weight c begun) asks in
       omega (arith, now, readings, left)
 
 -- BEHIND A CONDITIONAL'S CHOICE: no more than this above the readings that were open

@@ -4,6 +4,7 @@ ghost use Rattle.tex_defs.specs.declared.Meaning.TheVariants.{Macro};
 ghost use Rattle.plain_tokens.specs.Meanings.{name_meaning};
 ghost use Rattle.plain_readings.specs.Readings.{Arguments};
 ghost use Rattle.plain_readings.specs.Weights.{act_weight};
+ghost use Rattle.reading_frames.specs.Stack.{call_begun};
 ghost use Rattle.reading_frames.specs.Weights.{frames_weight, innermost_weight};
 ghost use Rattle.plain_machine.specs.States.{Begun};
 ghost use Rattle.plain_machine.specs.Plan.{called};
@@ -60,7 +61,7 @@ pub(crate) fn call_name(engine: &mut Engine, token: Token) -> Result<(), Full>
 fn begin_call(engine: &mut Engine, name: Name, long: bool) -> Result<(), Full>
     requires none { engine.old.input.call ≡ NotCalling }
     requires gathers { call_kind engine.old.input.lists (name_meaning engine.old.input.groups.now.meanings name) ≡ Gathers }
-    ensures ok { OnOk result (engine.new ≡ record engine.old { input = record engine.old.input { call = calls.Gathering name (first_scan (text_of engine.old.input.lists engine.old.input.groups.now.meanings name) (mode_of long)); lists = engine.new.input.lists } }) }
+    ensures ok { OnOk result (engine.new ≡ record engine.old { readings = call_begun name engine.old.readings; input = record engine.old.input { call = calls.Gathering name (first_scan (text_of engine.old.input.lists engine.old.input.groups.now.meanings name) (mode_of long)); lists = engine.new.input.lists } }) }
     ensures fits { OnOk result (RefusedAsAny engine.old (λ number. Begun (Arguments name long number (text_of engine.old.input.lists engine.old.input.groups.now.meanings name))) None) }
     ensures refused { IfErr result (λ full. RefusedAsAny engine.old (λ number. Begun (Arguments name long number (text_of engine.old.input.lists engine.old.input.groups.now.meanings name))) (Some full)) }
     ensures err { OnErr result (engine.new ≡ engine.old) }
@@ -68,10 +69,13 @@ fn begin_call(engine: &mut Engine, name: Name, long: bool) -> Result<(), Full>
     ensures idle { engine.new.input.making ≡ engine.old.input.making }
     ensures keeps { KeepsShared engine.old.input engine.new.input }
 {
-    if let Some(full) = engine.depth_refusal() {
+    if let Err(full) = engine.readings.begin_call(name) {
         return Err(full);
     }
-    engine.input.begin_call(name, long)?;
+    if let Err(full) = engine.input.begin_call(name, long) {
+        engine.readings.end_call();
+        return Err(full);
+    }
     Ok(())
 }
 

@@ -36,7 +36,7 @@ module _ (list : List Token) (held : Lists) (t : Token) where
   number_raw false e = cc
 
   build_takes : (defines : Bool) (m : Manner) (p : BuildPlace) → let f : Frame = Build (record { defines = defines; manner = m; place = p }) in resume f (list ∷ held) [] ≡ More Copied → Takes f list held t
-  build_takes defines m (place.At (stage.InBody b depth)) e = record { asks = λ fed. refl; lists_are = λ fed. refl; holds = λ h. omega (arith, h); beneath = refl; checks = refl }
+  build_takes defines m (place.At (stage.InBody b depth)) e = record { asks = λ fed. refl; lists_are = λ fed. refl; holds = λ h. omega (arith, h); beneath = refl; checks = refl; apart = refl }
   build_takes defines m (place.At (stage.Reference b depth character)) e = absurd (number_raw m.expanded e)
   build_takes defines m (place.At s) e = absurd cc
   build_takes defines m place.Whole e = absurd cc

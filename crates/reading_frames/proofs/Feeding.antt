@@ -8,7 +8,7 @@ use Rattle.reading_frames.specs.declared.frame.Frame.{Frame}
 
 pub begun : (k : Kind) (f : Frame) (fs : List Frame) (held new : Lists) (work : List Reading) → Begins k f held new → AreFramesOf fs held work → AreFramesOf (f ∷ fs) new (opened k work)
 begun k f fs held new work b stands =
-    (record { goes_on = b.asks; builds_on = b.lists_are; holds = b.holds; checks = b.checks; framed = b.framed }, subst (λ (l : Lists). AreFramesOf fs l work) (sym b.beneath) stands)
+    (record { goes_on = b.asks; builds_on = b.lists_are; holds = b.holds; checks = b.checks; framed = b.framed; apart = b.apart }, subst (λ (l : Lists). AreFramesOf fs l work) (sym b.beneath) stands)
 
 pub fed_on : (old new : Frame) (fs : List Frame) (held held' : Lists) (y : Fed) (work : List Reading) →
     GoesOn old new held held' y → AreFramesOf (old ∷ fs) held work → AreFramesOf (new ∷ fs) held' (fed_with y work)
@@ -20,6 +20,7 @@ fed_on old new fs held held' y (r ∷ rs) on stands = (
     holds = on.holds stands.0.holds;
     checks = stands.0.checks ∙ sym on.checks;
     framed = stands.0.framed;
+    apart = on.apart ∙ stands.0.apart;
   },
   subst (λ (l : Lists). AreFramesOf fs l rs) (sym on.beneath) stands.1,
 )

@@ -19,7 +19,7 @@ use Rattle.reading_frames.specs.Resumes.{building, build_at, name_list_at, file_
 use Rattle.reading_frames.specs.Frames.{IsFrameOf, AreHeld}
 use Rattle.reading_frames.specs.declared.command.CommandScan.TheVariants as command
 use Rattle.reading_frames.specs.declared.frame.Frame.{Frame}
-use Rattle.reading_frames.specs.declared.frame.Frame.TheVariants.{Command, Integer, Factor, Dimension, Glue, Keyword, Build, Spelling, FileName, Behind, Skips}
+use Rattle.reading_frames.specs.declared.frame.Frame.TheVariants.{Command, Integer, Factor, Dimension, Glue, Keyword, Build, Spelling, FileName, Behind, Skips, Call as Called}
 use Rattle.reading_frames.specs.declared.spelling.SpellPlace.{SpellPlace}
 use Rattle.reading_frames.specs.declared.spelling.SpellPlace.TheVariants as spell
 use Rattle.reading_frames.specs.declared.file_name.FilePlace.{FilePlace}
@@ -60,6 +60,7 @@ built_length (Spelling scan) held = refl
 built_length (FileName scan) held = refl
 built_length (Behind c x) held = refl
 built_length (Skips scan) held = refl
+built_length (Called name) held = refl
 
 -- WHAT THEY ARE
 
@@ -112,6 +113,7 @@ built_now (Spelling scan) held h = ap (λ (l : List Token). l ∷ []) (name_now 
 built_now (FileName scan) held h = ap (λ (l : List Token). l ∷ []) (file_now scan.place (top_list held)) ∙ top_taken held h
 built_now (Behind c x) held h = refl
 built_now (Skips scan) held h = refl
+built_now (Called name) held h = refl
 
 lists_built : (f : Frame) (held : Lists) (r : Reading) → IsFrameOf f held r → lists r.kind r.fed ≡ building f held []
 lists_built f held r stands = ap (lists r.kind) (sym (append-nil r.fed)) ∙ stands.builds_on []

@@ -15,7 +15,7 @@ use Rattle.reading_frames.specs.declared.ask.Found.{Found}
 use Rattle.reading_frames.specs.declared.skip.SkipScan.{SkipScan}
 use Rattle.reading_frames.specs.declared.text.BuildScan.{BuildScan}
 use Rattle.reading_frames.specs.declared.frame.Frame.{Frame}
-use Rattle.reading_frames.specs.declared.frame.Frame.TheVariants.{Command, Integer, Factor, Dimension, Glue, Keyword, Build, Spelling, FileName, Behind, Skips}
+use Rattle.reading_frames.specs.declared.frame.Frame.TheVariants.{Command, Integer, Factor, Dimension, Glue, Keyword, Build, Spelling, FileName, Behind, Skips, Call as Called}
 use Rattle.reading_frames.proofs.Held.{lists_counted}
 
 command_inherits : (b : Bool) (list : List Token) (o : Option Scanning) → scanned_at (command_status b) list o ≡ o
@@ -39,6 +39,7 @@ on_top (Spelling scan) held o = refl
 on_top (FileName scan) held o = refl
 on_top (Behind c x) held o = refl
 on_top (Skips scan) held o = refl
+on_top (Called name) held o = refl
 
 found_scanned : (s : Status) (n : ℕ) (held : Lists) (o : Option Found) → scanning_of held (found_at s n o) ≡ scanned_at s (top_list (drop n held)) (scanning_of held o)
 found_scanned (Scans what name) n held o = refl

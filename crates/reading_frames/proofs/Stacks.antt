@@ -17,10 +17,6 @@ use Rattle.reading_frames.specs.declared.frame.Frame.TheVariants.{Build}
 pub count_reversed : (fs : List Frame) → length (reverse fs) ≡ length fs
 count_reversed fs = length-reverse fs
 
--- the innermost goes beneath the one that begins
-pub pushed : (o : Option Frame) (fs gs : List Frame) (f : Frame) → o ≡ Some f → gs ≡ fs ++ f ∷ [] → frames_of o (reverse fs) ≡ reverse gs
-pushed o fs gs f e h = rw e (rw h (sym (reverse-append fs (f ∷ []))))
-
 -- the innermost asks for what the reading asks for which it stands
 asks_stand : (fs : List Frame) (held : Lists) (work : List Reading) → AreFramesOf fs held work → asks_in fs held ≡ asked_in work
 asks_stand [] held [] st = refl

@@ -61,7 +61,7 @@ use Rattle.reading_frames.specs.declared.text.BuildPlace.{BuildPlace}
 use Rattle.reading_frames.specs.declared.text.BuildPlace.TheVariants as at
 use Rattle.reading_frames.specs.declared.text.BuildScan.{BuildScan}
 use Rattle.reading_frames.specs.declared.frame.Frame.{Frame}
-use Rattle.reading_frames.specs.declared.frame.Frame.TheVariants.{Command, Integer, Factor, Dimension, Glue, Keyword, Build, Spelling, FileName, Behind, Skips}
+use Rattle.reading_frames.specs.declared.frame.Frame.TheVariants.{Command, Integer, Factor, Dimension, Glue, Keyword, Build, Spelling, FileName, Behind, Skips, Call as Called}
 use Rattle.reading_frames.proofs.Rows.{noted_holds, value_holds}
 use Rattle.reading_frames.proofs.Asking.{frame_asks}
 use Rattle.reading_frames.proofs.Keywords.{keyword_light, keyword_small, keyword_noted, keyword_unfetched, keyword_unended}
@@ -241,6 +241,7 @@ all_light (Spelling s) = omega (arith, name_light_at s.call s.place)
 all_light (FileName s) = omega (arith, file_light_at s.call s.place)
 all_light (Behind c x) = omega arith
 all_light (Skips s) = omega (arith, skip_light_at s.call s.aim s.place)
+all_light (Called name) = omega arith
 
 pub small : (fs : List Frame) → innermost_weight fs < act_frame + act_weight
 small [] = omega arith
@@ -410,6 +411,7 @@ frame_ends (Spelling s) h = refl
 frame_ends (FileName s) h = refl
 frame_ends (Behind c x) h = refl
 frame_ends (Skips s) h = refl
+frame_ends (Called name) h = refl
 
 -- a frame weighs more than nothing
 pub frame_heavy : (f : Frame) → value_frame ≤ own_weight f

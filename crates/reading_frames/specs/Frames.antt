@@ -1,11 +1,11 @@
 -- The open frames stand for the open readings of the machine, one for one.
-use Rattle.std.specs.Prelude.{◌≡◌, ◌≤◌, length, List, [], ◌∷◌, ◌++◌, drop, take}
+use Rattle.std.specs.Prelude.{◌≡◌, false, ◌≤◌, length, List, [], ◌∷◌, ◌++◌, drop, take}
 use Rattle.rows.specs.declared.words.Phrase.TheVariants.{Command, Integer, Factor, Dimension, Glue, Keyword}
 use Rattle.rows.specs.Readings.{Fed}
 use Rattle.plain_readings.specs.Readings.{Kind, Arguments, Reading, ask, lists, fed_with, opened}
 use Rattle.plain_readings.specs.Scanning.{status}
 use Rattle.reading_frames.specs.Views.{Lists, top_list}
-use Rattle.reading_frames.specs.Resumes.{resume, building, list_count, below, frame_status, groups}
+use Rattle.reading_frames.specs.Resumes.{resume, building, list_count, below, frame_status, groups, is_call}
 use Rattle.reading_frames.specs.declared.ask.Opening.{Opening}
 use Rattle.reading_frames.specs.declared.ask.Opening.TheVariants.{Reads, Behind, Skips}
 use Rattle.reading_frames.specs.declared.frame.Frame.{Frame}
@@ -15,13 +15,14 @@ abbrev pub IsFramed : Kind → Type 0
 IsFramed (Arguments name long number text) = ⊥
 IsFramed k = Unit {0}
 
--- The frame will answer what the reading will, and build the lists that it builds; its lists are held, and at a check it is what the reading is.
+-- The frame will answer what the reading will, and build the lists that it builds; its lists are held, and at a check it is what the reading is. No call is such a frame.
 pub record IsFrameOf (f : Frame) (held : Lists) (r : Reading) : Type 0 where
   pub goes_on : (fed : List Fed) → ask r.kind (r.fed ++ fed) ≡ resume f held fed
   pub builds_on : (fed : List Fed) → lists r.kind (r.fed ++ fed) ≡ building f held fed
   pub holds : list_count f ≤ length held
   pub checks : status r.kind ≡ frame_status f
   pub framed : IsFramed r.kind
+  pub apart : is_call f ≡ false
 
 -- THE STACK, innermost first, each frame with its own lists and those beneath; where none is open, no list is held
 abbrev pub AreFramesOf : List Frame → Lists → List Reading → Type 0
@@ -55,6 +56,7 @@ pub record Begins (k : Kind) (f : Frame) (held new : Lists) : Type 0 where
   pub beneath : below f new ≡ held
   pub checks : status k ≡ frame_status f
   pub framed : IsFramed k
+  pub apart : is_call f ≡ false
 
 -- A frame that is fed with this becomes another, and the lists become others.
 pub record GoesOn (old new : Frame) (held held' : Lists) (y : Fed) : Type 0 where
@@ -63,6 +65,7 @@ pub record GoesOn (old new : Frame) (held held' : Lists) (y : Fed) : Type 0 wher
   pub holds : list_count old ≤ length held → list_count new ≤ length held'
   pub beneath : below new held' ≡ below old held
   pub checks : frame_status new ≡ frame_status old
+  pub apart : is_call new ≡ is_call old
 
 -- WHAT A STACK DOES
 

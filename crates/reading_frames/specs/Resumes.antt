@@ -5,7 +5,7 @@ use Rattle.tex_syntax.specs.declared.words.Scanned.{Scanned}
 use Rattle.tex_syntax.specs.declared.words.Scanned.TheVariants as scanned
 use Rattle.tex_syntax.specs.declared.words.Manner.{Manner}
 use Rattle.tex_syntax.specs.declared.words.Want.{Want}
-use Rattle.tex_syntax.specs.declared.words.Want.TheVariants.{Expanded, Nonblank}
+use Rattle.tex_syntax.specs.declared.words.Want.TheVariants.{Raw, Expanded, Nonblank}
 use Rattle.plain_state.specs.Definitions as build
 use Rattle.list_builder.specs.Stages as stages
 use Rattle.list_builder.specs.declared.stage.Stage.{Stage}
@@ -52,7 +52,7 @@ use Rattle.reading_frames.specs.declared.text.BuildPlace.{BuildPlace}
 use Rattle.reading_frames.specs.declared.text.BuildPlace.TheVariants as place
 use Rattle.reading_frames.specs.declared.text.BuildScan.{BuildScan}
 use Rattle.reading_frames.specs.declared.frame.Frame.{Frame}
-use Rattle.reading_frames.specs.declared.frame.Frame.TheVariants.{Command, Integer, Factor, Dimension, Glue, Keyword, Build, Spelling, FileName, Behind, Skips}
+use Rattle.reading_frames.specs.declared.frame.Frame.TheVariants.{Command, Integer, Factor, Dimension, Glue, Keyword, Build, Spelling, FileName, Behind, Skips, Call as Called}
 use Rattle.reading_frames.specs.Views.{Lists, top_list, kept_list_of}
 
 -- A command, and the list with which it is to do something
@@ -197,6 +197,7 @@ resume (Spelling scan) held fed = resume_name scan (top_list held) fed
 resume (FileName scan) held fed = resume_file scan (top_list held) fed
 resume (Behind c x) held fed = reading.Acts c (PutBack x)
 resume (Skips scan) held fed = resume_skip scan fed
+resume (Called name) held fed = reading.More Raw
 
 -- the lists that it will have built then
 abbrev pub building : Frame → Lists → List Fed → Lists
@@ -211,6 +212,7 @@ building (Spelling scan) held fed = name_list scan (top_list held) fed ∷ []
 building (FileName scan) held fed = file_list scan (top_list held) fed ∷ []
 building (Behind c x) held fed = []
 building (Skips scan) held fed = []
+building (Called name) held fed = []
 
 -- how many lists of its own are held now
 abbrev pub list_count : Frame → ℕ
@@ -254,6 +256,11 @@ read_at s n = None
 abbrev pub reads_unguarded : Status → Bool
 reads_unguarded Unguarded = true
 reads_unguarded s = false
+
+-- a call of a macro, of which the arguments, the place in the parameter text and what it asks for stand where the lists do
+abbrev pub is_call : Frame → Bool
+is_call (Called name) = true
+is_call f = false
 
 -- the groups that are open in the list that is built
 abbrev pub groups : Frame → ℕ

@@ -1,7 +1,8 @@
 -- The stack of all open readings, the innermost first.
-use Rattle.std.specs.Prelude.{◌≡◌, ℕ, ◌+◌, ◌≤◌, ◌<◌, ◌^◌, List, [], ◌∷◌, Option, Some, None, length, drop}
+use Rattle.std.specs.Prelude.{◌≡◌, ℕ, if◌then◌else◌, ◌+◌, ◌≤◌, ◌<◌, ◌^◌, List, [], ◌∷◌, Option, Some, None, length, drop}
 use Rattle.tex_defs.specs.declared.Full.{Full}
 use Rattle.tex_defs.specs.declared.Table.TheVariants.{ExpansionDepth}
+use Rattle.tex_defs.specs.declared.Name.{Name}
 use Rattle.tex_defs.specs.declared.Token.{Token}
 use Rattle.tex_syntax.specs.declared.words.Want.{Want}
 use Rattle.tex_syntax.specs.declared.words.Want.TheVariants.{Copied}
@@ -12,13 +13,13 @@ use Rattle.plain_readings.specs.Readings.{Reading, ask, fed_with}
 use Rattle.plain_readings.specs.Scanning.{Status, Scans, SkipsText, Unguarded, Scanning}
 use Rattle.plain_readings.specs.Scanning as machine
 use Rattle.reading_frames.specs.Views.{Lists, top_list, ask_of}
-use Rattle.reading_frames.specs.Resumes.{resume, building, list_count, frame_status, groups, next_in_body}
+use Rattle.reading_frames.specs.Resumes.{resume, building, list_count, frame_status, groups, is_call, next_in_body}
 use Rattle.reading_frames.specs.Frames.{AreFramesOf, AreShallow}
 use Rattle.reading_frames.specs.declared.ask.Ask.{Ask}
 use Rattle.reading_frames.specs.declared.ask.Found.{Found}
 use Rattle.reading_frames.specs.declared.ask.Found.TheVariants.{Builds, SkippedText}
 use Rattle.reading_frames.specs.declared.frame.Frame.{Frame}
-use Rattle.reading_frames.specs.declared.frame.Frame.TheVariants.{Build}
+use Rattle.reading_frames.specs.declared.frame.Frame.TheVariants.{Build, Call}
 
 pub record Stack : Type 0 where
   pub frames : List Frame
@@ -92,6 +93,20 @@ in_place f (g ∷ fs) = f ∷ fs
 abbrev pub with_innermost : Option Frame → List Frame → List Frame
 with_innermost None fs = fs
 with_innermost (Some f) fs = in_place f fs
+
+-- CALLS OF MACROS
+
+-- the frames without the call that is innermost, if one is
+abbrev pub without_call : List Frame → List Frame
+without_call [] = []
+without_call (f ∷ fs) = if is_call f then fs else f ∷ fs
+
+-- the stack with a call of the macro of this name above all, and without it
+abbrev pub call_begun : Name → Stack → Stack
+call_begun name s = record { frames = Call name ∷ s.frames; size = s.size }
+
+abbrev pub call_ended : Stack → Stack
+call_ended s = record { frames = without_call s.frames; size = s.size }
 
 -- WHAT IS READ AT A CHECK. What is read itself has the list of this number among those that are held, the innermost being number 0.
 abbrev pub found_at : Status → ℕ → (around : Option Found) → Option Found

@@ -6,7 +6,7 @@ ghost use Rattle.equivalents.specs.declared.values.Loc.{Loc as Location};
 ghost use Rattle.rows.specs.Readings.{Fed, Tok, Noted, Val, Fetched, Fetches};
 ghost use Rattle.reading_frames.specs.Views.{ask_of, has_no_token, reading_kind, IsFetchedAt, Lists, on_top, top_list};
 ghost use Rattle.reading_frames.specs.Frames.{Begins, opened_lists};
-ghost use Rattle.reading_frames.specs.Resumes.{resume, building, list_count, below, frame_status, groups, read_at, reads_unguarded, token_count, with_list, Owns};
+ghost use Rattle.reading_frames.specs.Resumes.{resume, building, list_count, below, frame_status, groups, is_call, read_at, reads_unguarded, token_count, with_list, Owns};
 ghost use Rattle.reading_frames.specs.Weights.{asks_weight, begun_weight, begun_with_weight, fed_weight, frame_end, opening_end, opening_frame, own_weight, put_count};
 ghost use Rattle.plain_readings.specs.Measures.{dimen_ask, dimen_inner, glue_ask, glue_inner};
 ghost use Rattle.plain_readings.specs.Weights.{value_frame, value_weight, IsNoted};
@@ -28,7 +28,8 @@ use rows::{Call, Datum, Effect, Head, Phrase, Value};
 use scan_dimens::{DimenAsk, DimenScan, KeywordAsk, KeywordScan};
 use scan_glue::{GlueAsk, GlueScan};
 use scan_numbers::{FactorAsk, FactorScan, NumberScan};
-use tex_defs::Seen;
+use tex_defs::{Name, Seen};
+use tex_syntax::Want;
 
 /// An open reading.
 #[derive(Clone, Copy)]
@@ -52,6 +53,9 @@ pub enum Frame {
     Behind(Call, Seen),
     /// Text that a conditional skips.
     Skips(SkipScan),
+    /// A call of the macro of this name. How far its arguments are gathered stands where the lists do, since it has places among them: here it
+    /// asks for a token as it stands.
+    Call(Name),
 }
 
 // What an integer's scanner asks for.
@@ -203,6 +207,7 @@ impl Frame {
             Frame::FileName(scan) => scan.ask(),
             Frame::Behind(call, x) => Ask::Acts(*call, Effect::PutBack(*x)),
             Frame::Skips(scan) => scan.ask(),
+            Frame::Call(_) => Ask::More(Want::Raw),
         }
     }
 
@@ -220,6 +225,7 @@ impl Frame {
         ensures holds { (held : Lists) → list_count self.old ≤ length held → list_count self.new ≤ length (on_top result held) }
         ensures beneath { (held : Lists) → below self.new (on_top result held) ≡ below self.old held }
         ensures checks { frame_status self.new ≡ frame_status self.old }
+        ensures apart { is_call self.new ≡ is_call self.old }
         ensures shallow { groups self.new ≤ groups self.old + token_count result }
         ensures listed { 1 ≤ token_count result → list_count self.old ≡ 1 }
     {
@@ -244,6 +250,7 @@ impl Frame {
         ensures holds { (held : Lists) → list_count self.old ≤ length held → list_count self.new ≤ length (on_top result held) }
         ensures beneath { (held : Lists) → below self.new (on_top result held) ≡ below self.old held }
         ensures checks { frame_status self.new ≡ frame_status self.old }
+        ensures apart { is_call self.new ≡ is_call self.old }
         ensures shallow { groups self.new ≤ groups self.old + token_count result }
         ensures listed { 1 ≤ token_count result → list_count self.old ≡ 1 }
     {
@@ -279,7 +286,7 @@ impl Frame {
                 scan.feed(x);
                 Grown::none()
             }
-            Frame::Behind(..) => Grown::none(),
+            Frame::Behind(..) | Frame::Call(_) => Grown::none(),
         }
     }
 
@@ -294,6 +301,7 @@ impl Frame {
         ensures holds { (held : Lists) → list_count self.old ≤ length held → list_count self.new ≤ length (on_top result held) }
         ensures beneath { (held : Lists) → below self.new (on_top result held) ≡ below self.old held }
         ensures checks { frame_status self.new ≡ frame_status self.old }
+        ensures apart { is_call self.new ≡ is_call self.old }
         ensures shallow { groups self.new ≤ groups self.old + token_count result }
         ensures listed { 1 ≤ token_count result → list_count self.old ≡ 1 }
     {
@@ -335,7 +343,7 @@ impl Frame {
                 scan.stop();
                 Grown::none()
             }
-            Frame::Behind(..) => Grown::none(),
+            Frame::Behind(..) | Frame::Call(_) => Grown::none(),
         }
     }
 
@@ -348,6 +356,7 @@ impl Frame {
         ensures holds { (ts : List Token) (held : Lists) → list_count self.old ≤ length held → list_count self.new ≤ length (with_list result ts held) }
         ensures beneath { (ts : List Token) (held : Lists) → below self.new (with_list result ts held) ≡ below self.old held }
         ensures checks { frame_status self.new ≡ frame_status self.old }
+        ensures apart { is_call self.new ≡ is_call self.old }
         ensures own { own_weight self.new ≡ own_weight self.old }
         ensures ends { frame_end self.new ≡ frame_end self.old }
         ensures weight { asks_weight self.new < value_frame + value_weight }
@@ -389,7 +398,7 @@ impl Frame {
                 scan.stop();
                 false
             }
-            Frame::Build(_) | Frame::Behind(..) => false,
+            Frame::Build(_) | Frame::Behind(..) | Frame::Call(_) => false,
         }
     }
 
@@ -402,6 +411,7 @@ impl Frame {
         ensures builds { (held : Lists) (fed : List Fed) → building self.old held (Fetched value ∷ fed) ≡ building self.new held fed }
         ensures count { list_count self.new ≡ list_count self.old }
         ensures checks { frame_status self.new ≡ frame_status self.old }
+        ensures apart { is_call self.new ≡ is_call self.old }
         ensures groups { groups self.new ≡ groups self.old }
     {
         match self {
@@ -414,7 +424,7 @@ impl Frame {
             Frame::Spelling(scan) => scan.stop(),
             Frame::FileName(scan) => scan.stop(),
             Frame::Skips(scan) => scan.stop(),
-            Frame::Build(_) | Frame::Behind(..) => {}
+            Frame::Build(_) | Frame::Behind(..) | Frame::Call(_) => {}
         }
     }
 
@@ -437,7 +447,7 @@ impl Frame {
             Frame::Command(scan, _) => { if scan.is_listed() { 1 } else { 0 } }
             Frame::Build(_) | Frame::Spelling(_) | Frame::FileName(_) => 1,
             Frame::Integer(_) | Frame::Factor(_) | Frame::Dimension(_) | Frame::Glue(_) => 0,
-            Frame::Keyword(_) | Frame::Behind(..) | Frame::Skips(_) => 0,
+            Frame::Keyword(_) | Frame::Behind(..) | Frame::Skips(_) | Frame::Call(_) => 0,
         }
     }
 
@@ -450,6 +460,13 @@ impl Frame {
             Frame::Skips(scan) => Some(Found::SkippedText(scan.line)),
             _ => None,
         }
+    }
+
+    /// Whether it is a call of a macro.
+    pub fn is_call(&self) -> bool
+        ensures { result ≡ is_call self.now }
+    {
+        matches!(self, Frame::Call(_))
     }
 
     /// Whether its token is read under normal status, whatever is read around it.

@@ -10,7 +10,7 @@ ghost use Rattle.plain_readings.specs.Weights.{value_frame, act_frame, value_wei
 ghost use Rattle.reading_frames.specs.Views.{has_no_token, reading_kind, IsFetchedAt, Lists, on_top};
 ghost use Rattle.reading_frames.specs.Resumes.{with_list, listed_count, token_count, Owns};
 ghost use Rattle.reading_frames.specs.Frames.{AreFramesOf, AreShallow, opened_lists};
-ghost use Rattle.reading_frames.specs.Stack.{Stack, innermost_body, AsksCopied, depth_full, asks_in, asked_in, asked_of, innermost_groups, innermost_count, innermost_lists, innermost_of, with_innermost, lists_beneath, found_in, innermost_found, scanning_of};
+ghost use Rattle.reading_frames.specs.Stack.{Stack, innermost_body, AsksCopied, depth_full, asks_in, asked_in, asked_of, innermost_groups, innermost_count, innermost_lists, innermost_of, with_innermost, lists_beneath, found_in, innermost_found, scanning_of, call_begun, call_ended};
 ghost use Rattle.reading_frames.specs.declared.ask.Ask.TheVariants as asks;
 ghost use Rattle.reading_frames.specs.Weights.{frames_weight, opening_frame, opening_end, innermost_weight, innermost_end, innermost_fed, innermost_puts, begun_weight, begun_with_weight, IsReported};
 
@@ -20,7 +20,7 @@ use equivalents::Val as StoredValue;
 use rows::Value;
 use std::alloc::{AllocError, Global};
 use std::marker::Model;
-use tex_defs::{Full, Seen, Table};
+use tex_defs::{Full, Name, Seen, Table};
 use tex_syntax::Want;
 
 /// All open readings, the innermost apart, and room for as many as the expansion depth.
@@ -166,6 +166,53 @@ impl Readings {
         Some(frame.ask())
     }
 
+    /// A call of the macro of this name begins.
+    ///
+    /// # Errors
+    /// As many are open as there may be. Nothing has changed then.
+    pub fn begin_call(&mut self, name: Name) -> Result<(), Full>
+        ensures begins { OnOk result (self.new ≡ call_begun name self.old) }
+        ensures room { OnOk result (length self.old.frames < self.old.size) }
+        ensures full { IfErr result (λ full. full ≡ depth_full self.old) }
+        ensures refused { IfErr result (λ full. length self.old.frames ≡ self.old.size) }
+        ensures unchanged { IfErr result (λ full. self.new ≡ self.old) }
+    {
+        self.push(Frame::Call(name))
+    }
+
+    /// The call ends, if the innermost is one.
+    pub fn end_call(&mut self)
+        ensures { self.new ≡ call_ended self.old }
+    {
+        match &self.innermost {
+            Some(frame) if frame.is_call() => self.innermost = self.beneath.pop(),
+            _ => {}
+        }
+    }
+
+    /// This frame stands above all.
+    fn push(&mut self, frame: Frame) -> Result<(), Full>
+        ensures begins { OnOk result (self.new ≡ record { frames = frame ∷ self.old.frames; size = self.old.size }) }
+        ensures room { OnOk result (length self.old.frames < self.old.size) }
+        ensures full { IfErr result (λ full. full ≡ depth_full self.old) }
+        ensures refused { IfErr result (λ full. length self.old.frames ≡ self.old.size) }
+        ensures unchanged { IfErr result (λ full. self.new ≡ self.old) }
+    {
+        let used = self.count();
+        if used == self.size {
+            return Err(Full {
+                table: Table::ExpansionDepth,
+                used,
+                size: self.size,
+            });
+        }
+        if let Some(beneath) = self.innermost {
+            self.beneath.push_reserved(beneath);
+        }
+        self.innermost = Some(frame);
+        Ok(())
+    }
+
     /// One more begins; one that builds a list has one of no token on top.
     ///
     /// # Errors
@@ -191,19 +238,7 @@ impl Readings {
         ensures refused { IfErr result (λ full. length self.old.frames ≡ self.old.size) }
         ensures unchanged { IfErr result (λ full. self.new ≡ self.old) }
     {
-        let used = self.count();
-        if used == self.size {
-            return Err(Full {
-                table: Table::ExpansionDepth,
-                used,
-                size: self.size,
-            });
-        }
-        if let Some(frame) = self.innermost {
-            self.beneath.push_reserved(frame);
-        }
-        self.innermost = Some(Frame::begin(opening));
-        Ok(())
+        self.push(Frame::begin(opening))
     }
 
     /// One more begins with this token, as `begin` and `feed` do it.

@@ -127,7 +127,6 @@ keeping_stands sizes e book o st = let sized = st.sound.sized in record {
   sound = record {
     sized = record {
       few_reports = sized.few_reports;
-      small = sized.small;
       own = sized.own;
       readings = sized.readings;
       conditionals = sized.conditionals;

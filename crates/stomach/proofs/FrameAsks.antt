@@ -49,7 +49,7 @@ use Rattle.reading_frames.specs.declared.command.CommandScan.TheVariants as comm
 use Rattle.reading_frames.specs.declared.file_name.FilePlace.{FilePlace}
 use Rattle.reading_frames.specs.declared.file_name.FilePlace.TheVariants as file
 use Rattle.reading_frames.specs.declared.frame.Frame.{Frame}
-use Rattle.reading_frames.specs.declared.frame.Frame.TheVariants.{Command, Integer, Factor, Dimension, Glue, Keyword as Word, Build, Spelling, FileName, Behind, Skips}
+use Rattle.reading_frames.specs.declared.frame.Frame.TheVariants.{Command, Integer, Factor, Dimension, Glue, Keyword as Word, Build, Spelling, FileName, Behind, Skips, Call as Called}
 use Rattle.reading_frames.specs.Weights.{own_weight, frames_weight}
 use Rattle.reading_frames.specs.declared.skip.SkipPlace.{SkipPlace}
 use Rattle.reading_frames.specs.declared.skip.SkipPlace.TheVariants as skip
@@ -241,6 +241,7 @@ begins_none (Spelling scan) held c is = not_so _ _ is (name_modest scan.call sca
 begins_none (FileName scan) held c is = not_so _ _ is (file_modest scan.call scan.place (top_list held))
 begins_none (Behind d x) held c is = cc
 begins_none (Skips scan) held c is = not_meek _ _ is (skip_meek scan.call scan.aim scan.place)
+begins_none (Called name) held c is = cc
 
 -- what begins one is no reading that ends with a value
 begins_heavy : (f : Frame) (held : Lists) (c : Call) (begins : Bool) → resume f held [] ≡ Inner (phrase.Command c) begins → own_weight f ≡ act_frame
@@ -290,6 +291,7 @@ list_own (Spelling scan) held ts has some = refl
 list_own (FileName scan) held ts has some = refl
 list_own (Behind d x) held ts has some = absurd has
 list_own (Skips scan) held ts has some = absurd (meek_not _ ts (skip_meek scan.call scan.aim scan.place) has)
+list_own (Called name) held ts has some = absurd has
 
 -- the innermost
 

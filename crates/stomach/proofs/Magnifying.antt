@@ -36,7 +36,6 @@ mag_stands sizes e book n st = let sized = st.sound.sized in record {
   sound = record {
     sized = record {
       few_reports = sized.few_reports;
-      small = sized.small;
       own = sized.own;
       readings = sized.readings;
       conditionals = sized.conditionals;

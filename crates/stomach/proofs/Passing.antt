@@ -173,7 +173,6 @@ module _ (sizes : Sizes) (e : Engine) (book : Book) (w : World) (r : Reading) (r
       sound = record {
         sized = record {
           few_reports = st.sound.sized.few_reports;
-          small = st.sound.sized.small;
           own = st.sound.sized.own;
           readings = size ∙ st.sound.sized.readings;
           conditionals = st.sound.sized.conditionals;

@@ -17,7 +17,7 @@ use Rattle.engine_state.specs.Rules.{DoesRule, Halts}
 use Rattle.engine_state.specs.Stands.{Stands, SameFrames, SameReadings, state_of}
 use Rattle.engine_state.specs.Steps.{IsHalted}
 use Rattle.engine_state.proofs.Uncalled.{frames_all}
-use Rattle.engine_state.proofs.CallKept.{frames_kept, readings_still}
+use Rattle.engine_state.proofs.CallKept.{beneath_still, frames_kept, readings_still}
 use Rattle.engine_state.proofs.Stopping.{noted, noted_same, noted_went, noted_halts}
 use Rattle.stomach.specs.Halting.{HaltsIn, DoesRuleIn}
 
@@ -26,7 +26,7 @@ use Rattle.stomach.specs.Halting.{HaltsIn, DoesRuleIn}
 frames_by : (e e' : Engine) (c : Option Call) (work : List Reading) → SameFrames e e' → FramesOf c e work → FramesOf c e' work
 frames_by e e' None work same h = frames_kept e e' work same h
 frames_by e e' (Some c) [] same h = h
-frames_by e e' (Some c) (r ∷ rs) same h = (subst (λ (k : Calling). CallReads c k r) (sym same.call) h.0, frames_kept e e' rs same h.1)
+frames_by e e' (Some c) (r ∷ rs) same h = (subst (λ (k : Calling). CallReads c k r) (sym same.call) h.0, beneath_still e e' c rs same.readings same.lists h.1)
 
 frames_still : (e e' : Engine) (work : List Reading) → SameFrames e e' → FramesOf (call_in e.input.call) e work → FramesOf (call_in e'.input.call) e' work
 frames_still e e' work same h = subst (λ (c : Option Call). FramesOf c e' work) (sym (ap call_in same.call)) (frames_by e e' (call_in e.input.call) work same h)

@@ -10,7 +10,7 @@ use Rattle.input_state.specs.declared.answer.Call.{Call}
 use Rattle.input_state.specs.Callings.{call_in}
 use Rattle.engine_state.specs.declared.engine.Engine.{Engine}
 use Rattle.engine_state.specs.Calls.{FramesOf}
-use Rattle.engine_state.proofs.CallKept.{frames_kept}
+use Rattle.engine_state.proofs.CallKept.{beneath_still, frames_kept}
 use Rattle.engine_state.proofs.Stopping.{noted, noted_same, noted_counts, noted_near, noted_stands}
 use Rattle.line_reader.specs.Readers.{OpenReaders}
 use Rattle.plain_machine.specs.Extended.{Rests}
@@ -28,7 +28,7 @@ match_to (Err y) f g h = g y h
 frames_noted : (b : Bool) (e : Engine) (c : Option Call) (work : List Reading) → FramesOf c e work → FramesOf c (noted b e) work
 frames_noted b e None work h = frames_kept e (noted b e) work (noted_same b e) h
 frames_noted b e (Some c) [] h = h
-frames_noted b e (Some c) (r ∷ rs) h = (h.0, frames_kept e (noted b e) rs (noted_same b e) h.1)
+frames_noted b e (Some c) (r ∷ rs) h = (h.0, beneath_still e (noted b e) c rs (noted_same b e).readings (noted_same b e).lists h.1)
 
 module _ (b : Bool) (e' : Engine) (left : Rests) (t : State) where
   end_noted : IsEnd e' left t → IsEnd (noted b e') left t

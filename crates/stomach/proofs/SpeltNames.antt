@@ -71,7 +71,6 @@ module _ (sizes : Sizes) (e e1 : Engine) (book : Book) (only : OnlySpelt e e1) w
   still_sound b h = record {
     sized = record {
       few_reports = h.sized.few_reports;
-      small = h.sized.small;
       own = h.sized.own;
       readings = h.sized.readings;
       conditionals = h.sized.conditionals;

@@ -256,7 +256,7 @@ opened_stands sizes e st =
     let sound = st.sound in
     record {
       sound = record {
-        sized = record { few_reports = sound.sized.few_reports; small = sound.sized.small; own = sound.sized.own; readings = sound.sized.readings; conditionals = sound.sized.conditionals; input = sound.sized.input; names = sound.sized.names; located = sound.sized.located };
+        sized = record { few_reports = sound.sized.few_reports; own = sound.sized.own; readings = sound.sized.readings; conditionals = sound.sized.conditionals; input = sound.sized.input; names = sound.sized.names; located = sound.sized.located };
         tied = sound.tied;
         bodies = sound.bodies;
       };

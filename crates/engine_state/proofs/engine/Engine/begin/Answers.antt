@@ -8,12 +8,12 @@ use Rattle.engine_state.proofs.engine.Engine.begin.Goals as goal
 
 pub returns-in-Err-begin_list-clause-refused : goal.returns-in-Err-begin_list-clause-refused
 returns-in-Err-begin_list-clause-refused c = λ sizes book counts. let e = c.args.self.now in let o = c.args.opening in
-    begun_refusal sizes e book (lists (reading_kind o) []) (length (opened_lists o [])) (Some c.in-Err-begin_list.full) counts (c.depth_refusal.ensures.room (none_of c.depth_refusal.result c.in_default.not-Some))
+    begun_refusal sizes e book (lists (reading_kind o) []) (length (opened_lists o [])) (Some c.in-Err-begin_list.full) counts (ROOM)
     (words_of (lists (reading_kind o) []) (opened_lists o []) (c.in_default-begin.ensures.lists []) ∙ opened_words o) c.in-Err-begin_list.ensures.refused
 
 pub returns-clause-fits : goal.returns-clause-fits
 returns-clause-fits c = λ sizes book counts. let e = c.args.self.now in let o = c.args.opening in
-    begun_refusal sizes e book (lists (reading_kind o) []) (length (opened_lists o [])) None counts (c.depth_refusal.ensures.room (none_of c.depth_refusal.result c.in_default.not-Some))
+    begun_refusal sizes e book (lists (reading_kind o) []) (length (opened_lists o [])) None counts (ROOM)
     (words_of (lists (reading_kind o) []) (opened_lists o []) (c.in_default-begin.ensures.lists []) ∙ opened_words o) c.in_default-begin_list.ensures.fits
 
 pub returns-clause-stands : goal.returns-clause-stands

@@ -10,13 +10,13 @@ use Rattle.engine_state.proofs.engine.Engine.begin_with.Goals as goal
 
 pub returns-in-Some-list_refusal-clause-refused : goal.returns-in-Some-list_refusal-clause-refused
 returns-in-Some-list_refusal-clause-refused c = λ sizes book counts. let e = c.args.self.now in let o = c.args.opening in let g = c.in-Ok.grown in let b = c.in-Ok.ensures in
-    begun_refusal sizes e book (lists (reading_kind o) (Tok e.last ∷ [])) (length (opened_lists o []) + token_count g) (Some c.in-Some-list_refusal.full) counts (c.depth_refusal.ensures.room (none_of c.depth_refusal.result c.in_default.not-Some))
+    begun_refusal sizes e book (lists (reading_kind o) (Tok e.last ∷ [])) (length (opened_lists o []) + token_count g) (Some c.in-Some-list_refusal.full) counts (ROOM)
     (words_of (lists (reading_kind o) (Tok e.last ∷ [])) (on_top g (opened_lists o [])) (b.lists []) ∙ begun_words o g b.listed)
     (own_sizes sizes e book (length (opened_lists o []) + token_count g) (Some c.in-Some-list_refusal.full) counts (sym c.list_refusal.ensures ∙ c.in-Some-list_refusal.is))
 
 pub returns-clause-fits : goal.returns-clause-fits
 returns-clause-fits c = λ sizes book counts. let e = c.args.self.now in let o = c.args.opening in let g = c.in-Ok.grown in let b = c.in-Ok.ensures in
-    begun_refusal sizes e book (lists (reading_kind o) (Tok e.last ∷ [])) (length (opened_lists o []) + token_count g) None counts (c.depth_refusal.ensures.room (none_of c.depth_refusal.result c.in_default.not-Some))
+    begun_refusal sizes e book (lists (reading_kind o) (Tok e.last ∷ [])) (length (opened_lists o []) + token_count g) None counts (ROOM)
     (words_of (lists (reading_kind o) (Tok e.last ∷ [])) (on_top g (opened_lists o [])) (b.lists []) ∙ begun_words o g b.listed)
     (own_sizes sizes e book (length (opened_lists o []) + token_count g) None counts (sym c.list_refusal.ensures ∙ none_of c.list_refusal.result c.in_default-list_refusal.not-Some))
 

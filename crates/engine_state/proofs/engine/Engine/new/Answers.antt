@@ -21,7 +21,6 @@ use Rattle.reading_frames.specs.Frames.{AreShallow}
 use Rattle.plain_machine.specs.States.{no_files, no_token}
 use Rattle.input_state.specs.Stored.{Stored, gathered}
 use Rattle.engine_state.proofs.Known.{first_known}
-use Rattle.engine_state.proofs.Counting.{small_depth}
 use Rattle.engine_state.specs.Book.{first_book}
 use Rattle.engine_state.proofs.Cells.{first_located}
 use Rattle.engine_state.proofs.engine.Engine.new.Goals as goal
@@ -53,7 +52,6 @@ returns c = let i = c.in_ok-input.ensures in let n = c.in-Ok.ensures in let o = 
       stands = record {
         sound = record {
           sized = record {
-            small = small_depth c.args.sizes.now c.requires;
             few_reports = omega arith;
             own = refl;
             readings = ap (λ (x : Stack). x.size) o;
