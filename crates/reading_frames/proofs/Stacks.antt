@@ -1,13 +1,13 @@
 -- The stack with its innermost frame first.
-use Rattle.std.proofs.Common.{◌≡◌, ◌∙◌, List, [], ◌∷◌, ◌++◌, Option, Some, None, reverse, length, refl, sym, ap}
+use Rattle.std.proofs.Common.{◌≡◌, ◌∙◌, List, [], ◌∷◌, Option, Some, None, reverse, length, refl, sym, ap}
 use Rattle.std.specs.Prelude.{IfSome}
 use Rattle.tex_syntax.specs.declared.words.Want.{Want}
-use Rattle.std.proofs.lemmas.List.{append-nil, length-reverse, reverse-append}
+use Rattle.std.proofs.lemmas.List.{append-nil, length-reverse}
 use Rattle.plain_readings.specs.Readings.{Reading, ask}
 use Rattle.reading_frames.specs.Views.{Lists, ask_of}
 use Rattle.reading_frames.specs.Resumes.{resume}
 use Rattle.reading_frames.specs.Frames.{AreFramesOf}
-use Rattle.reading_frames.specs.Stack.{frames_of, asks_in, asked_in}
+use Rattle.reading_frames.specs.Stack.{asks_in, asked_in}
 use Rattle.reading_frames.specs.declared.ask.Ask.{Ask}
 use Rattle.reading_frames.specs.declared.ask.Ask.TheVariants as asks
 use Rattle.reading_frames.specs.declared.text.BuildScan.{BuildScan}

@@ -161,7 +161,7 @@ build_at m place.Whole list fed = build.Done list
 abbrev pub resume_build : BuildScan → List Token → List Fed → build.Answer
 resume_build scan list fed = build_at scan.manner scan.place list fed
 
--- what is wanted, where the next token of the body itself is
+-- how the next token is read, where it is one of the body itself
 abbrev pub stage_want : Manner → Stage → Option Want
 stage_want m (stage.InBody b depth) = Some (build.body_want m)
 stage_want m s = None

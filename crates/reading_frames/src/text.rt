@@ -74,8 +74,8 @@ impl BuildScan {
         }
     }
 
-    /// What it asks for where the next token of the body itself is wanted, of a text or of a macro. Behind a parameter character that may yet
-    /// stand for a parameter another is.
+    /// How the next token is read, where it is one of the body itself, of a text or of a macro. Behind a parameter character it isn't: that may
+    /// yet stand for a parameter.
     #[inline(always)]
     pub fn next_in_body(&self) -> Option<Want>
         ensures is { result ≡ next_in_body self.now }

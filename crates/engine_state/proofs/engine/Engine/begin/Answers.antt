@@ -8,15 +8,15 @@ use Rattle.engine_state.proofs.engine.Engine.begin.Goals as goal
 
 pub returns-in-Err-begin_list-clause-refused : goal.returns-in-Err-begin_list-clause-refused
 returns-in-Err-begin_list-clause-refused c = λ sizes book counts. let e = c.args.self.now in let o = c.args.opening in
-    begun_refusal sizes e book (lists (reading_kind o) []) (length (opened_lists o [])) (Some c.in-Err-begin_list.full) counts (ROOM)
-    (words_of (lists (reading_kind o) []) (opened_lists o []) (c.in_default-begin.ensures.lists []) ∙ opened_words o) c.in-Err-begin_list.ensures.refused
+    begun_refusal sizes e book (lists (reading_kind o) []) (length (opened_lists o [])) (Some c.in-Err-begin_list.full) counts c.in_default.ensures.room
+    (words_of (lists (reading_kind o) []) (opened_lists o []) (c.in_default.ensures.lists []) ∙ opened_words o) c.in-Err-begin_list.ensures.refused
 
 pub returns-clause-fits : goal.returns-clause-fits
 returns-clause-fits c = λ sizes book counts. let e = c.args.self.now in let o = c.args.opening in
-    begun_refusal sizes e book (lists (reading_kind o) []) (length (opened_lists o [])) None counts (ROOM)
-    (words_of (lists (reading_kind o) []) (opened_lists o []) (c.in_default-begin.ensures.lists []) ∙ opened_words o) c.in_default-begin_list.ensures.fits
+    begun_refusal sizes e book (lists (reading_kind o) []) (length (opened_lists o [])) None counts c.in_default.ensures.room
+    (words_of (lists (reading_kind o) []) (opened_lists o []) (c.in_default.ensures.lists []) ∙ opened_words o) c.in_default-begin_list.ensures.fits
 
 pub returns-clause-stands : goal.returns-clause-stands
-returns-clause-stands c = λ sizes book st. let e = c.args.self.now in let o = c.args.opening in let b = c.in_default-begin.ensures in
+returns-clause-stands c = λ sizes book st. let e = c.args.self.now in let o = c.args.opening in let b = c.in_default.ensures in
     opens sizes e c.begin_list.new.self book (opened (reading_kind o) book.work) c.begin.new.self (opened_lists o e.input.builds) c.in_default-begin_list.ensures.ok b.size c.begin_list.ensures.keeps
     (b.begins e.input.builds book.work st.readings.frames) (b.shallow e.input.builds st.readings.shallow) st
