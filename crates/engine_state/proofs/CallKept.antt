@@ -48,7 +48,7 @@ pub beneath_still : (e e' : Engine) (c : Call) (work : List Reading) → e'.read
 beneath_still e e' c work readings lists h =
     let items : e'.readings.frames ≡ e.readings.frames = ap (λ (s : Stack). s.frames) readings in
     record {
-      innermost = items ∙ (h.innermost ∙ ap (λ (fs : List Frame). frame.Call c.name ∷ drop 1 fs) (sym items));
+      innermost = subst (λ (s : Stack). s.frames ≡ frame.Call c.name ∷ drop 1 s.frames) (sym readings) h.innermost;
       frames = subst (λ (l : List (List Token)). frames.AreFramesOf (drop 1 e'.readings.frames) l work) (sym lists) (subst (λ (fs : List Frame). frames.AreFramesOf (drop 1 fs) e.input.builds work) (sym items) h.frames);
       shallow = subst (λ (l : List (List Token)). AreShallow (drop 1 e'.readings.frames) l) (sym lists) (subst (λ (fs : List Frame). AreShallow (drop 1 fs) e.input.builds) (sym items) h.shallow);
     }

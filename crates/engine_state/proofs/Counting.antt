@@ -1,11 +1,10 @@
 -- The engine's tables count as the machine's.
-use Rattle.std.proofs.Common.{◌≡◌, ℕ, ◌+◌, ◌<◌, ◌≤◌, List, [], ◌∷◌, ◌++◌, length, drop, refl, sym, ap, ◌∙◌, arith}
-use Rattle.std.specs.Prelude.{Option, Some, None, Bool, true, false, nat_le}
+use Rattle.std.proofs.Common.{◌≡◌, ℕ, ◌+◌, ◌<◌, ◌≤◌, List, [], ◌∷◌, length, drop, refl, ap, ◌∙◌, arith}
+use Rattle.std.specs.Prelude.{Option, Some, None, true, nat_le}
 use Rattle.tex_defs.specs.declared.Token.{Token}
 use Rattle.std.proofs.lemmas.Bool.Decides.{nat_tests}
 use Rattle.tex_defs.specs.declared.Sizes.{Sizes}
 use Rattle.tex_defs.specs.declared.Full.{Full}
-use Rattle.tex_defs.specs.declared.Table.TheVariants.{ExpansionDepth}
 use Rattle.rows.specs.Readings.{Tok}
 use Rattle.plain_readings.specs.Readings.{Kind, Reading, lists}
 use Rattle.plain_tokens.specs.Tables.{memory, lists_words, refused}
@@ -13,7 +12,6 @@ use Rattle.reading_frames.specs.declared.frame.Frame.{Frame}
 use Rattle.reading_frames.specs.Resumes.{below}
 use Rattle.reading_frames.specs.Views.{Lists}
 use Rattle.reading_frames.specs.Frames as frames
-use Rattle.reading_frames.specs.Stack.{depth_full}
 use Rattle.plain_machine.specs.States.{Begun, BegunWith}
 use Rattle.plain_machine.specs.Demands.{refusal}
 use Rattle.input_state.specs.Stored.{Stored, words as stored_words}
@@ -44,10 +42,6 @@ call_counts sizes e book st = record { sound = st.sound; depth = count_by e book
 pub counts_of : (sizes : Sizes) (e : Engine) (book : Book) → Stands sizes e book → Counts sizes e book
 counts_of sizes e book st = call_counts sizes e book (all_of sizes e book st)
 
-pub none_of : {A : Type 0} → (o : Option A) → ((x : A) → o ≡ Some x → ⊥) → o ≡ None
-none_of None h = refl
-none_of (Some x) h = absurd (h x refl)
-
 -- one reading more, by the machine and by the engine
 module _ (sizes : Sizes) (e : Engine) (book : Book) (k : Kind) (o : Option Full) (counts : Counts sizes e book) (room : depth e < e.readings.size) where
   within : nat_le (length book.work + 1) sizes.expansion_depth ≡ true
@@ -58,26 +52,3 @@ module _ (sizes : Sizes) (e : Engine) (book : Book) (k : Kind) (o : Option Full)
 
   pub begun_with_refusal : refused e.input.sizes (memory (lists_words (lists k (Tok e.last ∷ []))) (stored_words e.input) ∷ []) ≡ o → refusal sizes (BegunWith k) (state_of e book) ≡ o
   begun_with_refusal h = rw within (words_more sizes e book (lists_words (lists k (Tok e.last ∷ []))) o counts.sound h)
-
--- no reading more may be open
-module _ (sizes : Sizes) (e : Engine) (book : Book) (full : Full) (counts : Counts sizes e book) (most : length e.readings.frames ≡ e.readings.size) (is : full ≡ depth_full e.readings) where
-  beyond : nat_le (length book.work + 1) sizes.expansion_depth ≡ false
-  beyond = grind (arith, nat_tests, counts.depth, counts.sound.sized.readings, most)
-
-  full_is : Some (record { table = ExpansionDepth; used = length book.work; size = sizes.expansion_depth }) ≡ Some full
-  full_is =
-      ap (λ (n : ℕ). Some (record { table = ExpansionDepth; used = n; size = sizes.expansion_depth })) counts.depth
-      ∙ ap (λ (n : ℕ). Some (record { table = ExpansionDepth; used = length e.readings.frames; size = n })) (sym counts.sound.sized.readings)
-      ∙ sym (ap (λ (f : Full). Some f) is)
-
-  pub begun_beyond : (k : Kind) → refusal sizes (Begun k) (state_of e book) ≡ Some full
-  begun_beyond k = rw beyond full_is
-
-  pub begun_with_beyond : (k : Kind) → refusal sizes (BegunWith k) (state_of e book) ≡ Some full
-  begun_with_beyond k = rw beyond full_is
-
--- a reading without a list asks for no word
-pub bare_room : (i : Stored) (lists : List (List Token)) → lists ≡ [] → stored_words i ≤ i.sizes.main_memory_size → refused i.sizes (memory (lists_words lists) (stored_words i) ∷ []) ≡ None
-bare_room i lists none within =
-    let fits : nat_le (stored_words i + 0) i.sizes.main_memory_size ≡ true = grind (arith, nat_tests, within) in
-    ap (λ (l : List (List Token)). refused i.sizes (memory (lists_words l) (stored_words i) ∷ [])) none ∙ rw fits refl

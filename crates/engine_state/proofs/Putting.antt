@@ -27,7 +27,6 @@ use Rattle.name_table.specs.Strings.{Strings, other_refusal}
 use Rattle.world_io.specs.Contents.{FilesTold, SinkTold, world}
 use Rattle.input_state.specs.Stored.{Stored, KeepsShared, words as stored_words}
 use Rattle.input_state.specs.HeldLists.{made as made_list}
-use Rattle.input_state.specs.Callings.{Calling, call_in}
 use Rattle.reading_frames.specs.Stack.{Stack}
 use Rattle.engine_state.specs.declared.broken.Broken.{Broken}
 use Rattle.engine_state.specs.declared.broken.Broken.TheVariants as broken

@@ -112,9 +112,13 @@ pub record CallStands (e : Engine) (number : ℕ → ℕ) (c : Call) (r : Readin
   pub at : CallAt c.ask c.name long (list_at e.input.lists id) e.input.call r.fed
   pub holds : lists r.kind r.fed ≡ call_lists e.input.call
 
--- A call is the innermost frame, and those beneath, with the lists that they hold, stand for these readings.
+-- the innermost frame is this call's
+abbrev pub IsCallOver : Call → Engine → Type 0
+IsCallOver c e = e.readings.frames ≡ frame.Call c.name ∷ drop 1 e.readings.frames
+
+-- So it is, and those beneath, with the lists that they hold, stand for these readings.
 pub record FramesBeneath (c : Call) (e : Engine) (work : List Reading) : Type 0 where
-  pub innermost : e.readings.frames ≡ frame.Call c.name ∷ drop 1 e.readings.frames
+  pub innermost : IsCallOver c e
   pub frames : frames.AreFramesOf (drop 1 e.readings.frames) e.input.builds work
   pub shallow : AreShallow (drop 1 e.readings.frames) e.input.builds
 

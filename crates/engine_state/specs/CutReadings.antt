@@ -17,7 +17,7 @@ use Rattle.reading_frames.specs.Frames as frames
 use Rattle.engine_state.specs.declared.broken.Broken.{Broken}
 use Rattle.engine_state.specs.declared.broken.Broken.TheVariants as broken
 use Rattle.input_state.specs.declared.answer.Call.{Call}
-use Rattle.engine_state.specs.Calls.{Gathers, CallReads, asks_of}
+use Rattle.engine_state.specs.Calls.{Gathers, CallReads, IsCallOver, asks_of}
 use Rattle.engine_state.specs.declared.engine.Engine.{Engine}
 use Rattle.engine_state.specs.Book.{Book}
 use Rattle.engine_state.specs.Rules.{Cuts}
@@ -68,7 +68,7 @@ pub data CallAtCut (b : Broken) (c : Call) (k : Calling) (r : Reading) : Type 0 
 abbrev pub FramesIn : Broken → Option Call → Engine → (lists : List (List Token)) → List Reading → Type 0
 FramesIn b None e lists work = frames.AreFramesOf e.readings.frames lists work
 FramesIn b (Some c) e lists [] = ⊥
-FramesIn b (Some c) e lists (r ∷ rs) = CallAtCut b c e.input.call r × frames.AreFramesOf (drop 1 e.readings.frames) lists rs
+FramesIn b (Some c) e lists (r ∷ rs) = CallAtCut b c e.input.call r × IsCallOver c e × frames.AreFramesOf (drop 1 e.readings.frames) lists rs
 
 -- the innermost list has one token more, or none
 abbrev pub with_token : Option Token → List (List Token) → List (List Token)

@@ -1,9 +1,7 @@
 -- What an engine stands for: a state of the machine, once its open readings are named.
-use Rattle.std.specs.Prelude.{◌≡◌, ℕ, ◌+◌, ◌<◌, ◌≤◌, true, List, [], length, nat_lt, if◌then◌else◌, Option, Some, None}
+use Rattle.std.specs.Prelude.{◌≡◌, ℕ, ◌+◌, ◌≤◌, true, List, [], length, None}
 use Rattle.tex_defs.specs.declared.Token.{Token}
 use Rattle.tex_defs.specs.declared.Sizes.{Sizes}
-use Rattle.tex_defs.specs.declared.Full.{Full}
-use Rattle.tex_defs.specs.declared.Table.TheVariants.{ExpansionDepth}
 use Rattle.plain_tokens.specs.Meanings.{fixed_locations}
 use Rattle.plain_tokens.specs.Pending.{all_puts}
 use Rattle.plain_tokens.specs.Tables.{is_put}
@@ -20,7 +18,6 @@ use Rattle.plain_machine.specs.Numbers.{Tied, pending_of, groups_of, tables_of}
 use Rattle.input_state.specs.Stored.{Stored, KeepsShared, gathered}
 use Rattle.input_state.specs.Callings.{NotCalling, call_in}
 use Rattle.engine_state.specs.declared.engine.Engine.{Engine}
-use Rattle.input_state.specs.declared.answer.Call.{Call}
 use Rattle.engine_state.specs.Book.{Book, AreBodies}
 
 -- The state that it stands for, but for what the files hold: the machine has its own numbers for the shared lists.
@@ -93,7 +90,7 @@ pub record IsSound (sizes : Sizes) (e : Engine) (number : ℕ → ℕ) (all_list
 
 -- THE OPEN READINGS
 
--- The frames, with all lists that are gathered but those of a call, stand for these readings.
+-- All frames, none of which is a call's, stand for these readings, with all lists that are gathered but those of a call.
 pub record FramesStand (e : Engine) (work : List Reading) : Type 0 where
   pub frames : frames.AreFramesOf e.readings.frames e.input.builds work
   pub shallow : AreShallow e.readings.frames e.input.builds
@@ -109,6 +106,7 @@ pub record Stands (sizes : Sizes) (e : Engine) (book : Book) : Type 0 where
   pub readings : FramesStand e book.work
   pub uncalled : IsUncalled e
 
+-- how many readings are open
 abbrev pub depth : Engine → ℕ
 depth e = length e.readings.frames
 

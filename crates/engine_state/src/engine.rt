@@ -22,7 +22,7 @@ pub struct Engine {
     /// What is pending, all lists, and what stands at all locations.
     pub input: Input,
     pub names: NameTable,
-    /// The open readings but that of a call that gathers its arguments: it is the innermost, and stands in the input.
+    /// The open readings; the scanner of a call that gathers its arguments, the innermost of all, stands in the input.
     pub readings: Readings,
     /// The token that `\\afterassignment` keeps.
     pub after: Option<Token>,

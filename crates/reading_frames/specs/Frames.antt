@@ -1,4 +1,4 @@
--- The open frames stand for the open readings of the machine, one for one.
+-- The open frames stand for the open readings of the machine, one for one, where no call of a macro is among them.
 use Rattle.std.specs.Prelude.{◌≡◌, false, ◌≤◌, length, List, [], ◌∷◌, ◌++◌, drop, take}
 use Rattle.rows.specs.declared.words.Phrase.TheVariants.{Command, Integer, Factor, Dimension, Glue, Keyword}
 use Rattle.rows.specs.Readings.{Fed}

@@ -41,7 +41,7 @@ pub record IsRoomy (innermost : Option Frame) (beneath : List Frame) (size capac
 abbrev pub depth_full : Stack → Full
 depth_full s = record { table = ExpansionDepth; used = length s.frames; size = s.size }
 
--- what the innermost frame asks for, and the innermost reading of the machine
+-- what the innermost frame asks for, whatever the call does that it may stand for, and the innermost reading of the machine
 abbrev pub asks_in : List Frame → Lists → Option reading.Ask
 asks_in [] held = None
 asks_in (f ∷ fs) held = Some (resume f held [])

@@ -53,8 +53,8 @@ pub enum Frame {
     Behind(Call, Seen),
     /// Text that a conditional skips.
     Skips(SkipScan),
-    /// A call of the macro of this name. How far its arguments are gathered stands where the lists do, since it has places among them: here it
-    /// asks for a token as it stands.
+    /// A call of the macro of this name. How far its arguments are gathered, and so what it asks for, stands where the lists do, since it has places
+    /// among them: the frame is its place on the stack.
     Call(Name),
 }
 

@@ -1,7 +1,8 @@
 //! The engine's open readings, whatever their kind, as frames of one stack.
 //!
 //! A reading of the machine is the list of all that it was fed with; a frame stands behind such a list, and answers what the
-//! machine's definition asks for. The lists that readings build and keep stay with whoever feeds the frames, the last one on top.
+//! machine's definition asks for, but that of a call of a macro, which only has its place here. The lists that readings build and keep stay with
+//! whoever feeds the frames, the last one on top.
 #![tactic(auto)]
 
 mod ask;

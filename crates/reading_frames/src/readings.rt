@@ -90,13 +90,6 @@ impl Readings {
         }
     }
 
-    /// How many there may be.
-    pub fn size(&self) -> u32
-        ensures { result ≡ self.now.size }
-    {
-        self.size
-    }
-
     /// The innermost, if one is open.
     pub fn innermost(&self) -> Option<Frame>
         ensures { result ≡ innermost_of self.now.frames }

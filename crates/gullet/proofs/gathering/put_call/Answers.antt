@@ -1,4 +1,4 @@
-use Rattle.std.proofs.Common.{refl, ap}
+use Rattle.std.proofs.Common.{ap}
 use Rattle.reading_frames.specs.Stack.{Stack}
 use Rattle.input_state.specs.Stored.{Stored}
 use Rattle.engine_state.specs.Steps.{pending_weight}

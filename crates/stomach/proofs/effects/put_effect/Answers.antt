@@ -8,8 +8,15 @@ use Rattle.engine_state.specs.Stands.{state_of}
 use Rattle.engine_state.proofs.Joining.{on_ok, err_to}
 use Rattle.stomach.proofs.effects.put_effect.Goals as goal
 
+pub returns-in-PutBack-clause-did : goal.returns-in-PutBack-clause-did
+returns-in-PutBack-clause-did c = rw c.in-PutBack.is (on_ok c.put_one.result (λ h small sizes w book counts. h sizes w book counts c.requires.idle) c.put_one.ensures.did)
+
 pub returns-in-PutBack-clause-err : goal.returns-in-PutBack-clause-err
 returns-in-PutBack-clause-err c = rw c.in-PutBack.is (err_to c.put_one.result (λ b h sizes w book more counts. h sizes w book more counts c.requires.idle) c.put_one.ensures.err)
+
+pub returns-in-PutMarked-clause-did : goal.returns-in-PutMarked-clause-did
+returns-in-PutMarked-clause-did c =
+    rw (c.in-PutMarked.is, sym c.marked.ensures) (on_ok c.put_one-in-PutMarked.result (λ h small sizes w book counts. h sizes w book counts c.requires.idle) c.put_one-in-PutMarked.ensures.did)
 
 pub returns-in-PutMarked-clause-err : goal.returns-in-PutMarked-clause-err
 returns-in-PutMarked-clause-err c =
@@ -42,6 +49,9 @@ returns-in-MakeRoman-clause-err c = let e = c.args.engine.now in let e1 = c.put_
     rw c.in-MakeRoman.is
     (err_to c.put_characters-in-MakeRoman.result (λ b h sizes w book more counts.
     subst (λ (x : ℤ). Cuts sizes (state_of e book) e1 book w w (put_characters (roman x) ++ more) b) (to_z-of_z w32 n fits) (h sizes w book more counts c.requires.idle)) c.put_characters-in-MakeRoman.ensures.err)
+
+pub returns-in-MakeString-clause-did : goal.returns-in-MakeString-clause-did
+returns-in-MakeString-clause-did c = rw c.in-MakeString.is (on_ok c.put_characters-in-MakeString.result (λ h small sizes w book counts. h sizes w book counts c.requires.idle) c.put_characters-in-MakeString.ensures.did)
 
 pub returns-in-MakeString-clause-err : goal.returns-in-MakeString-clause-err
 returns-in-MakeString-clause-err c = rw c.in-MakeString.is (err_to c.put_characters-in-MakeString.result (λ b h sizes w book more counts. h sizes w book more counts c.requires.idle) c.put_characters-in-MakeString.ensures.err)

@@ -3,7 +3,7 @@ use Rattle.std.specs.Prelude.{Some, None}
 use Rattle.plain_readings.specs.Readings.{lists, opened}
 use Rattle.reading_frames.specs.Views.{reading_kind}
 use Rattle.reading_frames.specs.Frames.{opened_lists}
-use Rattle.engine_state.proofs.ReadingsOpened.{begun_refusal, none_of, opened_words, opens, words_of}
+use Rattle.engine_state.proofs.ReadingsOpened.{begun_refusal, opened_words, opens, words_of}
 use Rattle.engine_state.proofs.engine.Engine.begin.Goals as goal
 
 pub returns-in-Err-begin_list-clause-refused : goal.returns-in-Err-begin_list-clause-refused
