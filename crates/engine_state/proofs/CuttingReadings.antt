@@ -29,7 +29,7 @@ use Rattle.engine_state.proofs.Cutting.{first_cuts, later_cuts}
 frames_at : (b : Broken) (e : Engine) (number : ℕ → ℕ) (c : Option Call) (work : List Reading) → ReadingsStand c e number work → FramesIn b c e e.input.builds work
 frames_at b e number None work h = h.frames
 frames_at b e number (Some c) [] h = h
-frames_at b e number (Some c) (r ∷ rs) h = (AsFed (call_reads e number c r h.0), (h.1.innermost, h.1.frames))
+frames_at b e number (Some c) (r ∷ rs) h = (AsFed (call_reads e number c r h.0), h.1.innermost, h.1.frames)
 
 pub near_all : (sizes : Sizes) (b : Broken) (e : Engine) (book : Book) → AllStand sizes e book → FramesAtCut b e book.work
 near_all sizes b e book st = record { lists = e.input.builds; front = None; grown = refl; leads = tt; stand = frames_at b e book.number (call_in e.input.call) book.work st.all }
@@ -44,7 +44,7 @@ work_still e e' n lists work same h = subst (λ (x : List Frame). frames.AreFram
 in_still : (b : Broken) (e e' : Engine) (c : Option Call) (lists : List (List Token)) (work : List Reading) → SameFrames e e' → FramesIn b c e lists work → FramesIn b c e' lists work
 in_still b e e' None lists work same h = work_still e e' 0 lists work same h
 in_still b e e' (Some c) lists [] same h = h
-in_still b e e' (Some c) lists (r ∷ rs) same h = (subst (λ (k : Calling). CallAtCut b c k r) (sym same.call) h.0, (subst (λ (s : Stack). s.frames ≡ frame.Call c.name ∷ drop 1 s.frames) (sym same.readings) h.1.0, work_still e e' 1 lists rs same h.1.1))
+in_still b e e' (Some c) lists (r ∷ rs) same h = (subst (λ (k : Calling). CallAtCut b c k r) (sym same.call) h.0, subst (λ (s : Stack). s.frames ≡ frame.Call c.name ∷ drop 1 s.frames) (sym same.readings) h.1, work_still e e' 1 lists rs same h.2)
 
 -- they are as they were
 pub near_still : (b : Broken) (e e' : Engine) (work : List Reading) → SameFrames e e' → FramesAtCut b e work → FramesAtCut b e' work

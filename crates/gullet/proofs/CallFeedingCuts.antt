@@ -143,7 +143,7 @@ module _ (sizes : Sizes) (e e2 : Engine) (book : Book) (r : Reading) (rs : List 
     grown = refl;
     leads = tt;
     stand = subst (λ (y : Engine). FramesIn (broken.Full full) (call_in y.input.call) y y.input.builds (q ∷ rs)) (sym behind)
-        (subst (λ (c : Option Call). FramesIn (broken.Full full) c (record e { last = e2.last; input = record e.input { call = e2.input.call; lists = e2.input.lists } }) e.input.builds (q ∷ rs)) (sym now) (near, (stood.1.innermost, stood.1.frames)));
+        (subst (λ (c : Option Call). FramesIn (broken.Full full) c (record e { last = e2.last; input = record e.input { call = e2.input.call; lists = e2.input.lists } }) e.input.builds (q ∷ rs)) (sym now) (near, stood.1.innermost, stood.1.frames));
   }
 
   -- the first moves are done, and the next one has no room
