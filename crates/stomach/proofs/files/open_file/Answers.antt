@@ -7,7 +7,7 @@ use Rattle.input_state.specs.Stored.{Stored}
 use Rattle.engine_state.specs.Rules.{Cuts, Halts}
 use Rattle.engine_state.specs.Stands.{page_of, state_of}
 use Rattle.engine_state.specs.declared.outcome.Ruled.TheVariants as ruled
-use Rattle.engine_state.proofs.Counting.{none_of}
+use Rattle.engine_state.proofs.ReadingsOpened.{none_of}
 use Rattle.engine_state.proofs.Uncalled.{all_of}
 use Rattle.plain_tokens.specs.Tokens.{character_codes}
 use Rattle.command_words.specs.Words.{file_name}

@@ -3,7 +3,7 @@ use Rattle.std.specs.Prelude.{None, Ok, Err}
 use Rattle.plain_machine.specs.Extended.{Rests}
 use Rattle.engine_state.specs.declared.engine.Engine.{Engine}
 use Rattle.engine_state.specs.Steps.{stops_run}
-use Rattle.engine_state.proofs.Counting.{none_of}
+use Rattle.engine_state.proofs.ReadingsOpened.{none_of}
 use Rattle.stomach.specs.declared.early.Early.{Early}
 use Rattle.stomach.specs.declared.runs.Ended.TheVariants as ended
 use Rattle.stomach.specs.Ran.{StoppedTo, RanTo, FreeTo, RuledTo}
