@@ -21,25 +21,37 @@ use Rattle.input_state.specs.Macros.{list_at, is_shared}
 use Rattle.input_state.specs.Stored.{Stored}
 use Rattle.reading_frames.specs.declared.frame.Frame.{Frame}
 use Rattle.reading_frames.specs.declared.frame.Frame.TheVariants as frame
-use Rattle.reading_frames.specs.Stack.{Stack, without_call}
+use Rattle.reading_frames.specs.Stack.{Stack}
 use Rattle.reading_frames.specs.Frames as frames
-use Rattle.reading_frames.specs.Frames.{AreShallow}
+use Rattle.reading_frames.specs.Frames.{OpenCall, AreShallow}
 use Rattle.input_state.specs.declared.answer.Call.{Call}
 use Rattle.engine_state.specs.declared.engine.Engine.{Engine}
 use Rattle.engine_state.specs.Book.{Book}
-use Rattle.engine_state.specs.Calls.{AllStand, ReadingsStand, CallStands, CallAt, FramesBeneath, asks_of}
-use Rattle.engine_state.specs.Stands.{IsSound, FramesStand, SameReadings, SameFrames, SameStore}
+use Rattle.engine_state.specs.Calls.{asks_of, AllStand, FramesOf, IsAsFar, open_call_of}
+use Rattle.engine_state.proofs.CallsKnown.{CallStands, CallAt, FramesBeneath, ReadingsBy, split, join}
+use Rattle.engine_state.specs.Stands.{IsSound, OpenFrames, FramesStand, SameReadings, SameFrames, SameStore}
 
 -- THE FRAMES
 
 -- they stand for the same readings
-pub readings_still : (e e' : Engine) (work : List Reading) → SameReadings e e' → FramesStand e work → FramesStand e' work
-readings_still e e' work same h =
-    let items : e'.readings.frames ≡ e.readings.frames = ap (λ (s : Stack). s.frames) same.readings in
+open_still : (c : Option OpenCall) (e e' : Engine) (work : List Reading) → e'.readings ≡ e.readings → e'.input.builds ≡ e.input.builds → OpenFrames c e work → OpenFrames c e' work
+open_still c e e' work readings lists h =
+    let items : e'.readings.frames ≡ e.readings.frames = ap (λ (s : Stack). s.frames) readings in
     record {
-      frames = subst (λ (l : List (List Token)). frames.AreFramesOf e'.readings.frames l work) (sym same.lists) (subst (λ (fs : List Frame). frames.AreFramesOf fs e.input.builds work) (sym items) h.frames);
-      shallow = subst (λ (l : List (List Token)). AreShallow e'.readings.frames l) (sym same.lists) (subst (λ (fs : List Frame). AreShallow fs e.input.builds) (sym items) h.shallow);
+      frames = subst (λ (l : List (List Token)). frames.AreFramesOf c e'.readings.frames l work) (sym lists) (subst (λ (fs : List Frame). frames.AreFramesOf c fs e.input.builds work) (sym items) h.frames);
+      shallow = subst (λ (l : List (List Token)). AreShallow e'.readings.frames l) (sym lists) (subst (λ (fs : List Frame). AreShallow fs e.input.builds) (sym items) h.shallow);
     }
+
+pub readings_still : (e e' : Engine) (work : List Reading) → SameReadings e e' → FramesStand e work → FramesStand e' work
+readings_still e e' work same h = open_still None e e' work same.readings same.lists h
+
+-- a call among them, too
+pub frames_still : (e e' : Engine) (work : List Reading) → SameFrames e e' → FramesOf e work → FramesOf e' work
+frames_still e e' work same h = record {
+  text = h.text;
+  frames = subst (λ (k : Calling). OpenFrames (open_call_of h.text k) e' work) (sym same.call) (open_still (open_call_of h.text e.input.call) e e' work same.readings same.lists h.frames);
+  far = subst (IsAsFar h.text) (sym same.call) h.far;
+}
 
 pub frames_kept : (e e' : Engine) (work : List Reading) → SameFrames e e' → FramesStand e work → FramesStand e' work
 frames_kept e e' work same h = readings_still e e' work (record { readings = same.readings; lists = same.lists; call = ap call_in same.call }) h
@@ -49,20 +61,9 @@ beneath_still e e' c work readings lists h =
     let items : e'.readings.frames ≡ e.readings.frames = ap (λ (s : Stack). s.frames) readings in
     record {
       innermost = subst (λ (s : Stack). s.frames ≡ frame.Call c.name ∷ drop 1 s.frames) (sym readings) h.innermost;
-      frames = subst (λ (l : List (List Token)). frames.AreFramesOf (drop 1 e'.readings.frames) l work) (sym lists) (subst (λ (fs : List Frame). frames.AreFramesOf (drop 1 fs) e.input.builds work) (sym items) h.frames);
+      frames = subst (λ (l : List (List Token)). frames.AreFramesOf None (drop 1 e'.readings.frames) l work) (sym lists) (subst (λ (fs : List Frame). frames.AreFramesOf None (drop 1 fs) e.input.builds work) (sym items) h.frames);
       shallow = subst (λ (l : List (List Token)). AreShallow (drop 1 e'.readings.frames) l) (sym lists) (subst (λ (fs : List Frame). AreShallow (drop 1 fs) e.input.builds) (sym items) h.shallow);
     }
-
--- without the call they are those beneath it
-module _ (e : Engine) (c : Call) (work : List Reading) (h : FramesBeneath c e work) where
-  left : without_call e.readings.frames ≡ drop 1 e.readings.frames
-  left = ap without_call h.innermost
-
-  pub left_frames : frames.AreFramesOf (without_call e.readings.frames) e.input.builds work
-  left_frames = subst (λ (fs : List Frame). frames.AreFramesOf fs e.input.builds work) (sym left) h.frames
-
-  pub left_shallow : AreShallow (without_call e.readings.frames) e.input.builds
-  left_shallow = subst (λ (fs : List Frame). AreShallow fs e.input.builds) (sym left) h.shallow
 
 -- A NAME THAT MEANS A MACRO
 
@@ -93,7 +94,7 @@ call_still e e' number c r same store h =
       holds = h.holds ∙ sym (ap call_lists same);
     }
 
-all_by : (e e' : Engine) (number : ℕ → ℕ) (c : Option Call) (work : List Reading) → SameFrames e e' → SameStore e.input e'.input → ReadingsStand c e number work → ReadingsStand c e' number work
+all_by : (e e' : Engine) (number : ℕ → ℕ) (c : Option Call) (work : List Reading) → SameFrames e e' → SameStore e.input e'.input → ReadingsBy c e number work → ReadingsBy c e' number work
 all_by e e' number None work same store h = frames_kept e e' work same h
 all_by e e' number (Some c) [] same store h = h
 all_by e e' number (Some c) (r ∷ rs) same store h = (call_still e e' number c r same.call store h.0, beneath_still e e' c rs same.readings same.lists h.1)
@@ -102,5 +103,5 @@ pub all_still : (sizes : Sizes) (e e' : Engine) (book : Book) → SameFrames e e
 all_still sizes e e' book same store sound idle st = record {
   sound = sound;
   idle = idle;
-  all = subst (λ (c : Option Call). ReadingsStand c e' book.number book.work) (sym (ap call_in same.call)) (all_by e e' book.number (call_in e.input.call) book.work same store st.all);
+  all = join e' book.number book.work (subst (λ (c : Option Call). ReadingsBy c e' book.number book.work) (sym (ap call_in same.call)) (all_by e e' book.number (call_in e.input.call) book.work same store (split e book.number book.work st.all)));
 }

@@ -20,16 +20,22 @@ use Rattle.reading_frames.specs.Stack.{found_at, innermost_found, found_in, asks
 use Rattle.reading_frames.specs.Frames as frames
 use Rattle.reading_frames.proofs.Scanning.{scans}
 use Rattle.plain_machine.specs.Plan.{first_list}
-use Rattle.input_state.specs.Callings.{NotCalling, call_in}
+use Rattle.input_state.specs.Callings.{NotCalling, call_in, Calling}
 use Rattle.input_state.specs.declared.answer.Call.{Call}
 use Rattle.macro_call.specs.declared.ask.CallAsk.{CallAsk}
 use Rattle.engine_state.specs.declared.engine.Engine.{Engine}
 use Rattle.engine_state.specs.Book.{Book}
-use Rattle.engine_state.specs.Calls.{ReadingsStand, open_call}
+use Rattle.engine_state.specs.Calls.{open_call, asks_by, asks_of}
+use Rattle.engine_state.proofs.CallsKnown.{ReadingsBy, split, taking_scanned}
 use Rattle.engine_state.specs.Stands.{Stands}
 use Rattle.engine_state.specs.Rules.{IsScanned, IsFound, IsListed, Finds, Takes, WantsHere, scanned_as, scanning_of}
 use Rattle.engine_state.proofs.Uncalled.{framed}
 use Rattle.engine_state.proofs.FramesHeld.{gathered_is}
+use Rattle.engine_state.specs.Steps.{asked_by, asked}
+use Rattle.rows.specs.Readings.{More}
+use Rattle.tex_defs.specs.declared.Name.{Name}
+use Rattle.macro_call.specs.declared.ask.CallAsk.TheVariants as call
+use Rattle.std.proofs.lemmas.Option.{none-some}
 
 -- FRAMES
 
@@ -93,15 +99,15 @@ frame_held (frame.Behind c x) n m o le h = h
 frame_held (frame.Skips scan) n m o le h = tt
 frame_held (frame.Call name) n m o le h = h
 
-all_held : (fs : List Frame) (n : ℕ) (held : Lists) (work : List Reading) → n ≤ length held → frames.AreFramesOf fs (drop n held) work → IfSome (innermost_found fs n) (IsBelow (length held))
+all_held : (fs : List Frame) (n : ℕ) (held : Lists) (work : List Reading) → n ≤ length held → frames.AreFramesOf None fs (drop n held) work → IfSome (innermost_found fs n) (IsBelow (length held))
 all_held [] n held work le h = tt
 all_held (f ∷ fs) n held [] le h = absurd h
 all_held (f ∷ fs) n held (r ∷ rs) le h =
     let room : n + list_count f ≤ length held = omega (arith, le, h.0.holds, length-drop n held) in
     frame_held f n (length held) (innermost_found fs (n + list_count f)) room
-    (all_held fs (n + list_count f) held rs room (subst (λ (l : Lists). frames.AreFramesOf fs l rs) (drop-drop (list_count f) n held) h.1))
+    (all_held fs (n + list_count f) held rs room (subst (λ (l : Lists). frames.AreFramesOf None fs l rs) (drop-drop (list_count f) n held) h.1))
 
-found_held : (fs : List Frame) (held : Lists) (work : List Reading) → frames.AreFramesOf fs held work → IfSome (found_in fs) (IsBelow (length held))
+found_held : (fs : List Frame) (held : Lists) (work : List Reading) → frames.AreFramesOf None fs held work → IfSome (found_in fs) (IsBelow (length held))
 found_held [] held work h = tt
 found_held (f ∷ fs) held work h = guarded (frame_status f) (innermost_found (f ∷ fs) 0) (IsBelow (length held)) (all_held (f ∷ fs) 0 held work (omega arith) h)
 
@@ -144,8 +150,8 @@ module _ (e : Engine) where
 
   -- without a call
   module _ (sizes : Sizes) (book : Book) (uncalled : e.input.call ≡ NotCalling) where
-    here : (want : Option Want) → Takes sizes want e book → WantsHere None want e
-    here want t = subst (λ (c : Option Call). WantsHere c want e) (ap call_in uncalled) t.0
+    here : (want : Option Want) → Takes sizes want e book → WantsHere (asked e) want
+    here want t = subst (λ (k : Calling). WantsHere (asked_by (call_in k) k (asked e)) want) uncalled t.0
 
     stood : (want : Option Want) → Takes sizes want e book → Stands sizes e book
     stood want t = framed sizes e book uncalled t.1
@@ -173,27 +179,41 @@ module _ (e : Engine) where
 
 -- A CALL
 
+pub more_asked : (name : Name) (a : CallAsk) (k : Calling) (want : Want) → Some (asks_by name a k) ≡ Some (More want) → a ≡ call.More
+more_asked name call.More k want is = refl
+more_asked name call.ExtraBrace k want is = cc
+more_asked name call.Gathered k want is = cc
+more_asked name call.Mismatch k want is = cc
+more_asked name (call.ParEnded false) k want is = cc
+more_asked name (call.ParEnded true) k want is = cc
+
 -- a call that takes tokens is the innermost reading
 pub record Using (sizes : Sizes) (e : Engine) (c : Call) (want : Option Want) (book : Book) : Type 0 where
   pub r : Reading
   pub rs : List Reading
   pub work : book.work ≡ r ∷ rs
   pub opened : call_in e.input.call ≡ Some (open_call c.name)
-  pub readings : ReadingsStand (Some (open_call c.name)) e book.number (r ∷ rs)
+  pub readings : ReadingsBy (Some (open_call c.name)) e book.number (r ∷ rs)
   pub wants : IsSome want
 
 pub using : (sizes : Sizes) (e : Engine) (c : Call) (want : Option Want) (book : Book) → call_in e.input.call ≡ Some c → Takes sizes want e book → Using sizes e c want book
-using sizes e c None book is t = absurd (subst (λ (o : Option Call). WantsHere o None e) is t.0)
+using sizes e c None book is t = absurd (none-some (asks_of c e.input.call) (sym (sym (ap (λ (o : Option Call). asked_by o e.input.call (asked e)) is) ∙ t.0)))
 using sizes e c (Some want) book is t = by_work book.work refl where
-  wants : WantsHere (Some c) (Some want) e
-  wants = subst (λ (o : Option Call). WantsHere o (Some want) e) is t.0
+  wants : Some (asks_of c e.input.call) ≡ Some (More want)
+  wants = sym (ap (λ (o : Option Call). asked_by o e.input.call (asked e)) is) ∙ t.0
 
   opened : call_in e.input.call ≡ Some (open_call c.name)
-  opened = is ∙ ap (λ (a : CallAsk). Some (record { name = c.name; ask = a })) wants.0
+  opened = is ∙ ap (λ (a : CallAsk). Some (record { name = c.name; ask = a })) (more_asked c.name c.ask e.input.call want wants)
 
-  all : ReadingsStand (Some (open_call c.name)) e book.number book.work
-  all = subst (λ (o : Option Call). ReadingsStand o e book.number book.work) opened t.1.all
+  all : ReadingsBy (Some (open_call c.name)) e book.number book.work
+  all = subst (λ (o : Option Call). ReadingsBy o e book.number book.work) opened (split e book.number book.work t.1.all)
 
   by_work : (work : List Reading) → book.work ≡ work → Using sizes e c (Some want) book
-  by_work [] none = absurd (subst (λ (rs : List Reading). ReadingsStand (Some (open_call c.name)) e book.number rs) none all)
-  by_work (r ∷ rs) is = record { r = r; rs = rs; work = is; opened = opened; readings = subst (λ (rs : List Reading). ReadingsStand (Some (open_call c.name)) e book.number rs) is all; wants = refl }
+  by_work [] none = absurd (subst (λ (rs : List Reading). ReadingsBy (Some (open_call c.name)) e book.number rs) none all)
+  by_work (r ∷ rs) is = record { r = r; rs = rs; work = is; opened = opened; readings = subst (λ (rs : List Reading). ReadingsBy (Some (open_call c.name)) e book.number rs) is all; wants = refl }
+
+-- it is what is scanned
+pub call_finds : (e : Engine) (c : Call) → call_in e.input.call ≡ Some c → (sizes : Sizes) (book : Book) (want : Option Want) → Takes sizes want e book → Finds (found.Builds scanned.Use c.name 0) e book × IsSome want
+call_finds e c is sizes book want t =
+    let u : Using sizes e c want book = using sizes e c want book is t in
+    (ap (λ (work : List Reading). scanning_of e work) u.work ∙ taking_scanned e book.number c.name u.r u.rs u.readings.0, u.wants)

@@ -19,7 +19,7 @@ use Rattle.tex_defs.specs.Places.{World, Transcript}
 use Rattle.plain_tokens.specs.Arguments.{is_par}
 use Rattle.plain_tokens.specs.Meanings.{met as met_token, token_meaning, is_expandable, marked_meaning}
 use Rattle.plain_state.specs.Reports.{report_bytes, runaway_bytes}
-use Rattle.rows.specs.Readings.{Cut}
+use Rattle.rows.specs.Readings.{Cut, Ask}
 use Rattle.plain_readings.specs.Readings.{Reading, fed_with}
 use Rattle.plain_readings.specs.Scanning.{Scanning, Builds, SkippedText}
 use Rattle.plain_machine.specs.States.{State, Move, Written, Reported, Feeds}
@@ -48,12 +48,12 @@ use Rattle.engine_state.specs.Book.{Book, with_work}
 use Rattle.engine_state.specs.Calls.{AllStand, AsksToken, work_or_none}
 use Rattle.engine_state.specs.CutReadings.{CutsIn}
 use Rattle.engine_state.specs.Stands.{IsSized, SameFrames, SameOthers, SameStore, OnlyColumn, state_of, page_of, own_style}
-use Rattle.engine_state.specs.Steps.{asked}
+use Rattle.engine_state.specs.Steps.{asked, asks_now, asked_by}
 use Rattle.engine_state.specs.Rules.{world_of, onward_of, feeds_of, space_moves, token_moves, scanning_of, nth_list, scanned_list, away_text, check_moves, IsScanned, IsFound, Finds, Takes, WantsHere, Behind, Comes, Went, Reports, DoesOnward}
 use Rattle.engine_state.proofs.Uncalled.{no_call}
 use Rattle.engine_state.proofs.CallKept.{all_still}
 use Rattle.engine_state.proofs.Checking.{Using, using}
-use Rattle.engine_state.proofs.CheckingNotes.{cut_same, noted_stands, noted_did, noted_feeds}
+use Rattle.engine_state.proofs.CheckingNotes.{cut_same, noted_stands, noted_did, noted_feeds, cut_asks}
 use Rattle.engine_state.proofs.Joining.{went_by, onward_by, onward_join}
 use Rattle.engine_state.proofs.CuttingReadings.{later_in, in_by}
 use Rattle.engine_state.proofs.Reporting.{others_sound}
@@ -64,14 +64,11 @@ use Rattle.engine_state.proofs.AtLocations.{all_input}
 asked_kept : (e e' : Engine) → e'.readings ≡ e.readings → e'.input.builds ≡ e.input.builds → asked e' ≡ asked e
 asked_kept e e' readings lists = ap (λ (s : Stack). asks_in s.frames e'.input.builds) readings ∙ ap (asks_in e.readings.frames) lists
 
-wants_still : (c : Option Call) (want : Option Want) (e e' : Engine) → asked e' ≡ asked e → WantsHere c want e → WantsHere c want e'
-wants_still None None e e' same h = same ∙ h
-wants_still None (Some want) e e' same h = same ∙ h
-wants_still (Some c) None e e' same h = h
-wants_still (Some c) (Some want) e e' same h = h
+pub asks_kept : (e e' : Engine) → SameFrames e e' → asks_now e' ≡ asks_now e
+asks_kept e e' same = ap (λ (k : Calling). asked_by (call_in k) k (asked e')) same.call ∙ ap (asked_by (call_in e.input.call) e.input.call) (asked_kept e e' same.readings same.lists)
 
 pub takes_still : (sizes : Sizes) (want : Option Want) (e e' : Engine) (book : Book) → SameFrames e e' → AllStand sizes e' book → Takes sizes want e book → Takes sizes want e' book
-takes_still sizes want e e' book same st t = (subst (λ (c : Option Call). WantsHere c want e') (sym (ap call_in same.call)) (wants_still (call_in e.input.call) want e e' (asked_kept e e' same.readings same.lists) t.0), st)
+takes_still sizes want e e' book same st t = (subst (λ (o : Option Ask). WantsHere o want) (sym (asks_kept e e' same)) t.0, st)
 
 -- what is scanned, and its list
 pub scanned_still : (what : Scanned) (k : ℕ) (e e' : Engine) → e'.input.call ≡ e.input.call → e'.input.builds ≡ e.input.builds → IsScanned what k e → IsScanned what k e'
@@ -155,9 +152,7 @@ module _ (sizes : Sizes) (want space : Option Want) (e e1 e2 : Engine) (f : File
           book2 = with_work now book;
           still = λ none. absurd (none-some c (sym (ap call_in none) ∙ ap (λ (y : Engine). call_in y.input.call) after ∙ cut_same e1.input.call (asking_is taking) ∙ is));
           takes = (
-            subst (λ (y : Engine). WantsHere (call_in y.input.call) want y) (sym after)
-                (subst (λ (o : Option Call). WantsHere o want (record e1 { input = record e1.input { call = with_scan cut_scan e1.input.call } })) (sym (cut_same e1.input.call (asking_is taking)))
-                (wants_still (call_in e1.input.call) want e1 (record e1 { input = record e1.input { call = with_scan cut_scan e1.input.call } }) refl takes1.0)),
+            subst (λ (y : Engine). WantsHere (asks_now y) want) (sym after) (subst (λ (o : Option Ask). WantsHere o want) (sym (cut_asks e1.input.call (asked e1) (asking_is taking))) takes1.0),
             noted_stands sizes e1 e2 book c.name u.r u.rs u.opened u.work takes1.1 u.readings after,
           );
           front = written ++ Feeds Cut ∷ [];

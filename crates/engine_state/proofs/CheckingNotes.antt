@@ -30,7 +30,9 @@ use Rattle.input_state.specs.Callings.{Calling, call_lists, asks_where, scan_ask
 use Rattle.input_state.specs.Macros.{list_at}
 use Rattle.engine_state.specs.declared.engine.Engine.{Engine}
 use Rattle.engine_state.specs.Book.{Book, with_work}
-use Rattle.engine_state.specs.Calls.{AllStand, ReadingsStand, CallStands, Gathers, IsTaking, AsksToken, open_call}
+use Rattle.engine_state.specs.Calls.{asks_by, AllStand, AsksToken, open_call}
+use Rattle.engine_state.specs.Steps.{asked_by}
+use Rattle.engine_state.proofs.CallsKnown.{CallStands, Gathers, IsTaking, ReadingsBy, join}
 use Rattle.engine_state.specs.Stands.{state_of}
 use Rattle.engine_state.specs.Rules.{world_of}
 use Rattle.engine_state.proofs.Joining.{quiet_wrote}
@@ -150,6 +152,12 @@ cut_call name (calls.Gathering n scan) is = ap (λ (c : Call). Some (open_call c
 cut_call name (calls.Stopped n why scan) is = is
 cut_call name (calls.Gathered n args) is = is
 
+pub cut_asks : (k : Calling) (o : Option reading.Ask) → AsksToken k → asked_by (call_in (with_scan cut_scan k)) (with_scan cut_scan k) o ≡ asked_by (call_in k) k o
+cut_asks calls.NotCalling o h = refl
+cut_asks (calls.Gathering n scan) o h = ap (λ (b : Bool). Some (asks_by n (asks_where b) (calls.Gathering n scan))) (sym h)
+cut_asks (calls.Stopped n why scan) o h = refl
+cut_asks (calls.Gathered n args) o h = refl
+
 pub cut_same : (k : Calling) → AsksToken k → call_in (with_scan cut_scan k) ≡ call_in k
 cut_same calls.NotCalling h = refl
 cut_same (calls.Gathering n scan) h = ap (asks_as n) (ap asks_where (sym h))
@@ -157,7 +165,7 @@ cut_same (calls.Stopped n why scan) h = refl
 cut_same (calls.Gathered n args) h = refl
 
 module _ (sizes : Sizes) (e e2 : Engine) (book : Book) (name : Name) (r : Reading) (rs : List Reading) (is : call_in e.input.call ≡ Some (open_call name)) (work : book.work ≡ r ∷ rs) (st : AllStand sizes e book)
-    (k : ReadingsStand (Some (open_call name)) e book.number (r ∷ rs)) (after : e2 ≡ record e { input = record e.input { call = with_scan cut_scan e.input.call } }) where
+    (k : ReadingsBy (Some (open_call name)) e book.number (r ∷ rs)) (after : e2 ≡ record e { input = record e.input { call = with_scan cut_scan e.input.call } }) where
   abbrev now : List Reading
   now = fed_with Cut (r ∷ rs)
 
@@ -169,8 +177,8 @@ module _ (sizes : Sizes) (e e2 : Engine) (book : Book) (name : Name) (r : Readin
     sound = sound_still sizes e e2 book.number book.all_lists (ap (λ (y : Engine). y.sizes) after) (ap (λ (y : Engine). y.readings.size) after) (ap (λ (y : Engine). y.conditionals) after) (ap (λ (y : Engine). y.names) after) (ap (λ (y : Engine). y.reports) after)
         (store_scan e.input e2.input (with_scan cut_scan e.input.call) (ap (λ (y : Engine). y.input) after)) st.sound;
     idle = ap (λ (y : Engine). y.input.making) after ∙ st.idle;
-    all = subst (λ (y : Engine). ReadingsStand (call_in y.input.call) y book.number now) (sym after)
-        (subst (λ (o : _). ReadingsStand o (record e { input = record e.input { call = with_scan cut_scan e.input.call } }) book.number now) (sym (cut_call name e.input.call is)) (c.stands _ refl, record { innermost = k.1.innermost; frames = k.1.frames; shallow = k.1.shallow }));
+    all = join e2 book.number now (subst (λ (y : Engine). ReadingsBy (call_in y.input.call) y book.number now) (sym after)
+        (subst (λ (o : _). ReadingsBy o (record e { input = record e.input { call = with_scan cut_scan e.input.call } }) book.number now) (sym (cut_call name e.input.call is)) (c.stands _ refl, record { innermost = k.1.innermost; frames = k.1.frames; shallow = k.1.shallow })));
   }
 
   made_now : made (Feeds Cut) (state_of e book) ≡ state_of e2 (with_work now book)

@@ -1,7 +1,6 @@
 -- The engine's tables count as the machine's.
-use Rattle.std.proofs.Common.{◌≡◌, ℕ, ◌+◌, ◌<◌, ◌≤◌, List, [], ◌∷◌, length, drop, refl, ap, ◌∙◌, arith}
-use Rattle.std.specs.Prelude.{Option, Some, None, true, nat_le}
-use Rattle.tex_defs.specs.declared.Token.{Token}
+use Rattle.std.proofs.Common.{◌≡◌, ◌+◌, ◌<◌, List, [], ◌∷◌, length, refl, arith}
+use Rattle.std.specs.Prelude.{Option, None, true, nat_le}
 use Rattle.std.proofs.lemmas.Bool.Decides.{nat_tests}
 use Rattle.tex_defs.specs.declared.Sizes.{Sizes}
 use Rattle.tex_defs.specs.declared.Full.{Full}
@@ -9,35 +8,28 @@ use Rattle.rows.specs.Readings.{Tok}
 use Rattle.plain_readings.specs.Readings.{Kind, Reading, lists}
 use Rattle.plain_tokens.specs.Tables.{memory, lists_words, refused}
 use Rattle.reading_frames.specs.declared.frame.Frame.{Frame}
-use Rattle.reading_frames.specs.Resumes.{below}
 use Rattle.reading_frames.specs.Views.{Lists}
 use Rattle.reading_frames.specs.Frames as frames
+use Rattle.reading_frames.specs.Frames.{OpenCall}
 use Rattle.plain_machine.specs.States.{Begun, BegunWith}
 use Rattle.plain_machine.specs.Demands.{refusal}
-use Rattle.input_state.specs.Stored.{Stored, words as stored_words}
-use Rattle.input_state.specs.declared.answer.Call.{Call}
-use Rattle.input_state.specs.Callings.{call_in}
+use Rattle.input_state.specs.Stored.{words as stored_words}
 use Rattle.engine_state.specs.declared.engine.Engine.{Engine}
 use Rattle.engine_state.specs.Book.{Book}
-use Rattle.engine_state.specs.Calls.{AllStand, ReadingsStand}
+use Rattle.engine_state.specs.Calls.{AllStand, open_call_of}
 use Rattle.engine_state.specs.Stands.{Stands, Counts, state_of, depth}
 use Rattle.engine_state.proofs.Uncalled.{all_of}
 use Rattle.engine_state.proofs.Storing.{words_more}
 
-pub frames_depth : (fs : List Frame) (held : Lists) (work : List Reading) → frames.AreFramesOf fs held work → length work ≡ length fs
-frames_depth [] held [] h = refl
-frames_depth [] held (r ∷ rs) h = absurd h
-frames_depth (f ∷ fs) held [] h = absurd h
-frames_depth (f ∷ fs) held (r ∷ rs) h = omega (arith, frames_depth fs (below f held) rs h.1)
+pub frames_depth : (c : Option OpenCall) (fs : List Frame) (held : Lists) (work : List Reading) → frames.AreFramesOf c fs held work → length work ≡ length fs
+frames_depth c [] held [] h = refl
+frames_depth c [] held (r ∷ rs) h = absurd h
+frames_depth c (f ∷ fs) held [] h = absurd h
+frames_depth c (f ∷ fs) held (r ∷ rs) h = omega (arith, frames_depth None fs (frames.lists_below c f held) rs h.1)
 
 -- a call is one of them
-count_by : (e : Engine) (number : ℕ → ℕ) (c : Option Call) (work : List Reading) → ReadingsStand c e number work → length work ≡ length e.readings.frames
-count_by e number None work h = frames_depth e.readings.frames e.input.builds work h.frames
-count_by e number (Some c) [] h = absurd h
-count_by e number (Some c) (r ∷ rs) h = omega (arith, frames_depth (drop 1 e.readings.frames) e.input.builds rs h.1.frames, ap (λ (fs : List Frame). length fs) h.1.innermost)
-
 pub call_counts : (sizes : Sizes) (e : Engine) (book : Book) → AllStand sizes e book → Counts sizes e book
-call_counts sizes e book st = record { sound = st.sound; depth = count_by e book.number (call_in e.input.call) book.work st.all }
+call_counts sizes e book st = record { sound = st.sound; depth = frames_depth (open_call_of st.all.readings.text e.input.call) e.readings.frames e.input.builds book.work st.all.readings.frames.frames }
 
 pub counts_of : (sizes : Sizes) (e : Engine) (book : Book) → Stands sizes e book → Counts sizes e book
 counts_of sizes e book st = call_counts sizes e book (all_of sizes e book st)

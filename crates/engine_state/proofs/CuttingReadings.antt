@@ -1,50 +1,44 @@
 -- Moves that are cut off, where the open readings are known.
-use Rattle.std.proofs.Common.{◌≡◌, ℕ, List, [], ◌∷◌, ◌++◌, drop, refl, sym, ap, subst, ◌∙◌}
-use Rattle.std.specs.Prelude.{Bool, Option, Some, None}
+use Rattle.std.proofs.Common.{◌≡◌, List, ◌++◌, refl, sym, subst, ◌∙◌}
+use Rattle.std.specs.Prelude.{Bool, None}
 use Rattle.tex_defs.specs.declared.Sizes.{Sizes}
-use Rattle.tex_defs.specs.declared.Token.{Token}
 use Rattle.tex_defs.specs.Places.{World}
 use Rattle.plain_readings.specs.Readings.{Reading}
 use Rattle.plain_machine.specs.States.{State, Move}
 use Rattle.plain_machine.specs.Does.{Did}
 use Rattle.world_io.specs.Contents.{FilesTold, SinkTold, world}
-use Rattle.input_state.specs.Callings.{Calling, NotCalling, call_in}
+use Rattle.input_state.specs.Callings.{Calling, NotCalling}
 use Rattle.reading_frames.specs.Stack.{Stack}
 use Rattle.reading_frames.specs.Frames as frames
-use Rattle.reading_frames.specs.declared.frame.Frame.{Frame}
-use Rattle.reading_frames.specs.declared.frame.Frame.TheVariants as frame
 use Rattle.engine_state.specs.declared.broken.Broken.{Broken}
-use Rattle.input_state.specs.declared.answer.Call.{Call}
 use Rattle.engine_state.specs.declared.engine.Engine.{Engine}
 use Rattle.engine_state.specs.Book.{Book}
-use Rattle.engine_state.specs.Calls.{AllStand, ReadingsStand}
-use Rattle.engine_state.specs.CutReadings.{AsFed, CallAtCut, FramesIn, FramesAtCut, CutsIn}
+use Rattle.engine_state.specs.Calls.{AllStand, FramesOf, open_call_of}
+use Rattle.engine_state.specs.CutReadings.{AsFed, CallAtCut, FramesAtCut, CutsIn}
 use Rattle.engine_state.specs.Rules.{world_of, Cuts}
 use Rattle.engine_state.specs.Stands.{Stands, FramesStand, SameFrames, state_of}
-use Rattle.engine_state.proofs.Uncalled.{all_of, call_reads}
+use Rattle.engine_state.proofs.Uncalled.{all_of, frames_none}
 use Rattle.engine_state.proofs.Cutting.{first_cuts, later_cuts}
 
 -- THE OPEN READINGS
 
-frames_at : (b : Broken) (e : Engine) (number : ℕ → ℕ) (c : Option Call) (work : List Reading) → ReadingsStand c e number work → FramesIn b c e e.input.builds work
-frames_at b e number None work h = h.frames
-frames_at b e number (Some c) [] h = h
-frames_at b e number (Some c) (r ∷ rs) h = (AsFed (call_reads e number c r h.0), h.1.innermost, h.1.frames)
+frames_near : (b : Broken) (e : Engine) (work : List Reading) → FramesOf e work → FramesAtCut b e work
+frames_near b e work h = record {
+  lists = e.input.builds;
+  front = None;
+  grown = refl;
+  leads = tt;
+  call = open_call_of h.text e.input.call;
+  at = AsFed (record { text = h.text; call = refl; far = h.far });
+  stand = h.frames.frames;
+}
 
 pub near_all : (sizes : Sizes) (b : Broken) (e : Engine) (book : Book) → AllStand sizes e book → FramesAtCut b e book.work
-near_all sizes b e book st = record { lists = e.input.builds; front = None; grown = refl; leads = tt; stand = frames_at b e book.number (call_in e.input.call) book.work st.all }
+near_all sizes b e book st = frames_near b e book.work st.all.readings
 
 -- where no call gathers its arguments
 pub near_none : (b : Broken) (e : Engine) (work : List Reading) → e.input.call ≡ NotCalling → FramesStand e work → FramesAtCut b e work
-near_none b e work none h = record { lists = e.input.builds; front = None; grown = refl; leads = tt; stand = subst (λ (c : Option Call). FramesIn b c e e.input.builds work) (sym (ap call_in none)) h.frames }
-
-work_still : (e e' : Engine) (n : ℕ) (lists : List (List Token)) (work : List Reading) → SameFrames e e' → frames.AreFramesOf (drop n e.readings.frames) lists work → frames.AreFramesOf (drop n e'.readings.frames) lists work
-work_still e e' n lists work same h = subst (λ (x : List Frame). frames.AreFramesOf (drop n x) lists work) (sym (ap (λ (r : Stack). r.frames) same.readings)) h
-
-in_still : (b : Broken) (e e' : Engine) (c : Option Call) (lists : List (List Token)) (work : List Reading) → SameFrames e e' → FramesIn b c e lists work → FramesIn b c e' lists work
-in_still b e e' None lists work same h = work_still e e' 0 lists work same h
-in_still b e e' (Some c) lists [] same h = h
-in_still b e e' (Some c) lists (r ∷ rs) same h = (subst (λ (k : Calling). CallAtCut b c k r) (sym same.call) h.0, subst (λ (s : Stack). s.frames ≡ frame.Call c.name ∷ drop 1 s.frames) (sym same.readings) h.1, work_still e e' 1 lists rs same h.2)
+near_none b e work none h = frames_near b e work (frames_none e work none h)
 
 -- they are as they were
 pub near_still : (b : Broken) (e e' : Engine) (work : List Reading) → SameFrames e e' → FramesAtCut b e work → FramesAtCut b e' work
@@ -53,7 +47,9 @@ near_still b e e' work same h = record {
   front = h.front;
   grown = same.lists ∙ h.grown;
   leads = h.leads;
-  stand = subst (λ (c : Option Call). FramesIn b c e' h.lists work) (sym (ap call_in same.call)) (in_still b e e' (call_in e.input.call) h.lists work same h.stand);
+  call = h.call;
+  at = subst (λ (k : Calling). CallAtCut b k h.call work) (sym same.call) h.at;
+  stand = subst (λ (r : Stack). frames.AreFramesOf h.call r.frames h.lists work) (sym same.readings) h.stand;
 }
 
 -- CUT OFF

@@ -1,3 +1,4 @@
+pub mod CallsKnown
 pub mod Uncalled
 pub mod CallKept
 pub mod Cells

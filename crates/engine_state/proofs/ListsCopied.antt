@@ -1,6 +1,6 @@
 -- The list of a location enters an expanded text.
 use Rattle.std.proofs.Common.{◌≡◌, ◌≤◌, ◌+◌, List, [], ◌∷◌, ◌++◌, length, refl, sym, ap, ◌∙◌, subst, append_assoc, append-nil, arith, true}
-use Rattle.std.specs.Prelude.{Some}
+use Rattle.std.specs.Prelude.{Some, None}
 use Rattle.std.proofs.lemmas.List.{length-append}
 use Rattle.std.proofs.lemmas.List.Sums.{sum_by-cons, sum_by-append}
 use Rattle.tex_syntax.specs.declared.words.Want.TheVariants.{Copied}
@@ -75,7 +75,7 @@ entered_join (t ∷ ts) us = ap (λ (ms : List Move). Grows t ∷ Feeds (Verbati
 -- THE FRAMES
 
 -- an expanded text has its list
-copied_top : (fs : List Frame) (held : List (List Token)) (work : List Reading) → frames.AreFramesOf fs held work → AsksCopied (asks_in fs held) → held ≡ [] → ⊥
+copied_top : (fs : List Frame) (held : List (List Token)) (work : List Reading) → frames.AreFramesOf None fs held work → AsksCopied (asks_in fs held) → held ≡ [] → ⊥
 copied_top [] held work stands copies none = cc
 copied_top (f ∷ fs) held [] stands copies none = stands
 copied_top (f ∷ fs) held (r ∷ rs) stands copies none =

@@ -1,5 +1,5 @@
 -- What becomes of what was pulled.
-use Rattle.std.proofs.Common.{◌≡◌, ℕ, ◌+◌, ◌<◌, List, [], ◌∷◌, ◌++◌, length, refl, sym, ap, ◌∙◌, subst, Bool, true, false, arith}
+use Rattle.std.proofs.Common.{◌≡◌, ℕ, ◌+◌, ◌<◌, List, [], ◌∷◌, ◌++◌, length, refl, sym, ap, ◌∙◌, subst, Bool, true, false, arith, drop}
 use Rattle.std.specs.Prelude.{Option, Some, None, codes}
 use Rattle.std.proofs.lemmas.List.{append-nil, length-append}
 use Rattle.std.proofs.lemmas.List.Sums.{sum_by-cons, sum_by-append}
@@ -45,7 +45,7 @@ use Rattle.input_state.specs.declared.answer.Pulled as answers
 use Rattle.input_state.specs.declared.answer.Pulled.TheVariants as answer
 use Rattle.line_lexer.specs.declared.Lexed as answered
 use Rattle.reading_frames.specs.Stack.{Stack, asks_in}
-use Rattle.reading_frames.specs.Weights.{stack_weight}
+use Rattle.reading_frames.specs.Weights.{stack_weight, frames_weight}
 use Rattle.engine_state.specs.declared.broken.Broken.{Broken}
 use Rattle.engine_state.specs.declared.broken.Broken.TheVariants as broken
 use Rattle.input_state.specs.declared.answer.Call.{Call}
@@ -55,10 +55,12 @@ use Rattle.engine_state.specs.declared.outcome.Ruled.{Ruled}
 use Rattle.engine_state.specs.declared.outcome.Ruled.TheVariants.{Step, Free, Halted}
 use Rattle.engine_state.specs.declared.outcome.Last.TheVariants as last
 use Rattle.engine_state.specs.Begins.{last_moves}
-use Rattle.engine_state.specs.Steps.{IsHalted, IsSkipped, IsOver, NextStepsIf, next_met, next_free, file_weight, outer_weight, pending_weight, readings_weight, call_weight, weight, asked}
+use Rattle.engine_state.specs.Steps.{IsHalted, IsSkipped, IsOver, NextStepsIf, next_met, next_free, file_weight, outer_weight, pending_weight, readings_weight, weight, asked, asked_by}
 use Rattle.engine_state.specs.declared.outcome.Next.{Next}
 use Rattle.engine_state.specs.Book.{Book}
-use Rattle.engine_state.specs.Calls.{AllStand, ReadingsStand, CallStands}
+use Rattle.plain_readings.specs.Weights.{act_frame, ask_weight, behind_weight}
+use Rattle.engine_state.specs.Calls.{AllStand, asks_of}
+use Rattle.engine_state.proofs.CallsKnown.{CallStands, ReadingsBy, split, join}
 use Rattle.engine_state.specs.Entering.{with_names, EntryFits, EntryRefused}
 use Rattle.engine_state.specs.Stands.{Counts, IsSized, IsSound, SameStore, SameFrames, FramesStand, state_of, page_of, depth}
 use Rattle.engine_state.specs.CutReadings.{CutsIn}
@@ -70,6 +72,7 @@ use Rattle.engine_state.proofs.Storing.{store_with, sound_still}
 use Rattle.engine_state.proofs.Cells.{meaning_more, seen_more, entered_length, lists_entered, inner_new}
 use Rattle.engine_state.proofs.Joining.{IsQuiet, quiet_here, went_by, onward_join}
 use Rattle.engine_state.proofs.Coming.{meets_by, meets_later, next_by, next_later, next_freely}
+use Rattle.rows.specs.Readings.{Ask}
 
 -- AN ENGINE THAT HAS WRITTEN
 
@@ -78,13 +81,6 @@ same_depth e e' h = ap (λ (s : Stack). length s.frames) h.readings
 
 pub counts_still : (sizes : Sizes) (e e' : Engine) (book : Book) → SameFrames e e' → IsSound sizes e' book.number book.all_lists → Counts sizes e book → Counts sizes e' book
 counts_still sizes e e' book same sound h = record { sound = sound; depth = h.depth ∙ sym (same_depth e e' same) }
-
--- a token is wanted where it was
-wants_by : (e e' : Engine) (c : Option Call) (want : Option Want) → asked e' ≡ asked e → WantsHere c want e → WantsHere c want e'
-wants_by e e' None None same h = same ∙ h
-wants_by e e' None (Some want) same h = same ∙ h
-wants_by e e' (Some c) None same h = h
-wants_by e e' (Some c) (Some want) same h = h
 
 -- a token that isn't the name of an \outer macro goes on
 inner_meets : (page : Page) (o : Option Scanning) (onward : Seen → List Move) (x : Seen) → is_outer x.meaning ≡ false → met page o onward x ≡ onward x
@@ -184,13 +180,13 @@ module _ (sizes : Sizes) (e : Engine) (book : Book) where
   pub frames_names : (new : List (List ℕ)) (work : List Reading) → FramesStand e work → FramesStand (with_names new e) work
   frames_names new work h = record { frames = h.frames; shallow = h.shallow }
 
-  readings_names : (new : List (List ℕ)) (c : Option Call) (work : List Reading) → ReadingsStand c e book.number work → ReadingsStand c (with_names new e) book.number work
+  readings_names : (new : List (List ℕ)) (c : Option Call) (work : List Reading) → ReadingsBy c e book.number work → ReadingsBy c (with_names new e) book.number work
   readings_names new None work h = frames_names new work h
   readings_names new (Some c) [] h = h
   readings_names new (Some c) (r ∷ rs) h = (call_names new c r h.0, record { innermost = h.1.innermost; frames = h.1.frames; shallow = h.1.shallow })
 
   pub takes_names : (want : Option Want) (new : List (List ℕ)) → Takes sizes want e book → Takes sizes want (with_names new e) book
-  takes_names want new h = (wants_by e (with_names new e) (call_in e.input.call) want refl h.0, record { sound = sound_names new h.1.sound; idle = h.1.idle; all = readings_names new (call_in e.input.call) book.work h.1.all })
+  takes_names want new h = (h.0, record { sound = sound_names new h.1.sound; idle = h.1.idle; all = join (with_names new e) book.number book.work (readings_names new (call_in e.input.call) book.work (split e book.number book.work h.1.all)) })
 
   module _ (want : Option Want) (x : Lexeme) (t : Token) (is : t ≡ token_of (enters_of want) e.names.names x) (sound : IsSound sizes e book.number book.all_lists) where
     abbrev new : List (List ℕ)
@@ -413,7 +409,7 @@ module _ (sizes : Sizes) (e : Engine) (i : Stored) (others : i ≡ record e.inpu
 
   pub takes_still : (want : Option Want) (book : Book) → SameStore e.input i → Takes sizes want e book → Takes sizes want now book
   takes_still want book store h = (
-    subst (λ (c : Option Call). WantsHere c want now) (sym (ap (λ (x : Stored). call_in x.call) others)) (wants_by e now (call_in e.input.call) want (ap (λ (x : Stored). asks_in e.readings.frames x.builds) others) h.0),
+    subst (λ (o : Option Ask). WantsHere o want) (sym (ap (λ (x : Stored). asked_by (call_in x.call) x.call (asks_in e.readings.frames x.builds)) others)) h.0,
     stands_now book store h.1,
   )
 
@@ -648,12 +644,14 @@ module _ (p : Pulled) (a : answers.Pulled) (old new : Stored) (h : Pulls p a old
 
 -- WHAT IS ANSWERED
 
-weight_by : (e e' : Engine) (c : Option Call) → e'.readings ≡ e.readings → readings_weight c e' ≡ readings_weight c e
-weight_by e e' None same = ap stack_weight same
-weight_by e e' (Some c) same = ap (λ (s : Stack). stack_weight s + call_weight c.ask) same
+weight_by : (e e' : Engine) (c : Option Call) → e'.readings ≡ e.readings → e'.input.call ≡ e.input.call → readings_weight c e' ≡ readings_weight c e
+weight_by e e' None same call = ap stack_weight same
+weight_by e e' (Some c) same call =
+    ap (λ (s : Stack). act_frame + frames_weight (drop 1 s.frames) + ask_weight behind_weight (asks_of c e'.input.call)) same
+    ∙ ap (λ (k : Calling). act_frame + frames_weight (drop 1 e.readings.frames) + ask_weight behind_weight (asks_of c k)) call
 
 pub same_weight : (e e' : Engine) → e'.readings ≡ e.readings → e'.input.call ≡ e.input.call → readings_weight (call_in e'.input.call) e' ≡ readings_weight (call_in e.input.call) e
-same_weight e e' readings call = ap (λ (k : Calling). readings_weight (call_in k) e') call ∙ weight_by e e' (call_in e.input.call) readings
+same_weight e e' readings call = ap (λ (k : Calling). readings_weight (call_in k) e') call ∙ weight_by e e' (call_in e.input.call) readings call
 
 pub lighter_after : (e e' : Engine) → SameFrames e e' → pending_weight e'.input.pending < pending_weight e.input.pending → weight e' < weight e
 lighter_after e e' h less = omega (arith, same_weight e e' h.readings h.call, less)

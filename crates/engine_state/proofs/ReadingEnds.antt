@@ -1,5 +1,5 @@
 -- A reading that ends.
-use Rattle.std.proofs.Common.{◌≡◌, ℕ, Bool, true, false, List, [], ◌∷◌, ◌++◌, drop, refl, sym, ap, ◌∙◌, true≢false}
+use Rattle.std.proofs.Common.{◌≡◌, ℕ, Bool, true, false, List, [], ◌∷◌, ◌++◌, drop, refl, sym, ap, ◌∙◌, true≢false, None}
 use Rattle.tex_defs.specs.declared.Sizes.{Sizes}
 use Rattle.tex_defs.specs.declared.Token.{Token}
 use Rattle.rows.specs.declared.words.Value.{Value}
@@ -26,7 +26,7 @@ left_list listed n held e = ap (λ (m : ℕ). drop m held) e
 -- WITHOUT A VALUE
 
 module _ (sizes : Sizes) (e e' : Engine) (book : Book) (r : Reading) (rs : List Reading) (fs : List Frame) (same : SameBut e e') (fs_are : e'.readings.frames ≡ fs) (held_are : e'.input.builds ≡ lists_beneath e.readings.frames e.input.builds)
-    (stand : (held : List (List Token)) (work : List Reading) → frames.AreFramesOf e.readings.frames held work → frames.AreFramesOf fs (lists_beneath e.readings.frames held) (drop 1 work))
+    (stand : (held : List (List Token)) (work : List Reading) → frames.AreFramesOf None e.readings.frames held work → frames.AreFramesOf None fs (lists_beneath e.readings.frames held) (drop 1 work))
     (shallow : (held : List (List Token)) → AreShallow e.readings.frames held → AreShallow fs (lists_beneath e.readings.frames held)) (st : Stands sizes e (with_work (r ∷ rs) book)) where
   pub closed_stands : Stands sizes e' (with_work rs book)
   closed_stands = stands_new sizes e e' (with_work (r ∷ rs) book) rs fs (lists_beneath e.readings.frames e.input.builds) same fs_are held_are st
@@ -77,9 +77,9 @@ left_is v true true empty n held count keeps is some =
 module _ (sizes : Sizes) (e e' : Engine) (book : Book) (r : Reading) (rs : List Reading) (v : Value) (listed kept empty : Bool) (fs1 fs2 : List Frame) (same : SameBut e e') (fs_are : e'.readings.frames ≡ fs2)
     (held_are : e'.input.builds ≡ left_behind listed kept e.input.builds) (count : listed_count listed ≡ innermost_count e.readings.frames) (keeps : kept ≡ true → empty ≡ false)
     (is : empty ≡ has_no_token (value_tokens v (listed_lists listed e.input.builds)))
-    (stand : (held : List (List Token)) (work : List Reading) → frames.AreFramesOf e.readings.frames held work → frames.AreFramesOf fs1 (lists_beneath e.readings.frames held) (drop 1 work))
+    (stand : (held : List (List Token)) (work : List Reading) → frames.AreFramesOf None e.readings.frames held work → frames.AreFramesOf None fs1 (lists_beneath e.readings.frames held) (drop 1 work))
     (shallow : (held : List (List Token)) → AreShallow e.readings.frames held → AreShallow fs1 (lists_beneath e.readings.frames held))
-    (valued : (ts : List Token) → empty ≡ has_no_token ts → (held : List (List Token)) (work : List Reading) → frames.AreFramesOf fs1 held work → frames.AreFramesOf fs2 (with_list kept ts held) (fed_with (Val v ts) work))
+    (valued : (ts : List Token) → empty ≡ has_no_token ts → (held : List (List Token)) (work : List Reading) → frames.AreFramesOf None fs1 held work → frames.AreFramesOf None fs2 (with_list kept ts held) (fed_with (Val v ts) work))
     (still : (ts : List Token) (held : List (List Token)) → AreShallow fs1 held → AreShallow fs2 (with_list kept ts held))
     (others : (ts : List Token) (held : List (List Token)) → lists_beneath fs2 (with_list kept ts held) ≡ lists_beneath fs1 held)
     (st : Stands sizes e (with_work (r ∷ rs) book)) where
@@ -102,10 +102,10 @@ module _ (sizes : Sizes) (e e' : Engine) (book : Book) (r : Reading) (rs : List 
   behind = held_are ∙ (left_is v listed kept empty (innermost_count e.readings.frames) e.input.builds count keeps is (has_top e.readings.frames e.input.builds (r ∷ rs) st.readings.frames)
       ∙ ap (λ (ts : List Token). with_list kept ts under) (sym tokens_are))
 
-  left : frames.AreFramesOf fs1 under rs
+  left : frames.AreFramesOf None fs1 under rs
   left = stand e.input.builds (r ∷ rs) st.readings.frames
 
-  fed : frames.AreFramesOf fs2 (with_list kept tokens under) (fed_with (Val v tokens) rs)
+  fed : frames.AreFramesOf None fs2 (with_list kept tokens under) (fed_with (Val v tokens) rs)
   fed = valued tokens empty_is under rs left
 
   pub ended_stands : Stands sizes e' (with_work (fed_with (Val v (value_tokens v (lists r.kind r.fed))) rs) book)
@@ -129,7 +129,7 @@ module _ (sizes : Sizes) (e e' : Engine) (book : Book) (r : Reading) (rs : List 
 
 pub closes : (sizes : Sizes) (e e' : Engine) (book : Book) (r : Reading) (rs : List Reading) (stack : Stack) (listed : Bool) (held : List (List Token)) → e' ≡ framed_with e stack held e'.input.lists → stack.size ≡ e.readings.size → KeepsShared e.input e'.input →
     listed_count listed ≡ innermost_count e.readings.frames → held ≡ drop (listed_count listed) e.input.builds →
-    ((held : List (List Token)) (work : List Reading) → frames.AreFramesOf e.readings.frames held work → frames.AreFramesOf stack.frames (lists_beneath e.readings.frames held) (drop 1 work)) →
+    ((held : List (List Token)) (work : List Reading) → frames.AreFramesOf None e.readings.frames held work → frames.AreFramesOf None stack.frames (lists_beneath e.readings.frames held) (drop 1 work)) →
     ((held : List (List Token)) → AreShallow e.readings.frames held → AreShallow stack.frames (lists_beneath e.readings.frames held)) → Stands sizes e (with_work (r ∷ rs) book) →
     Stands sizes e' (with_work rs book) × (made Closed (state_of e (with_work (r ∷ rs) book)) ≡ state_of e' (with_work rs book))
 closes sizes e e' book r rs stack listed held is size kept count left stand shallow st =
@@ -140,9 +140,9 @@ closes sizes e e' book r rs stack listed held is size kept count left stand shal
 
 pub ends : (sizes : Sizes) (e e' : Engine) (book : Book) (r : Reading) (rs : List Reading) (v : Value) (listed kept empty : Bool) (fs1 : List Frame) (stack : Stack) (held : List (List Token)) → e' ≡ framed_with e stack held e'.input.lists → stack.size ≡ e.readings.size → KeepsShared e.input e'.input →
     held ≡ left_behind listed kept e.input.builds → listed_count listed ≡ innermost_count e.readings.frames → (kept ≡ true → empty ≡ false) → empty ≡ has_no_token (value_tokens v (listed_lists listed e.input.builds)) →
-    ((held : List (List Token)) (work : List Reading) → frames.AreFramesOf e.readings.frames held work → frames.AreFramesOf fs1 (lists_beneath e.readings.frames held) (drop 1 work)) →
+    ((held : List (List Token)) (work : List Reading) → frames.AreFramesOf None e.readings.frames held work → frames.AreFramesOf None fs1 (lists_beneath e.readings.frames held) (drop 1 work)) →
     ((held : List (List Token)) → AreShallow e.readings.frames held → AreShallow fs1 (lists_beneath e.readings.frames held)) →
-    ((ts : List Token) → empty ≡ has_no_token ts → (held : List (List Token)) (work : List Reading) → frames.AreFramesOf fs1 held work → frames.AreFramesOf stack.frames (with_list kept ts held) (fed_with (Val v ts) work)) →
+    ((ts : List Token) → empty ≡ has_no_token ts → (held : List (List Token)) (work : List Reading) → frames.AreFramesOf None fs1 held work → frames.AreFramesOf None stack.frames (with_list kept ts held) (fed_with (Val v ts) work)) →
     ((ts : List Token) (held : List (List Token)) → AreShallow fs1 held → AreShallow stack.frames (with_list kept ts held)) →
     ((ts : List Token) (held : List (List Token)) → lists_beneath stack.frames (with_list kept ts held) ≡ lists_beneath fs1 held) →
     Stands sizes e (with_work (r ∷ rs) book) →

@@ -4,7 +4,7 @@ use Rattle.std.specs.Prelude.{Option, Some, None, option_to_list}
 use Rattle.std.proofs.lemmas.List.{append_cancel_right}
 use Rattle.std.proofs.lemmas.List.Sums.{sum_by-cons, sum_by-append}
 use Rattle.plain_tokens.specs.Tables.{list_words, lists_words}
-use Rattle.input_state.specs.Callings.{call_lists, call_in}
+use Rattle.input_state.specs.Callings.{NotCalling, call_lists}
 use Rattle.reading_frames.proofs.Braces.{few_groups}
 use Rattle.tex_defs.specs.declared.Sizes.{Sizes}
 use Rattle.tex_defs.specs.declared.Full.{Full}
@@ -26,13 +26,13 @@ use Rattle.reading_frames.specs.Frames as frames
 use Rattle.reading_frames.specs.Frames.{AreShallow}
 use Rattle.reading_frames.specs.declared.ask.Grown.{Grown}
 use Rattle.reading_frames.specs.declared.frame.Frame.{Frame}
-use Rattle.input_state.specs.declared.answer.Call.{Call}
 use Rattle.engine_state.specs.declared.engine.Engine.{Engine}
 use Rattle.engine_state.specs.declared.broken.Broken.{Broken}
 use Rattle.engine_state.specs.declared.broken.Broken.TheVariants as broken
 use Rattle.engine_state.specs.Book.{Book, with_work}
 use Rattle.engine_state.specs.Feeding.{tokens_of, with_tokens, IsKept, TokensFit, TokensCut}
-use Rattle.engine_state.specs.CutReadings.{CutsIn, FramesIn, MayLead, with_token}
+use Rattle.engine_state.specs.CutReadings.{AsFed, CutsIn, MayLead, with_token}
+use Rattle.engine_state.specs.Calls.{IsAsFar, open_call_of}
 use Rattle.engine_state.specs.Stands.{Stands, state_of}
 use Rattle.engine_state.proofs.Cutting.{cuts_by}
 use Rattle.engine_state.proofs.FramesHeld.{held_top, has_top, count_top, framed_top, stands_new, same_with, framed_with}
@@ -42,7 +42,7 @@ use Rattle.engine_state.proofs.TokensTaken.{listed, on_top_same, all_did, tokens
 
 -- THE MOVES
 
-feeding_is : (k : Kind) (fed : List Fed) (x : Seen) → frames.IsFramed k → feeding_kind k fed x ≡ grown_and_fed k fed (Tok x)
+feeding_is : (k : Kind) (fed : List Fed) (x : Seen) → frames.IsOther k → feeding_kind k fed x ≡ grown_and_fed k fed (Tok x)
 feeding_is (Reads k) fed x h = refl
 feeding_is (Spelling c) fed x h = refl
 feeding_is (FileName c) fed x h = refl
@@ -50,7 +50,7 @@ feeding_is (Behind c y) fed x h = refl
 feeding_is (Skips c aim line) fed x h = refl
 feeding_is (Arguments name long number text) fed x h = absurd h
 
-noting_is : (k : Kind) (fed : List Fed) → frames.IsFramed k → noting_kind k fed ≡ grown_and_fed k fed Noted
+noting_is : (k : Kind) (fed : List Fed) → frames.IsOther k → noting_kind k fed ≡ grown_and_fed k fed Noted
 noting_is (Reads k) fed h = refl
 noting_is (Spelling c) fed h = refl
 noting_is (FileName c) fed h = refl
@@ -87,10 +87,10 @@ pub few_one : (n m : ℕ) (l : List (List Token)) → length l ≡ n → n ≡ 1
 few_one n m l e one none = omega (arith, e, one, ap (λ (x : List (List Token)). length x) none)
 
 module _ (fs fs' : List Frame) (g : Grown) (y : Fed)
-    (stands : (held : List (List Token)) (work : List Reading) → frames.AreFramesOf fs held work → frames.AreFramesOf fs' (on_top g held) (fed_with y work))
+    (stands : (held : List (List Token)) (work : List Reading) → frames.AreFramesOf None fs held work → frames.AreFramesOf None fs' (on_top g held) (fed_with y work))
     (others : (held : List (List Token)) → lists_beneath fs' (on_top g held) ≡ lists_beneath fs held)
     (own : 1 ≤ token_count g → innermost_count fs ≡ 1) where
-  module _ (held : List (List Token)) (r : Reading) (rs : List Reading) (st : frames.AreFramesOf fs held (r ∷ rs)) where
+  module _ (held : List (List Token)) (r : Reading) (rs : List Reading) (st : frames.AreFramesOf None fs held (r ∷ rs)) where
     some_list : 1 ≤ token_count g → lists r.kind r.fed ≡ [] → ⊥
     some_list some none = few_one (innermost_count fs) 0 (lists r.kind r.fed) (count_top fs held r rs st) (own some) none
 
@@ -104,13 +104,13 @@ module _ (fs fs' : List Frame) (g : Grown) (y : Fed)
         ap (λ (l : List (List Token)). grown_to (first_list (lists r.kind r.fed)) (first_list l) ++ Feeds y ∷ []) lists_grow
         ∙ ap (λ (ts : List Token). map Grows ts ++ Feeds y ∷ []) (grown_two g.first g.second (lists r.kind r.fed) some_list)
 
-  has_some : (held : List (List Token)) (work : List Reading) → frames.AreFramesOf fs held work → 1 ≤ token_count g → held ≡ [] → ⊥
+  has_some : (held : List (List Token)) (work : List Reading) → frames.AreFramesOf None fs held work → 1 ≤ token_count g → held ≡ [] → ⊥
   has_some held work st some none = has_top fs held work st (own some) none
 
-pub feeding_moves : (fs : List Frame) (held : List (List Token)) (r : Reading) (rs : List Reading) (x : Seen) → frames.AreFramesOf fs held (r ∷ rs) → feeding r x ≡ grown_and_fed r.kind r.fed (Tok x)
+pub feeding_moves : (fs : List Frame) (held : List (List Token)) (r : Reading) (rs : List Reading) (x : Seen) → frames.AreFramesOf None fs held (r ∷ rs) → feeding r x ≡ grown_and_fed r.kind r.fed (Tok x)
 feeding_moves fs held r rs x st = feeding_is r.kind r.fed x (framed_top fs held r rs st)
 
-pub noting_moves : (fs : List Frame) (held : List (List Token)) (r : Reading) (rs : List Reading) → frames.AreFramesOf fs held (r ∷ rs) → noting r ≡ grown_and_fed r.kind r.fed Noted
+pub noting_moves : (fs : List Frame) (held : List (List Token)) (r : Reading) (rs : List Reading) → frames.AreFramesOf None fs held (r ∷ rs) → noting r ≡ grown_and_fed r.kind r.fed Noted
 noting_moves fs held r rs st = noting_is r.kind r.fed (framed_top fs held r rs st)
 
 -- THE FRAME THAT IS PUT BACK
@@ -133,7 +133,7 @@ abbrev pub restored : Option Frame → Engine → Engine
 restored o e = record e { readings = record { frames = with_innermost o e.readings.frames; size = e.readings.size } }
 
 module _ (sizes : Sizes) (e : Engine) (stack : Stack) (g : Grown) (y : Fed)
-    (stands : (held : List (List Token)) (work : List Reading) → frames.AreFramesOf e.readings.frames held work → frames.AreFramesOf stack.frames (on_top g held) (fed_with y work))
+    (stands : (held : List (List Token)) (work : List Reading) → frames.AreFramesOf None e.readings.frames held work → frames.AreFramesOf None stack.frames (on_top g held) (fed_with y work))
     (shallow : (held : List (List Token)) → AreShallow e.readings.frames held → AreShallow stack.frames (on_top g held))
     (others : (held : List (List Token)) → lists_beneath stack.frames (on_top g held) ≡ lists_beneath e.readings.frames held)
     (own : 1 ≤ token_count g → innermost_count e.readings.frames ≡ 1) (size : stack.size ≡ e.readings.size) where
@@ -191,10 +191,14 @@ module _ (sizes : Sizes) (e : Engine) (stack : Stack) (g : Grown) (y : Fed)
         front = cut.front;
         grown = ap (λ (x : Engine). x.input.builds) cut.after;
         leads = lead_by full cut.front;
-        stand = subst (λ (c : Option Call). FramesIn (broken.Full full) c (restored o e2) e.input.builds (r ∷ rs)) (sym (ap (λ (x : Engine). call_in x.input.call) cut.after ∙ ap call_in st.uncalled))
-            (subst (λ (x : Stack). frames.AreFramesOf x.frames e.input.builds (r ∷ rs)) (sym back_is) st.readings.frames);
+        call = None;
+        at = AsFed (record { text = []; call = ap (open_call_of []) (sym none); far = subst (IsAsFar []) (sym none) tt });
+        stand = subst (λ (x : Stack). frames.AreFramesOf None x.frames e.input.builds (r ∷ rs)) (sym back_is) st.readings.frames;
       };
     } where
+      none : e2.input.call ≡ NotCalling
+      none = ap (λ (x : Engine). x.input.call) cut.after ∙ st.uncalled
+
       stack_is : e2.readings ≡ stack
       stack_is = ap (λ (x : Engine). x.readings) cut.after
 

@@ -132,12 +132,12 @@ none_of (Some x) h = absurd (h x refl)
 -- BY WHAT THE CALLS SAY
 
 pub opens : (sizes : Sizes) (e e' : Engine) (book : Book) (work : List Reading) (stack : Stack) (held : List (List Token)) → e' ≡ framed_with e stack held e'.input.lists → stack.size ≡ e.readings.size → KeepsShared e.input e'.input →
-    frames.AreFramesOf stack.frames held work → AreShallow stack.frames held → Stands sizes e book → Stands sizes e' (with_work work book)
+    frames.AreFramesOf None stack.frames held work → AreShallow stack.frames held → Stands sizes e book → Stands sizes e' (with_work work book)
 opens sizes e e' book work stack held is size kept stand shallow st =
     stands_new sizes e e' book work stack.frames held (same_with e e' stack held is size kept) (ap (λ (x : Engine). x.readings.frames) is) (ap (λ (x : Engine). x.input.builds) is) st stand shallow
 
 pub opens_state : (sizes : Sizes) (e e' : Engine) (book : Book) (work : List Reading) (stack : Stack) (mine held : List (List Token)) → e' ≡ framed_with e stack held e'.input.lists → stack.size ≡ e.readings.size → KeepsShared e.input e'.input →
-    frames.AreFramesOf stack.frames held work → AreShallow stack.frames held → Stands sizes e book → mine ++ e.input.builds ≡ held → record (state_of e book) { work = work; gathered = mine ++ gathered e.input } ≡ state_of e' (with_work work book)
+    frames.AreFramesOf None stack.frames held work → AreShallow stack.frames held → Stands sizes e book → mine ++ e.input.builds ≡ held → record (state_of e book) { work = work; gathered = mine ++ gathered e.input } ≡ state_of e' (with_work work book)
 opens_state sizes e e' book work stack mine held is size kept stand shallow st lists =
     state_new e e' book work (mine ++ gathered e.input) (same_with e e' stack held is size kept) (ap (λ (x : Engine). x.last) is)
     (stands_gathered sizes e' (with_work work book) (opens sizes e e' book work stack held is size kept stand shallow st) ∙ (ap (λ (x : Engine). x.input.builds) is ∙ (sym lists ∙ ap (λ (l : List (List Token)). mine ++ l) (sym (stands_gathered sizes e book st)))))
@@ -158,8 +158,8 @@ by_stack sizes e book stack size sound = record {
   bodies = sound.bodies;
 }
 
-pub frames_over : (fs : List Frame) (held held' : List (List Token)) (work : List Reading) → held' ≡ held → frames.AreFramesOf fs held work → frames.AreFramesOf fs held' work
-frames_over fs held held' work is h = subst (λ (l : List (List Token)). frames.AreFramesOf fs l work) (sym is) h
+pub frames_over : (fs : List Frame) (held held' : List (List Token)) (work : List Reading) → held' ≡ held → frames.AreFramesOf None fs held work → frames.AreFramesOf None fs held' work
+frames_over fs held held' work is h = subst (λ (l : List (List Token)). frames.AreFramesOf None fs l work) (sym is) h
 
 pub shallow_over : (fs : List Frame) (held held' : List (List Token)) → held' ≡ held → AreShallow fs held → AreShallow fs held'
 shallow_over fs held held' is h = subst (λ (l : List (List Token)). AreShallow fs l) (sym is) h

@@ -1,6 +1,6 @@
 -- An engine that has noted whether it has stopped: all else is as it was.
 use Rattle.std.proofs.Common.{ℕ, refl}
-use Rattle.std.specs.Prelude.{Bool, List, Option, Some, None}
+use Rattle.std.specs.Prelude.{Bool, List, Option}
 use Rattle.tex_syntax.specs.declared.words.Outcome.TheVariants.{Finished, AtFatal}
 use Rattle.tex_syntax.specs.declared.words.Outcome.{Outcome}
 use Rattle.tex_syntax.specs.declared.words.Want.{Want}
@@ -10,8 +10,6 @@ use Rattle.tex_defs.specs.Places.{World}
 use Rattle.plain_machine.specs.States.{State, Move}
 use Rattle.world_io.specs.Contents.{SinkTold}
 use Rattle.engine_state.specs.declared.broken.Broken.{Broken}
-use Rattle.input_state.specs.declared.answer.Call.{Call}
-use Rattle.input_state.specs.Callings.{call_in}
 use Rattle.engine_state.specs.declared.engine.Engine.{Engine}
 use Rattle.engine_state.specs.declared.outcome.Next.{Next}
 use Rattle.engine_state.specs.declared.outcome.Next.TheVariants as next
@@ -21,7 +19,7 @@ use Rattle.engine_state.specs.Book.{Book}
 use Rattle.engine_state.specs.Calls.{AllStand}
 use Rattle.engine_state.specs.CutReadings.{FramesAtCut, CutsIn}
 use Rattle.engine_state.specs.Stands.{SameFrames, SameReadings}
-use Rattle.engine_state.specs.Rules.{WantsHere, Takes, CountsReports, Went, Halts, Cuts, Comes, Nexts, DoesRule}
+use Rattle.engine_state.specs.Rules.{Takes, CountsReports, Went, Halts, Cuts, Comes, Nexts, DoesRule}
 use Rattle.engine_state.specs.OneRule.{ReadsNext, CutsNext, DoesPlan, CutsPlan}
 use Rattle.engine_state.proofs.CuttingReadings.{near_still}
 use Rattle.engine_state.proofs.CallKept.{all_still}
@@ -44,14 +42,8 @@ noted_frames b e e' h = record { readings = h.readings; lists = h.lists; call = 
 pub noted_readings : (b : Bool) (e e' : Engine) → SameReadings e e' → SameReadings e (noted b e')
 noted_readings b e e' h = record { readings = h.readings; lists = h.lists; call = h.call }
 
-wants_noted : (b : Bool) (e : Engine) (c : Option Call) (want : Option Want) → WantsHere c want e → WantsHere c want (noted b e)
-wants_noted b e None None h = h
-wants_noted b e None (Some w) h = h
-wants_noted b e (Some c) None h = h
-wants_noted b e (Some c) (Some w) h = h
-
 pub noted_takes : (b : Bool) (sizes : Sizes) (want : Option Want) (e : Engine) (book : Book) → Takes sizes want e book → Takes sizes want (noted b e) book
-noted_takes b sizes want e book t = (wants_noted b e (call_in e.input.call) want t.0, noted_stands b sizes e book t.1)
+noted_takes b sizes want e book t = (t.0, noted_stands b sizes e book t.1)
 
 pub noted_counts : (b : Bool) (o : Outcome) (t : State) (e : Engine) → CountsReports o t e → CountsReports o t (noted b e)
 noted_counts b Finished t e h = h

@@ -1,6 +1,6 @@
 -- Each rule without a step makes the engine lighter.
 use Rattle.std.proofs.Common.{◌≡◌, ◌≤◌, ◌<◌, ◌+◌, Bool, true, false, List, [], ◌∷◌, drop, arith, sym, ap, ◌∙◌}
-use Rattle.std.specs.Prelude.{Some}
+use Rattle.std.specs.Prelude.{Some, None}
 use Rattle.std.proofs.lemmas.List.{append-nil}
 use Rattle.tex_defs.specs.declared.Seen.{Seen}
 use Rattle.tex_defs.specs.declared.Token.{Token}
@@ -36,7 +36,7 @@ is_inner : (k : Phrase) → rank (Reads k) < 4 → IsInner k
 is_inner (Command c) h = absurd (omega (arith, h))
 is_inner k h = tt
 
-begins_inner : (fs : List Frame) (held : List (List Token)) (work : List Reading) (k : Phrase) (begins : Bool) → frames.AreFramesOf fs held work → asks_in fs held ≡ Some (Inner k begins) → IsInner k
+begins_inner : (fs : List Frame) (held : List (List Token)) (work : List Reading) (k : Phrase) (begins : Bool) → frames.AreFramesOf None fs held work → asks_in fs held ≡ Some (Inner k begins) → IsInner k
 begins_inner [] held work k begins st asks = absurd cc
 begins_inner (f ∷ fs) held [] k begins st asks = absurd st
 begins_inner (f ∷ fs) held (r ∷ rs) k begins st asks =
@@ -48,12 +48,12 @@ begins_inner (f ∷ fs) held (r ∷ rs) k begins st asks =
 
 module _ (e e' : Engine) (none : e.input.call ≡ NotCalling) (none' : e'.input.call ≡ NotCalling) (same : e'.input.pending ≡ e.input.pending) where
   -- an inner reading begins, alone or with the last token
-  pub begun_lighter : (held : List (List Token)) (work : List Reading) (k : Phrase) → frames.AreFramesOf e.readings.frames held work → asks_in e.readings.frames held ≡ Some (Inner k false) → asks_in e.readings.frames [] ≡ Some (Inner k false) →
+  pub begun_lighter : (held : List (List Token)) (work : List Reading) (k : Phrase) → frames.AreFramesOf None e.readings.frames held work → asks_in e.readings.frames held ≡ Some (Inner k false) → asks_in e.readings.frames [] ≡ Some (Inner k false) →
       frames_weight e'.readings.frames ≡ frames_weight e.readings.frames + opening_frame (opening.Reads k) → innermost_weight e'.readings.frames ≤ begun_weight (opening.Reads k) → weight e' < weight e
   begun_lighter held work k st over asks more light =
       lighter e e' none none' same ((falls e.readings e'.readings).begun k (begins_inner e.readings.frames held work k false st over) asks (omega (arith, more)) light)
 
-  pub begun_with_lighter : (held : List (List Token)) (work : List Reading) (k : Phrase) → frames.AreFramesOf e.readings.frames held work → asks_in e.readings.frames held ≡ Some (Inner k true) → asks_in e.readings.frames [] ≡ Some (Inner k true) →
+  pub begun_with_lighter : (held : List (List Token)) (work : List Reading) (k : Phrase) → frames.AreFramesOf None e.readings.frames held work → asks_in e.readings.frames held ≡ Some (Inner k true) → asks_in e.readings.frames [] ≡ Some (Inner k true) →
       frames_weight e'.readings.frames ≡ frames_weight e.readings.frames + opening_frame (opening.Reads k) → innermost_weight e'.readings.frames ≤ begun_with_weight (opening.Reads k) → weight e' < weight e
   begun_with_lighter held work k st over asks more light =
       lighter e e' none none' same ((falls e.readings e'.readings).begun_with k (begins_inner e.readings.frames held work k true st over) asks (omega (arith, more)) light)

@@ -1,36 +1,110 @@
 -- A call that gathers its arguments: the innermost reading of all.
-use Rattle.std.specs.Prelude.{◌≡◌, ℕ, Bool, true, false, List, [], ◌∷◌, ◌++◌, drop, Option, Some, None}
+use Rattle.std.specs.Prelude.{◌≡◌, ℕ, Bool, true, false, List, [], ◌∷◌, ◌++◌, Option, Some, None}
 use Rattle.tex_syntax.specs.declared.words.Want.TheVariants.{Raw}
 use Rattle.tex_syntax.specs.declared.words.Report.{Report}
-use Rattle.tex_syntax.specs.declared.words.Scanned.TheVariants as scanned
 use Rattle.tex_syntax.specs.declared.words.Report.TheVariants as reports
+use Rattle.tex_syntax.specs.declared.words.Scanned.TheVariants as scanned
 use Rattle.tex_defs.specs.Places.{Transcript}
 use Rattle.tex_defs.specs.declared.Sizes.{Sizes}
 use Rattle.tex_defs.specs.declared.Token.{Token}
 use Rattle.tex_defs.specs.declared.Name.{Name}
 use Rattle.tex_defs.specs.declared.Meaning.TheVariants.{Macro}
-use Rattle.plain_tokens.specs.Arguments.{arguments_in, work_in, has_parameters}
+use Rattle.plain_tokens.specs.Arguments.{Answer, Called, arguments_in, work_in, has_parameters}
 use Rattle.plain_tokens.specs.Meanings.{name_meaning}
 use Rattle.rows.specs.Readings as reading
-use Rattle.rows.specs.Readings.{Fed}
-use Rattle.plain_readings.specs.Calls.{gathered, call_fed, par_token}
-use Rattle.plain_readings.specs.Readings.{Reading, Arguments, ask, lists}
+use Rattle.plain_readings.specs.Calls.{par_token}
+use Rattle.plain_readings.specs.Readings.{Kind, Reading, Arguments}
 use Rattle.plain_state.specs.Reports as texts
 use Rattle.plain_machine.specs.States.{Move, Written}
 use Rattle.plain_machine.specs.Plan.{Page, put_one, failed, page_behind}
 use Rattle.macro_call.specs.PlainScans.{Scan, resume_scan, scan_work}
-use Rattle.reading_frames.specs.Frames as frames
-use Rattle.reading_frames.specs.Frames.{AreShallow}
-use Rattle.reading_frames.specs.declared.frame.Frame.TheVariants as frame
+use Rattle.macro_call.specs.Scans.{answer_of}
+use Rattle.reading_frames.specs.Frames.{OpenCall}
 use Rattle.input_state.specs.CallFeeds.{call_work}
-use Rattle.input_state.specs.Callings.{Calling, NotCalling, Gathering, Stopped, Gathered, call_lists, call_in}
+use Rattle.input_state.specs.Callings.{Calling, NotCalling, Gathering, Stopped, Gathered, call_in, ended_asks, scan_asks}
 use Rattle.input_state.specs.Macros.{list_at}
 use Rattle.input_state.specs.declared.answer.Call.{Call}
+use Rattle.input_state.specs.declared.answer.CallEnd.{CallEnd}
+use Rattle.input_state.specs.declared.answer.CallEnd.TheVariants as end
 use Rattle.macro_call.specs.declared.ask.CallAsk.{CallAsk}
 use Rattle.macro_call.specs.declared.ask.CallAsk.TheVariants as call
 use Rattle.engine_state.specs.declared.engine.Engine.{Engine}
 use Rattle.engine_state.specs.Book.{Book}
-use Rattle.engine_state.specs.Stands.{FramesStand, IsSound, own_style}
+use Rattle.engine_state.specs.Stands.{OpenFrames, IsSound, own_style}
+
+-- THE CALL. How far it is stands in the input.
+
+-- one that takes no more tokens wasn't cut off
+abbrev pub IsEnded : CallEnd → Type 0
+IsEnded end.Mismatch = Unit {0}
+IsEnded (end.ParEnded silent) = Unit {0}
+IsEnded end.Full = ⊥
+
+-- what ended it, as an answer; of one that was cut off it says nothing
+abbrev pub ended_answer : CallEnd → Scan → Answer
+ended_answer why scan = answer_of (ended_asks why) scan.args (scan_work scan)
+
+-- the call as the relation of frames takes it, over the list of its macro: what it answers on what is still to come
+abbrev pub open_call_of : (text : List Token) → Calling → Option OpenCall
+open_call_of text NotCalling = None
+open_call_of text (Gathering name scan) = Some (record { name = name; text = text; answers = resume_scan text scan })
+open_call_of text (Stopped name why scan) = Some (record { name = name; text = text; answers = λ fed. ended_answer why scan })
+open_call_of text (Gathered name args) = Some (record { name = name; text = text; answers = λ fed. Called args })
+
+-- it has no argument where it has no list in work
+abbrev pub HasWork : Scan → Type 0
+HasWork scan = scan_work scan ≡ None → scan.args ≡ []
+
+-- The scanner has the arguments and the list in work of this answer, and asks so.
+pub record HasRead (asked : CallAsk) (scan : Scan) (a : Answer) : Type 0 where
+  pub says : a ≡ answer_of asked scan.args (scan_work scan)
+  pub args : arguments_in a ≡ scan.args
+  pub work : work_in a ≡ scan_work scan
+  pub bare : HasWork scan
+
+-- the scanner in the input has the lists of what the call answers now
+abbrev pub IsAsFar : (text : List Token) → Calling → Type 0
+IsAsFar text NotCalling = Unit {0}
+IsAsFar text (Gathering name scan) = HasRead (scan_asks scan) scan (resume_scan text scan [])
+IsAsFar text (Stopped name why scan) = IsEnded why × HasRead (ended_asks why) scan (ended_answer why scan)
+IsAsFar text (Gathered name args) = Unit {0}
+
+-- The call is that of a macro with a list that has a parameter text: this one.
+pub record IsMacroOf (e : Engine) (number : ℕ → ℕ) (text : List Token) (name : Name) (k : Kind) : Type 0 where
+  pub long : Bool
+  pub outer : Bool
+  pub id : ℕ
+  pub meaning : name_meaning e.input.groups.now.meanings name ≡ Macro long outer (Some id)
+  pub list : text ≡ list_at e.input.lists id
+  pub kind : k ≡ Arguments name long (number id) text
+  pub places : has_parameters text ≡ true
+
+-- so it is, where the innermost reading is a call's
+abbrev pub MacroStands : Option Call → Engine → (number : ℕ → ℕ) → (text : List Token) → List Reading → Type 0
+MacroStands None e number text work = Unit {0}
+MacroStands (Some c) e number text [] = ⊥
+MacroStands (Some c) e number text (r ∷ rs) = IsMacroOf e number text c.name r.kind
+
+-- THE OPEN READINGS
+
+-- The open frames stand for these readings, one for one, each with its lists; the call, if there is one, is that of a macro with some list.
+pub record FramesOf (e : Engine) (work : List Reading) : Type 0 where
+  pub text : List Token
+  pub frames : OpenFrames (open_call_of text e.input.call) e work
+  pub far : IsAsFar text e.input.call
+
+-- So they do, and a call's list is that of its macro.
+pub record ReadingsStand (e : Engine) (number : ℕ → ℕ) (work : List Reading) : Type 0 where
+  pub readings : FramesOf e work
+  pub macro : MacroStands (call_in e.input.call) e number readings.text work
+
+-- The engine's open readings and its shared lists are those of the book, and no list is being made.
+pub record AllStand (sizes : Sizes) (e : Engine) (book : Book) : Type 0 where
+  pub sound : IsSound sizes e book.number book.all_lists
+  pub idle : e.input.making ≡ None
+  pub all : ReadingsStand e book.number book.work
+
+-- WHAT A CALL ASKS FOR
 
 -- the arguments, where all of them are there
 abbrev pub args_of : Calling → List (List Token)
@@ -39,7 +113,7 @@ args_of (Gathering name scan) = []
 args_of (Stopped name why scan) = []
 args_of (Gathered name args) = args
 
--- what the call of a macro asks for, as its reading does
+-- as its reading does
 abbrev pub asks_by : Name → CallAsk → Calling → reading.Ask
 asks_by name call.More k = reading.More Raw
 asks_by name call.ExtraBrace k = reading.Inserts par_token (reports.ExtraBrace name) true
@@ -50,96 +124,6 @@ asks_by name (call.ParEnded true) k = reading.Ends
 
 abbrev pub asks_of : Call → Calling → reading.Ask
 asks_of c k = asks_by c.name c.ask k
-
--- The scanner has the arguments and the list in work of the reading, and goes on as it.
-pub record Gathers (long : Bool) (text : List Token) (scan : Scan) (fed : List Fed) : Type 0 where
-  pub args : arguments_in (gathered long text fed) ≡ scan.args
-  pub work : work_in (gathered long text fed) ≡ scan_work scan
-  pub goes_on : (more : List Fed) → gathered long text (fed ++ more) ≡ resume_scan text scan (call_fed more)
-
--- it has no argument where it has no list in work
-abbrev pub HasWork : Scan → Type 0
-HasWork scan = scan_work scan ≡ None → scan.args ≡ []
-
--- the call of this name takes tokens
-abbrev pub IsTaking : Name → (long : Bool) → (text : List Token) → Calling → List Fed → Type 0
-IsTaking name long text NotCalling fed = ⊥
-IsTaking name long text (Gathering n scan) fed = (n ≡ name) × (HasWork scan × Gathers long text scan fed)
-IsTaking name long text (Stopped n why scan) fed = ⊥
-IsTaking name long text (Gathered n args) fed = ⊥
-
--- it takes none, and its arguments aren't there
-abbrev pub IsStopped : Name → Calling → Type 0
-IsStopped name NotCalling = ⊥
-IsStopped name (Gathering n scan) = ⊥
-IsStopped name (Stopped n why scan) = (n ≡ name) × HasWork scan
-IsStopped name (Gathered n args) = ⊥
-
--- its arguments are there
-abbrev pub IsGathered : Name → Calling → Type 0
-IsGathered name NotCalling = ⊥
-IsGathered name (Gathering n scan) = ⊥
-IsGathered name (Stopped n why scan) = ⊥
-IsGathered name (Gathered n args) = n ≡ name
-
--- where it stands, by what it asks for
-abbrev pub CallAt : CallAsk → Name → (long : Bool) → (text : List Token) → Calling → List Fed → Type 0
-CallAt call.More name long text k fed = IsTaking name long text k fed
-CallAt call.ExtraBrace name long text k fed = IsTaking name long text k fed
-CallAt call.Gathered name long text k fed = IsGathered name k
-CallAt call.Mismatch name long text k fed = IsStopped name k
-CallAt (call.ParEnded silent) name long text k fed = IsStopped name k
-
--- The call is this reading, over the list of its macro.
-pub record CallReads (c : Call) (k : Calling) (r : Reading) : Type 0 where
-  pub long : Bool
-  pub number : ℕ
-  pub text : List Token
-  pub kind : r.kind ≡ Arguments c.name long number text
-  pub asked : asks_of c k ≡ ask r.kind r.fed
-  pub at : CallAt c.ask c.name long text k r.fed
-  pub holds : lists r.kind r.fed ≡ call_lists k
-
--- The call is this reading: that of a macro with a list that has a parameter text.
-pub record CallStands (e : Engine) (number : ℕ → ℕ) (c : Call) (r : Reading) : Type 0 where
-  pub long : Bool
-  pub outer : Bool
-  pub id : ℕ
-  pub meaning : name_meaning e.input.groups.now.meanings c.name ≡ Macro long outer (Some id)
-  pub kind : r.kind ≡ Arguments c.name long (number id) (list_at e.input.lists id)
-  pub places : has_parameters (list_at e.input.lists id) ≡ true
-  pub asked : asks_of c e.input.call ≡ ask r.kind r.fed
-  pub at : CallAt c.ask c.name long (list_at e.input.lists id) e.input.call r.fed
-  pub holds : lists r.kind r.fed ≡ call_lists e.input.call
-
--- the innermost frame is this call's
-abbrev pub IsCallOver : Call → Engine → Type 0
-IsCallOver c e = e.readings.frames ≡ frame.Call c.name ∷ drop 1 e.readings.frames
-
--- So it is, and those beneath, with the lists that they hold, stand for these readings.
-pub record FramesBeneath (c : Call) (e : Engine) (work : List Reading) : Type 0 where
-  pub innermost : IsCallOver c e
-  pub frames : frames.AreFramesOf (drop 1 e.readings.frames) e.input.builds work
-  pub shallow : AreShallow (drop 1 e.readings.frames) e.input.builds
-
--- The open frames stand for the open readings, one for one, each with its lists. Only the innermost may be a call, which begins where a token is wanted
--- or what stands behind `\expandafter` is expanded.
-abbrev pub ReadingsStand : Option Call → Engine → (number : ℕ → ℕ) → List Reading → Type 0
-ReadingsStand None e number work = FramesStand e work
-ReadingsStand (Some c) e number [] = ⊥
-ReadingsStand (Some c) e number (r ∷ rs) = CallStands e number c r × FramesBeneath c e rs
-
--- The engine's open readings and its shared lists are those of the book, and no list is being made; a call gathers its arguments or none does.
-pub record AllStand (sizes : Sizes) (e : Engine) (book : Book) : Type 0 where
-  pub sound : IsSound sizes e book.number book.all_lists
-  pub idle : e.input.making ≡ None
-  pub all : ReadingsStand (call_in e.input.call) e book.number book.work
-
--- the open readings are these
-abbrev pub FramesOf : Option Call → Engine → List Reading → Type 0
-FramesOf None e work = FramesStand e work
-FramesOf (Some c) e [] = ⊥
-FramesOf (Some c) e (r ∷ rs) = CallReads c e.input.call r × FramesBeneath c e rs
 
 -- AN ARGUMENT THAT RUNS AWAY
 

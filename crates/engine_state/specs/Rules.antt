@@ -4,7 +4,6 @@ use Rattle.tex_syntax.specs.declared.words.Outcome.TheVariants.{Finished, AtFata
 use Rattle.tex_syntax.specs.declared.words.Outcome.{Outcome}
 use Rattle.tex_syntax.specs.declared.words.Scanned.{Scanned}
 use Rattle.tex_syntax.specs.declared.words.Want.{Want}
-use Rattle.tex_syntax.specs.declared.words.Want.TheVariants.{Raw}
 use Rattle.tex_syntax.specs.declared.words.Report.{Report}
 use Rattle.tex_syntax.specs.declared.words.Scanned.TheVariants as scanned
 use Rattle.tex_defs.specs.Places.{World, Transcript}
@@ -16,7 +15,7 @@ use Rattle.plain_tokens.specs.Lex.{Lexeme}
 use Rattle.plain_tokens.specs.Lookup.{new_name, token_of}
 use Rattle.plain_tokens.specs.Meanings.{met as met_token}
 use Rattle.plain_tokens.specs.Tokens.{space_token}
-use Rattle.rows.specs.Readings.{More}
+use Rattle.rows.specs.Readings.{Ask, More}
 use Rattle.plain_readings.specs.Readings.{Reading}
 use Rattle.plain_readings.specs.Scanning.{Scanning, scanning}
 use Rattle.plain_readings.specs.Scanning as machine
@@ -42,10 +41,8 @@ use Rattle.input_state.specs.Stored.{gathered}
 use Rattle.engine_state.specs.Begins.{away_moves, check_report}
 use Rattle.engine_state.specs.Book.{Book}
 use Rattle.engine_state.specs.Calls.{AllStand, AsksToken, work_or_none}
-use Rattle.engine_state.specs.Steps.{asked}
-use Rattle.input_state.specs.declared.answer.Call.{Call}
-use Rattle.input_state.specs.Callings.{NotCalling, call_in}
-use Rattle.macro_call.specs.declared.ask.CallAsk.TheVariants as call
+use Rattle.engine_state.specs.Steps.{asks_now}
+use Rattle.input_state.specs.Callings.{NotCalling}
 use Rattle.input_state.specs.CallFeeds.{call_work}
 use Rattle.engine_state.specs.Stands.{state_of, page_of, own_style}
 
@@ -165,16 +162,14 @@ abbrev pub check_moves : Engine → Page → Check → Found → (rest : List Mo
 check_moves e page check (found.Builds what name k) rest = away_moves page what (away_text what k e) (check_report check what name) rest
 check_moves e page check (found.SkippedText line) rest = incomplete page line rest
 
--- such a token is wanted: by a call that asks for a token, as it stands, by the innermost frame, or where no reading is open
-abbrev pub WantsHere : Option Call → Option Want → Engine → Type 0
-WantsHere None None e = asked e ≡ None
-WantsHere None (Some want) e = asked e ≡ Some (More want)
-WantsHere (Some c) None e = ⊥
-WantsHere (Some c) (Some want) e = (c.ask ≡ call.More) × (want ≡ Raw)
+-- such a token is wanted, where this is asked: by the innermost reading, or where none is open
+abbrev pub WantsHere : Option Ask → Option Want → Type 0
+WantsHere asked None = asked ≡ None
+WantsHere asked (Some want) = asked ≡ Some (More want)
 
 -- the engine is where such a token is wanted
 abbrev pub Takes : Sizes → Option Want → Engine → Book → Type 0
-Takes sizes want e book = WantsHere (call_in e.input.call) want e × AllStand sizes e book
+Takes sizes want e book = WantsHere (asks_now e) want × AllStand sizes e book
 
 -- the engine is where some token is wanted
 abbrev pub Wants : Sizes → Engine → Book → Type 0

@@ -1,5 +1,5 @@
 -- What an engine stands for: a state of the machine, once its open readings are named.
-use Rattle.std.specs.Prelude.{◌≡◌, ℕ, ◌+◌, ◌≤◌, true, List, [], length, None}
+use Rattle.std.specs.Prelude.{◌≡◌, ℕ, ◌+◌, ◌≤◌, true, List, [], length, Option, None}
 use Rattle.tex_defs.specs.declared.Token.{Token}
 use Rattle.tex_defs.specs.declared.Sizes.{Sizes}
 use Rattle.plain_tokens.specs.Meanings.{fixed_locations}
@@ -7,7 +7,7 @@ use Rattle.plain_tokens.specs.Pending.{all_puts}
 use Rattle.plain_tokens.specs.Tables.{is_put}
 use Rattle.plain_readings.specs.Readings.{Reading}
 use Rattle.reading_frames.specs.Frames as frames
-use Rattle.reading_frames.specs.Frames.{AreShallow}
+use Rattle.reading_frames.specs.Frames.{OpenCall, AreShallow}
 use Rattle.plain_tokens.specs.Printed.{Style}
 use Rattle.equivalents.specs.Groups.{depth as groups_depth, current_group, tokens_after}
 use Rattle.equivalents.specs.Holding.{lists_held}
@@ -90,10 +90,14 @@ pub record IsSound (sizes : Sizes) (e : Engine) (number : ℕ → ℕ) (all_list
 
 -- THE OPEN READINGS
 
--- All frames, none of which is a call's, stand for these readings, with all lists that are gathered but those of a call.
-pub record FramesStand (e : Engine) (work : List Reading) : Type 0 where
-  pub frames : frames.AreFramesOf e.readings.frames e.input.builds work
+-- All frames, of which the innermost is this call's, if there is one, stand for these readings, with all lists that are gathered but those of the call.
+pub record OpenFrames (c : Option OpenCall) (e : Engine) (work : List Reading) : Type 0 where
+  pub frames : frames.AreFramesOf c e.readings.frames e.input.builds work
   pub shallow : AreShallow e.readings.frames e.input.builds
+
+-- where none is a call's
+abbrev pub FramesStand : Engine → List Reading → Type 0
+FramesStand e work = OpenFrames None e work
 
 -- no call gathers its arguments
 abbrev pub IsUncalled : Engine → Type 0

@@ -1,20 +1,21 @@
 -- Whether the next rule needs a step, and how many rules without a step may follow.
-use Rattle.std.specs.Prelude.{◌≡◌, ℕ, ◌+◌, length, sum_by, List, Bool, true, false, ◌&&◌, Option, Some, None}
+use Rattle.std.specs.Prelude.{◌≡◌, ℕ, ◌+◌, drop, length, sum_by, List, Bool, true, false, ◌&&◌, Option, Some, None}
 use Rattle.tex_syntax.specs.declared.words.Outcome.TheVariants.{AtFatal}
 use Rattle.tex_defs.specs.declared.Fatal.TheVariants.{HundredErrors}
 use Rattle.tex_defs.specs.declared.Seen.{Seen}
 use Rattle.plain_tokens.specs.Pending.{Pending, Source, Progress, Begun, Closed, pulled}
 use Rattle.plain_machine.specs.Extended.{starts}
 use Rattle.rows.specs.Readings as reading
-use Rattle.plain_readings.specs.Weights.{act_weight}
+use Rattle.plain_readings.specs.Weights.{act_frame, ask_weight, behind_weight}
 use Rattle.reading_frames.specs.Stack.{asks_in}
-use Rattle.reading_frames.specs.Weights.{stack_weight}
+use Rattle.reading_frames.specs.Weights.{frames_weight, stack_weight}
 use Rattle.input_state.specs.Reads.{gives_step}
 use Rattle.input_state.specs.declared.answer.Call.{Call}
-use Rattle.input_state.specs.Callings.{call_in}
+use Rattle.input_state.specs.Callings.{Calling, call_in}
 use Rattle.macro_call.specs.declared.ask.CallAsk.{CallAsk}
 use Rattle.macro_call.specs.declared.ask.CallAsk.TheVariants as call
 use Rattle.engine_state.specs.declared.engine.Engine.{Engine}
+use Rattle.engine_state.specs.Calls.{asks_of}
 use Rattle.engine_state.specs.declared.outcome.Ruled.{Ruled}
 use Rattle.engine_state.specs.declared.outcome.Ruled.TheVariants.{Step, Free, Halted}
 use Rattle.engine_state.specs.declared.outcome.Next.{Next}
@@ -30,34 +31,33 @@ asks_more a = false
 abbrev pub asked : Engine → Option reading.Ask
 asked e = asks_in e.readings.frames e.input.builds
 
--- by the innermost frame, or where no reading is open
-abbrev pub frames_want : Option reading.Ask → Bool
-frames_want None = true
-frames_want (Some a) = asks_more a
+-- what the innermost reading asks for: a call, where there is one, and else the innermost frame
+abbrev pub asked_by : Option Call → Calling → (frames : Option reading.Ask) → Option reading.Ask
+asked_by None k a = a
+asked_by (Some c) k a = Some (asks_of c k)
+
+abbrev pub asks_now : Engine → Option reading.Ask
+asks_now e = asked_by (call_in e.input.call) e.input.call (asked e)
+
+-- it asks for a token, or no reading is open
+abbrev pub wants_token : Option reading.Ask → Bool
+wants_token None = true
+wants_token (Some a) = asks_more a
 
 abbrev pub call_asks_more : CallAsk → Bool
 call_asks_more call.More = true
 call_asks_more a = false
 
--- by a call, where there is one, and else by the frames
-abbrev pub all_want : Option Call → Option reading.Ask → Bool
-all_want None a = frames_want a
-all_want (Some c) a = call_asks_more c.ask
-
 -- WHETHER A FILE IS TO BE OPENED
 
+-- `\input` has read its file's name
 abbrev pub asks_start : Option reading.Ask → Bool
 asks_start None = false
 asks_start (Some a) = starts a
 
--- `\input` has read its file's name, and no call gathers its arguments
-abbrev pub all_start : Option Call → Option reading.Ask → Bool
-all_start None a = asks_start a
-all_start (Some c) a = false
-
 -- the next rule has a step
 abbrev pub stepping : Engine → Bool
-stepping e = all_want (call_in e.input.call) (asked e) && gives_step (pulled e.input.groups.now.categories e.input.pending)
+stepping e = wants_token (asks_now e) && gives_step (pulled e.input.groups.now.categories e.input.pending)
 
 -- WEIGHTS
 
@@ -72,16 +72,10 @@ outer_weight outer = sum_by (λ s. length s.line + file_weight s.file) outer
 abbrev pub pending_weight : Pending → ℕ
 pending_weight p = (length p.line + file_weight p.file) + outer_weight p.outer
 
--- what a call asks for
-abbrev pub call_weight : CallAsk → ℕ
-call_weight call.More = 0
-call_weight call.ExtraBrace = act_weight + 1
-call_weight a = act_weight
-
--- the open readings
+-- the open readings: the frames, and what the innermost asks for; of a call that stands in the input
 abbrev pub readings_weight : Option Call → Engine → ℕ
 readings_weight None e = stack_weight e.readings
-readings_weight (Some c) e = stack_weight e.readings + call_weight c.ask
+readings_weight (Some c) e = act_frame + frames_weight (drop 1 e.readings.frames) + ask_weight behind_weight (asks_of c e.input.call)
 
 -- a rule without a step makes the engine lighter
 abbrev pub weight : Engine → ℕ

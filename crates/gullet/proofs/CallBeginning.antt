@@ -38,7 +38,8 @@ use Rattle.input_state.specs.Stored.{KeepsShared, call_refusal, words}
 use Rattle.engine_state.specs.declared.broken.Broken.TheVariants as broken
 use Rattle.engine_state.specs.declared.engine.Engine.{Engine}
 use Rattle.engine_state.specs.Book.{Book, with_work}
-use Rattle.engine_state.specs.Calls.{AllStand, ReadingsStand, CallStands, Gathers, HasWork, open_call}
+use Rattle.engine_state.specs.Calls.{AllStand, HasWork, open_call}
+use Rattle.engine_state.proofs.CallsKnown.{CallStands, Gathers, ReadingsBy, join, gathers_lists}
 use Rattle.reading_frames.specs.Stack.{call_begun}
 use Rattle.engine_state.specs.Stands.{SameFrames, SameStore, Stands, state_of, page_of}
 use Rattle.engine_state.specs.Rules.{Cuts, Went}
@@ -48,7 +49,6 @@ use Rattle.engine_state.proofs.Cutting.{full_cuts, cuts_by}
 use Rattle.engine_state.proofs.Joining.{quiet_here, went_by}
 use Rattle.engine_state.proofs.SharedPut.{pending_stands, shared_cuts, shared_did, shared_sound}
 use Rattle.engine_state.proofs.Storing.{sound_still, store_scan}
-use Rattle.gullet.proofs.CallLists.{gathers_lists}
 
 -- a reading that has begun
 abbrev fresh : reading.Kind → Reading
@@ -233,7 +233,7 @@ module _ (sizes : Sizes) (e : Engine) (book : Book) (t : Token) (name : Name) (i
   calling_stands places = record {
     sound = sound_still sizes e calling book.number book.all_lists refl refl refl refl refl (store_scan e.input calling.input (Gathering name scan) refl) st.sound;
     idle = st.idle;
-    all = subst (λ (o : Option Call). ReadingsStand o calling book.number (fresh K ∷ book.work)) (sym (first_asks name ts (mode_of h.long))) (call_stands places, record { innermost = refl; frames = st.readings.frames; shallow = st.readings.shallow });
+    all = join calling book.number (fresh K ∷ book.work) (subst (λ (o : Option Call). ReadingsBy o calling book.number (fresh K ∷ book.work)) (sym (first_asks name ts (mode_of h.long))) (call_stands places, record { innermost = refl; frames = st.readings.frames; shallow = st.readings.shallow }));
   }
 
   module _ (long : Bool) (e2 : Engine) (same : long ≡ h.long) (after : e2 ≡ record e { readings = call_begun name e.readings; input = record e.input { call = Gathering name (first_scan (text_of e.input.lists e.input.groups.now.meanings name) (mode_of long)); lists = e2.input.lists } }) (all_lists : KeepsShared e.input e2.input) where

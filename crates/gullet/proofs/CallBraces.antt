@@ -35,10 +35,10 @@ use Rattle.input_state.specs.Macros.{list_at}
 use Rattle.engine_state.specs.declared.broken.Broken.{Broken}
 use Rattle.engine_state.specs.declared.engine.Engine.{Engine}
 use Rattle.engine_state.specs.Book.{Book, with_work}
-use Rattle.engine_state.specs.Calls.{AllStand, ReadingsStand, CallStands, Gathers, IsTaking, brace_call, open_call}
+use Rattle.engine_state.specs.Calls.{AllStand, brace_call, open_call}
+use Rattle.engine_state.proofs.CallsKnown.{CallStands, Gathers, IsTaking, ReadingsBy, join, gathers_lists}
 use Rattle.engine_state.specs.Stands.{state_of, page_of, own_style}
 use Rattle.engine_state.specs.Rules.{world_of, Cuts, Halts, Reports, Went}
-use Rattle.gullet.proofs.CallLists.{gathers_lists}
 use Rattle.gullet.proofs.CallEnding.{here as here_call}
 use Rattle.engine_state.proofs.Cutting.{later_cuts}
 use Rattle.engine_state.proofs.Joining.{quiet_wrote, went_by, halts_least, halts_on}
@@ -193,7 +193,7 @@ module _ (sizes : Sizes) (e e1 e2 : Engine) (f : FilesTold) (s0 : SinkTold) (nam
         brace_went e4 is st after rep =
             let h : Reports sizes (state_of e2 W) (state_of e3 W) (world_of f s0 e2) (world_of f s3 e3) (page_of e W) (reports.ExtraBrace name) (Feeds Noted ∷ []) =
             subst (λ (p : Page). Reports sizes (state_of e2 W) (state_of e3 W) (world_of f s0 e2) (world_of f s3 e3) p (reports.ExtraBrace name) (Feeds Noted ∷ [])) page_same rep in
-            let k : ReadingsStand (Some (brace_call name)) e3 book.number (r ∷ rs) = here_call sizes e3 book (brace_call name) r rs is st in
+            let k : ReadingsBy (Some (brace_call name)) e3 book.number (r ∷ rs) = here_call sizes e3 book (brace_call name) r rs is st in
             let b : Braced e3 book.number name r e3.input.call = braced e3 book.number name r k.0 in
             let written : List Move = Written Transcript (report_bytes (own_style e) e.in_line e.input.pending.number (reports.ExtraBrace name)) ∷ Reported ∷ [] in
             let whole : moves ≡ (put_one x.token ++ put_one par_token) ++ (written ++ Feeds Noted ∷ []) = ap (λ (ms : List Move). put_one x.token ++ (put_one par_token ++ ms)) h.moves in
@@ -206,8 +206,8 @@ module _ (sizes : Sizes) (e e1 e2 : Engine) (f : FilesTold) (s0 : SinkTold) (nam
                 sound = sound_still sizes e3 e4 book.number book.all_lists (ap (λ (y : Engine). y.sizes) after) (ap (λ (y : Engine). y.readings.size) after) (ap (λ (y : Engine). y.conditionals) after) (ap (λ (y : Engine). y.names) after) (ap (λ (y : Engine). y.reports) after)
                     (store_scan e3.input e4.input (with_scan noted_scan e3.input.call) (ap (λ (y : Engine). y.input) after)) st.sound;
                 idle = ap (λ (y : Engine). y.input.making) after ∙ st.idle;
-                all = subst (λ (y : Engine). ReadingsStand (call_in y.input.call) y book.number work) (sym after)
-                    (subst (λ (o : Option Call). ReadingsStand o (record e3 { input = record e3.input { call = with_scan noted_scan e3.input.call } }) book.number work) (sym (noted_asks name e3.input.call is)) (b.stands _ refl, record { innermost = k.1.innermost; frames = k.1.frames; shallow = k.1.shallow }));
+                all = join e4 book.number work (subst (λ (y : Engine). ReadingsBy (call_in y.input.call) y book.number work) (sym after)
+                    (subst (λ (o : Option Call). ReadingsBy o (record e3 { input = record e3.input { call = with_scan noted_scan e3.input.call } }) book.number work) (sym (noted_asks name e3.input.call is)) (b.stands _ refl, record { innermost = k.1.innermost; frames = k.1.frames; shallow = k.1.shallow })));
               };
               did = did_join sizes _ _ _ _ _ _ (put_one x.token ++ put_one par_token) (written ++ Feeds Noted ∷ []) both (did_join sizes _ _ _ _ _ _ written (Feeds Noted ∷ []) h.did
                   (did_one sizes (Feeds Noted) _ _ _ _ refl made_now (quiet_wrote (Feeds Noted) f s3 e3.in_line e4.in_line tt (ap (λ (y : Engine). y.in_line) after))));

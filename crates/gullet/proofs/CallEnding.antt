@@ -21,26 +21,27 @@ use Rattle.input_state.specs.Stored.{Stored, KeepsShared, gathered}
 use Rattle.input_state.specs.declared.answer.Call.{Call}
 use Rattle.engine_state.specs.declared.engine.Engine.{Engine}
 use Rattle.engine_state.specs.Book.{Book, with_work}
-use Rattle.engine_state.specs.Calls.{AllStand, ReadingsStand, CallStands, asks_of}
-use Rattle.reading_frames.specs.Stack.{call_ended}
+use Rattle.engine_state.specs.Calls.{asks_of, AllStand}
+use Rattle.engine_state.proofs.CallsKnown.{CallStands, ReadingsBy, split, join}
+use Rattle.reading_frames.specs.Stack.{reading_ended}
 use Rattle.engine_state.specs.Stands.{IsSized, SameFrames, SameOthers, SameStore, OnlyColumn, state_of, page_of, own_style}
 use Rattle.engine_state.specs.Rules.{world_of, plan_of, Went, Halts, Reports}
-use Rattle.engine_state.proofs.CallKept.{all_still, left_frames, left_shallow}
+use Rattle.engine_state.proofs.CallKept.{all_still}
 use Rattle.engine_state.proofs.Joining.{quiet_wrote, went_by, halts_least}
 use Rattle.engine_state.proofs.AtLocations.{column_all}
 use Rattle.engine_state.proofs.Reporting.{input_sound, others_sound}
 use Rattle.engine_state.proofs.Storing.{sound_still, store_call, store_is}
 
 -- the call is the innermost reading
-pub here : (sizes : Sizes) (e : Engine) (book : Book) (c : Call) (r : Reading) (rs : List Reading) → call_in e.input.call ≡ Some c → AllStand sizes e (with_work (r ∷ rs) book) → ReadingsStand (Some c) e book.number (r ∷ rs)
-here sizes e book c r rs is st = subst (λ (x : Option Call). ReadingsStand x e book.number (r ∷ rs)) is st.all
+pub here : (sizes : Sizes) (e : Engine) (book : Book) (c : Call) (r : Reading) (rs : List Reading) → call_in e.input.call ≡ Some c → AllStand sizes e (with_work (r ∷ rs) book) → ReadingsBy (Some c) e book.number (r ∷ rs)
+here sizes e book c r rs is st = subst (λ (x : Option Call). ReadingsBy x e book.number (r ∷ rs)) is (split e book.number (r ∷ rs) st.all)
 
 -- a rule of a call, by what it asks for
 pub by_call : (sizes : Sizes) (e : Engine) (c : Call) (P : Book → List Move → Type 0) → call_in e.input.call ≡ Some c →
     ((book : Book) (r : Reading) (rs : List Reading) → AllStand sizes e (with_work (r ∷ rs) book) → CallStands e book.number c r → P (with_work (r ∷ rs) book) (answered (state_of e (with_work (r ∷ rs) book)) (r ∷ rs) r (asks_of c e.input.call))) →
     (book : Book) → AllStand sizes e book → P book (plan_of e book)
-by_call sizes e c P is h book st = at book.work st (subst (λ (x : Option Call). ReadingsStand x e book.number book.work) is st.all) where
-  at : (work : List Reading) → AllStand sizes e (with_work work book) → ReadingsStand (Some c) e book.number work → P (with_work work book) (plan_of e (with_work work book))
+by_call sizes e c P is h book st = at book.work st (subst (λ (x : Option Call). ReadingsBy x e book.number book.work) is (split e book.number book.work st.all)) where
+  at : (work : List Reading) → AllStand sizes e (with_work work book) → ReadingsBy (Some c) e book.number work → P (with_work work book) (plan_of e (with_work work book))
   at [] st k = absurd k
   at (r ∷ rs) st k = subst (λ (x : reading.Ask). P (with_work (r ∷ rs) book) (answered (state_of e (with_work (r ∷ rs) book)) (r ∷ rs) r x)) k.0.asked (h book r rs st k.0)
 
@@ -54,21 +55,21 @@ lists_gone i held is = ap (λ (l : List (List Token)). drop (length l) (gathered
 
 -- the engine without its call
 module _ (sizes : Sizes) (e e2 : Engine) (book : Book) (r : Reading) (rs : List Reading) (c : Call) (is : call_in e.input.call ≡ Some c) (st : AllStand sizes e (with_work (r ∷ rs) book))
-    (after : e2 ≡ record e { readings = call_ended e.readings; input = record e.input { call = NotCalling; lists = e2.input.lists } }) (all_lists : KeepsShared e.input e2.input) where
+    (after : e2 ≡ record e { readings = reading_ended e.readings; input = record e.input { call = NotCalling; lists = e2.input.lists } }) (all_lists : KeepsShared e.input e2.input) where
   abbrev ended : Engine
-  ended = record e { readings = call_ended e.readings; input = record e.input { call = NotCalling; lists = e2.input.lists } }
+  ended = record e { readings = reading_ended e.readings; input = record e.input { call = NotCalling; lists = e2.input.lists } }
 
   store : SameStore e.input e2.input
   store = store_call e.input e2.input NotCalling (ap (λ (x : Engine). x.input) after) all_lists
 
-  k : ReadingsStand (Some c) e book.number (r ∷ rs)
+  k : ReadingsBy (Some c) e book.number (r ∷ rs)
   k = here sizes e book c r rs is st
 
   pub closed_stands : AllStand sizes e2 (with_work rs book)
   closed_stands = record {
     sound = sound_still sizes e e2 book.number book.all_lists (ap (λ (x : Engine). x.sizes) after) (ap (λ (x : Engine). x.readings.size) after) (ap (λ (x : Engine). x.conditionals) after) (ap (λ (x : Engine). x.names) after) (ap (λ (x : Engine). x.reports) after) store st.sound;
     idle = ap (λ (x : Engine). x.input.making) after ∙ st.idle;
-    all = subst (λ (x : Engine). ReadingsStand (call_in x.input.call) x book.number rs) (sym after) (record { frames = left_frames e c rs k.1; shallow = left_shallow e c rs k.1 });
+    all = join e2 book.number rs (subst (λ (x : Engine). ReadingsBy (call_in x.input.call) x book.number rs) (sym after) (record { frames = k.1.frames; shallow = k.1.shallow }));
   }
 
   closed_state : made Closed (state_of e (with_work (r ∷ rs) book)) ≡ state_of e2 (with_work rs book)
@@ -93,7 +94,7 @@ reported_stands sizes e e1 book same input sized st =
     all_still sizes e e1 book same (store_is e.input e1.input input) (input_sound sizes e e1 book input sized st.sound) (ap (λ (i : Stored). i.making) input ∙ st.idle) st
 
 pub failed_went : (sizes : Sizes) (e e1 e2 : Engine) (book : Book) (r : Reading) (rs : List Reading) (c : Call) (f : FilesTold) (s0 s1 : SinkTold) (report : Report) → call_in e.input.call ≡ Some c → AllStand sizes e (with_work (r ∷ rs) book) →
-    SameFrames e e1 → e1.input ≡ e.input → (IsSized sizes e → IsSized sizes e1) → e2 ≡ record e1 { readings = call_ended e1.readings; input = record e1.input { call = NotCalling; lists = e2.input.lists } } → KeepsShared e1.input e2.input →
+    SameFrames e e1 → e1.input ≡ e.input → (IsSized sizes e → IsSized sizes e1) → e2 ≡ record e1 { readings = reading_ended e1.readings; input = record e1.input { call = NotCalling; lists = e2.input.lists } } → KeepsShared e1.input e2.input →
     Reports sizes (state_of e (with_work (r ∷ rs) book)) (state_of e1 (with_work (r ∷ rs) book)) (world_of f s0 e) (world_of f s1 e1) (page_of e book) report (Closed ∷ []) →
     Went sizes (state_of e (with_work (r ∷ rs) book)) e2 (world_of f s0 e) (world_of f s1 e2) (failed (page_of e book) report) 0
 failed_went sizes e e1 e2 book r rs c f s0 s1 report is st same input sized after all_lists h =

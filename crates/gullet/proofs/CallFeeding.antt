@@ -29,12 +29,12 @@ use Rattle.input_state.specs.Stored.{KeepsShared, words as stored_words}
 use Rattle.input_state.specs.declared.answer.Call.{Call}
 use Rattle.engine_state.specs.declared.engine.Engine.{Engine}
 use Rattle.engine_state.specs.Book.{Book, with_work}
-use Rattle.engine_state.specs.Calls.{AllStand, ReadingsStand, CallStands, CallAt, Gathers, open_call}
+use Rattle.engine_state.specs.Calls.{AllStand, open_call}
+use Rattle.engine_state.proofs.CallsKnown.{CallStands, CallAt, Gathers, ReadingsBy, join, lists_of, lists_by, answer_lists}
 use Rattle.engine_state.specs.Stands.{IsSound, SameStore, state_of}
 use Rattle.engine_state.specs.Rules.{Went}
 use Rattle.gullet.proofs.CallEnding.{here as here_call}
 use Rattle.gullet.proofs.CallFeedingAnswers.{Taking, taking, asked_in, in_front, scan_turn, lists_after, asked_after, at_after, called_after}
-use Rattle.gullet.proofs.CallLists.{lists_of, lists_by, answer_lists}
 use Rattle.gullet.proofs.CallFeedingMoves.{fed_reading, turn_leads, state_at, other_words, words_at}
 use Rattle.engine_state.proofs.CallKept.{list_still}
 use Rattle.plain_machine.specs.Runs.{steps}
@@ -108,7 +108,7 @@ module _ (sizes : Sizes) (e e2 : Engine) (book : Book) (r : Reading) (rs : List 
   abbrev W : Book
   W = with_work (r ∷ rs) book
 
-  stood : ReadingsStand (Some (open_call name)) e book.number (r ∷ rs)
+  stood : ReadingsBy (Some (open_call name)) e book.number (r ∷ rs)
   stood = here_call sizes e book (open_call name) r rs is st
 
   abbrev h : CallStands e book.number (open_call name) r
@@ -164,8 +164,8 @@ module _ (sizes : Sizes) (e e2 : Engine) (book : Book) (r : Reading) (rs : List 
   fed_stands = record {
     sound = sound;
     idle = ap (λ (y : Engine). y.input.making) behind ∙ st.idle;
-    all = subst (λ (y : Engine). ReadingsStand (call_in y.input.call) y book.number (fed ∷ rs)) (sym behind)
-        (subst (λ (o : Option Call). ReadingsStand o now book.number (fed ∷ rs)) (sym (called_after name h.long text k.scan r.fed x k.has_work k.gathers e2.input.call came)) (call_stands, record { innermost = stood.1.innermost; frames = stood.1.frames; shallow = stood.1.shallow }));
+    all = join e2 book.number (fed ∷ rs) (subst (λ (y : Engine). ReadingsBy (call_in y.input.call) y book.number (fed ∷ rs)) (sym behind)
+        (subst (λ (o : Option Call). ReadingsBy o now book.number (fed ∷ rs)) (sym (called_after name h.long text k.scan r.fed x k.has_work k.gathers e2.input.call came)) (call_stands, record { innermost = stood.1.innermost; frames = stood.1.frames; shallow = stood.1.shallow })));
   }
 
   -- the states before and behind

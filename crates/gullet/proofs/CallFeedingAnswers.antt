@@ -12,13 +12,14 @@ use Rattle.plain_readings.specs.Calls.{gathered, call_fed, call_ask, arguments}
 use Rattle.macro_call.specs.declared.ask.CallAsk.{CallAsk}
 use Rattle.macro_call.specs.declared.ask.CallAsk.TheVariants as ask
 use Rattle.macro_call.specs.PlainScans.{Scan, resume_scan, scan_work}
+use Rattle.macro_call.specs.Scans.{answer_of}
 use Rattle.input_state.specs.CallFeeds.{Says, IsAnswer, GoesOn, Ends, Comes}
 use Rattle.input_state.specs.Callings as calls
 use Rattle.input_state.specs.Callings.{Calling, call_lists, last_first, asks_where, scan_asks, ended_asks, asks_as, call_in}
 use Rattle.input_state.specs.declared.answer.CallEnd.{CallEnd}
 use Rattle.input_state.specs.declared.answer.CallEnd.TheVariants as end
-use Rattle.engine_state.specs.Calls.{Gathers, HasWork, IsTaking, CallAt, asks_by}
-use Rattle.gullet.proofs.CallLists.{lists_by}
+use Rattle.engine_state.specs.Calls.{asks_by, HasWork, IsEnded, ended_answer}
+use Rattle.engine_state.proofs.CallsKnown.{Gathers, Ended, IsTaking, CallAt, lists_by}
 use Rattle.gullet.proofs.CallFeedingCases.{FedCase, Waits, Enters, Grown, Last, Next, turn}
 
 -- THE SCANNER THAT TAKES TOKENS
@@ -51,6 +52,13 @@ no_arguments ask.ExtraBrace next a args is whole = cc (is, whole)
 no_arguments ask.Gathered next a args is whole = is
 no_arguments ask.Mismatch next a args is whole = cc (is, whole)
 no_arguments (ask.ParEnded silent) next a args is whole = cc (is, whole)
+
+says_is : (answer : CallAsk) (next : Scan) (a : Answer) → Says answer next a → a ≡ answer_of answer next.args (scan_work next)
+says_is ask.More next a is = is
+says_is ask.ExtraBrace next a is = is
+says_is ask.Gathered next a is = absurd is
+says_is ask.Mismatch next a is = is
+says_is (ask.ParEnded silent) next a is = is
 
 says_ask : (answer : CallAsk) (name : Name) (next : Scan) (a : Answer) (k : Calling) → Says answer next a → asks_by name answer k ≡ call_ask name a
 says_ask ask.More name next a k is = rw is refl
@@ -131,17 +139,21 @@ module _ (name : Name) (long : Bool) (text : List Token) (scan : Scan) (fed : Li
   taken_at true n next same work gathers = (same, (work, gathers))
   taken_at false n next same work gathers = (same, (work, gathers))
 
+  ended_so : (why : CallEnd) (next : Scan) → IsEnded why → IsAnswer text x.token (ended_asks why) scan next → HasWork next → Ended long text why next (fed ++ Tok x ∷ [])
+  ended_so why next ended s work =
+      let is : a ≡ ended_answer why next = says_is (ended_asks why) next a s.says in
+      record { answer = after ∙ is; ended = ended; read = record { says = refl; args = ap arguments_in (sym is) ∙ sym s.args; work = ap work_in (sym is) ∙ sym s.work; bare = work } }
+
   stopped_at : (why : CallEnd) (n : Name) (next : Scan) → n ≡ name → Ends text x.token (ended_asks why) scan next → HasWork next → CallAt (ended_asks why) name long text (calls.Stopped n why next) (fed ++ Tok x ∷ [])
   stopped_at end.Full n next same h work = let no : true ≡ false = h.closed in cc
-  stopped_at end.Mismatch n next same h work = (same, work)
-  stopped_at (end.ParEnded false) n next same h work = (same, work)
-  stopped_at (end.ParEnded true) n next same h work = (same, work)
+  stopped_at end.Mismatch n next same h work = (same, ended_so end.Mismatch next tt h.stands work)
+  stopped_at (end.ParEnded silent) n next same h work = (same, ended_so (end.ParEnded silent) next tt h.stands work)
 
   pub at_after : (k : Calling) → Comes text x.token name scan k → CallAt (asked_in k) name long text k (fed ++ Tok x ∷ [])
   at_after calls.NotCalling h = absurd h
   at_after (calls.Gathering n next) h = taken_at next.braced n next h.0 (has_after (scan_asks next) next h.1.stands) (gathers_after next h.1)
   at_after (calls.Stopped n why next) h = stopped_at why n next h.0 h.1 (has_after (ended_asks why) next h.1.stands)
-  at_after (calls.Gathered n args) h = h.0
+  at_after (calls.Gathered n args) h = (h.0, after ∙ h.1)
 
   -- the call is still that of this name
   pub called_after : (k : Calling) → Comes text x.token name scan k → call_in k ≡ asks_as name (asked_in k)

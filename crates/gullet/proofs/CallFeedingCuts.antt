@@ -1,5 +1,5 @@
 -- A call that is fed with a token for which the main memory has no room.
-use Rattle.std.proofs.Common.{Result, Ok, Err, ◌≡◌, ℕ, zero, suc, ◌+◌, ◌<◌, ◌≤◌, List, [], ◌∷◌, ◌++◌, length, drop, map, refl, sym, ap, subst, ◌∙◌, append_assoc, length-append, arith}
+use Rattle.std.proofs.Common.{Result, Ok, Err, ◌≡◌, ℕ, zero, suc, ◌+◌, ◌<◌, ◌≤◌, List, [], ◌∷◌, ◌++◌, length, drop, map, false, refl, sym, ap, subst, ◌∙◌, append_assoc, length-append, arith}
 use Rattle.std.proofs.lemmas.List.{length-drop}
 use Rattle.std.proofs.lemmas.List.Sums.{sum_by-cons, sum_by-append}
 use Rattle.std.proofs.Math.Seq.{drop-append_seam}
@@ -11,12 +11,13 @@ use Rattle.tex_defs.specs.declared.Seen.{Seen}
 use Rattle.tex_defs.specs.declared.Sizes.{Sizes}
 use Rattle.tex_defs.specs.declared.Token.{Token}
 use Rattle.tex_defs.specs.Places.{World}
+use Rattle.plain_tokens.specs.Arguments as call
 use Rattle.plain_tokens.specs.Arguments.{Answer, arguments_in, work_in}
 use Rattle.rows.specs.Readings as asks
 use Rattle.plain_readings.specs.Readings as reading
 use Rattle.plain_tokens.specs.Puts.{list_of_tokens}
-use Rattle.rows.specs.Readings.{Tok}
-use Rattle.plain_readings.specs.Calls.{call_ask}
+use Rattle.rows.specs.Readings.{Fed, Tok}
+use Rattle.plain_readings.specs.Calls.{gathered, call_ask, call_fed}
 use Rattle.plain_readings.specs.Readings.{Reading}
 use Rattle.plain_machine.specs.States.{State, Move, Grows, Feeds, Completed, Opened}
 use Rattle.plain_tokens.specs.Tables.{list_words, lists_words, memory, refused}
@@ -29,6 +30,9 @@ use Rattle.macro_call.specs.Growths.{target_by, target_of}
 use Rattle.macro_call.specs.PlainScans.{Scan, resume_scan, scan_work, with_work as with_list}
 use Rattle.macro_call.specs.Scans.{args_with}
 use Rattle.macro_call.specs.Stages.{Stage}
+use Rattle.macro_call.specs.declared.ask.CallAsk.TheVariants as ask
+use Rattle.reading_frames.specs.Frames.{OpenCall, AreFramesOf, IsGathered}
+use Rattle.reading_frames.specs.declared.frame.Frame.TheVariants as frame
 use Rattle.input_state.specs.CallFeeds.{call_work, CutTo, CutShort, IsCut, InGrowth, Between, IsCutInGrowth, IsCutBetween}
 use Rattle.input_state.specs.Callings as calls
 use Rattle.input_state.specs.Callings.{Calling, call_lists, last_first, call_in}
@@ -36,16 +40,15 @@ use Rattle.input_state.specs.Calls.{text_of}
 use Rattle.input_state.specs.Macros.{list_at}
 use Rattle.input_state.specs.Stored.{KeepsShared, words as stored_words}
 use Rattle.engine_state.specs.declared.broken.Broken.TheVariants as broken
-use Rattle.input_state.specs.declared.answer.Call.{Call}
 use Rattle.engine_state.specs.declared.engine.Engine.{Engine}
 use Rattle.engine_state.specs.Book.{Book, with_work}
-use Rattle.engine_state.specs.Calls.{AllStand, ReadingsStand, CallStands, Gathers, open_call}
-use Rattle.engine_state.specs.CutReadings.{Within, Behind, CutOff, CutScan, CallAtCut, FramesIn, FramesAtCut, CutsIn}
+use Rattle.engine_state.specs.Calls.{AllStand, HasRead, open_call}
+use Rattle.engine_state.proofs.CallsKnown.{CallStands, Beneath, Gathers, ReadingsBy, asks_gathered, frame_of, lists_of, open_frames, says_by}
+use Rattle.engine_state.specs.CutReadings.{Within, Behind, CutOff, CutScan, FramesAtCut, CutsIn}
 use Rattle.engine_state.specs.Stands.{IsSound, SameStore, state_of}
 use Rattle.gullet.proofs.CallEnding.{here as here_call}
 use Rattle.gullet.proofs.CallFeeding.{scanner, text_is, answer_to, feeding_is, growth_is, lists_before}
-use Rattle.gullet.proofs.CallFeedingAnswers.{Taking, asked_of}
-use Rattle.gullet.proofs.CallLists.{lists_of}
+use Rattle.gullet.proofs.CallFeedingAnswers.{Taking, in_front}
 use Rattle.gullet.proofs.CallFeedingMoves.{fed_reading, state_at, other_words, words_at, last_more, grows_did, feeds_did, whole_did}
 use Rattle.engine_state.proofs.Cutting.{later_cuts, full_cuts, cuts_by}
 use Rattle.engine_state.proofs.Storing.{sound_still, store_call, words_are, words_more}
@@ -90,7 +93,7 @@ module _ (sizes : Sizes) (e e2 : Engine) (book : Book) (r : Reading) (rs : List 
   abbrev W : Book
   W = with_work (r ∷ rs) book
 
-  stood : ReadingsStand (Some (open_call name)) e book.number (r ∷ rs)
+  stood : ReadingsBy (Some (open_call name)) e book.number (r ∷ rs)
   stood = here_call sizes e book (open_call name) r rs is st
 
   abbrev h : CallStands e book.number (open_call name) r
@@ -136,46 +139,47 @@ module _ (sizes : Sizes) (e e2 : Engine) (book : Book) (r : Reading) (rs : List 
   no_more q lists same =
       ap (λ (u : State). refused sizes (memory 1 (words u) ∷ [])) (finish q lists same) ∙ words_more sizes e2 (with_work (q ∷ rs) book) 1 (Some full) sound refuses
 
-  frames_near : (q : Reading) → call_in e2.input.call ≡ Some (open_call name) → CallAtCut (broken.Full full) (open_call name) e2.input.call q → FramesAtCut (broken.Full full) e2 (q ∷ rs)
-  frames_near q now near = record {
-    lists = e2.input.builds;
-    front = None;
-    grown = refl;
-    leads = tt;
-    stand = subst (λ (y : Engine). FramesIn (broken.Full full) (call_in y.input.call) y y.input.builds (q ∷ rs)) (sym behind)
-        (subst (λ (c : Option Call). FramesIn (broken.Full full) c (record e { last = e2.last; input = record e.input { call = e2.input.call; lists = e2.input.lists } }) e.input.builds (q ∷ rs)) (sym now) (near, stood.1.innermost, stood.1.frames));
-  }
+  -- in front of the token the call has read so far
+  read : HasRead ask.More k.scan (resume_scan text k.scan [])
+  read =
+      let g : Gathers h.long text k.scan r.fed = k.gathers in
+      let here : gathered h.long text r.fed ≡ resume_scan text k.scan [] = in_front h.long text k.scan r.fed g in
+      let args : arguments_in (resume_scan text k.scan []) ≡ k.scan.args = ap arguments_in (sym here) ∙ g.args in
+      let work : work_in (resume_scan text k.scan []) ≡ scan_work k.scan = ap work_in (sym here) ∙ g.work in
+      let asked : asks.More Raw ≡ call_ask name (resume_scan text k.scan []) = h.asked ∙ ap (λ (kind : reading.Kind). reading.ask kind r.fed) h.kind ∙ asks_gathered name h.long text r.fed h.places ∙ ap (call_ask name) here in
+      record { says = says_by false name k.scan (resume_scan text k.scan []) e.input.call asked args work; args = args; work = work; bare = k.has_work }
+
+  -- the frames, where the call's reading goes on so
+  frames_near : (q : Reading) (c : OpenCall) (next : Scan) → c.name ≡ name → c.text ≡ text → q.kind ≡ r.kind → ((more : List Fed) → gathered h.long text (q.fed ++ more) ≡ c.answers (call_fed more)) →
+      e2.input.call ≡ calls.Stopped name end.Full next → CutScan c.name text next c q.kind q.fed → FramesAtCut (broken.Full full) e2 (q ∷ rs)
+  frames_near q c next own its same on now cut =
+      let kind : q.kind ≡ reading.Arguments c.name h.long (book.number h.id) text = same ∙ h.kind ∙ ap (λ (n : Name). reading.Arguments n h.long (book.number h.id) text) (sym own) in
+      let b : Beneath c.name e.readings.frames e.input.builds rs = subst (λ (n : Name). Beneath n e.readings.frames e.input.builds rs) (sym own) stood.1 in
+      let open_now = open_frames c e q rs (frame_of c (frame.Call c.name) e.input.builds q h.long (book.number h.id) text refl (sym its) kind h.places on) b in
+      record {
+        lists = e2.input.builds;
+        front = None;
+        grown = refl;
+        leads = tt;
+        call = Some c;
+        at = CutOff (record { full = full; is_full = refl; text = text; next = next; stopped = now ∙ ap (λ (n : Name). calls.Stopped n end.Full next) (sym own); at = cut });
+        stand = subst (λ (y : Engine). AreFramesOf (Some c) y.readings.frames y.input.builds (q ∷ rs)) (sym behind) open_now.frames;
+      }
 
   -- the first moves are done, and the next one has no room
-  cut_at : (q : Reading) (lists : List (List Token)) (done : List Move) (m : Move) (rest : List Move) → call_in e2.input.call ≡ Some (open_call name) → CallAtCut (broken.Full full) (open_call name) e2.input.call q → call_lists e2.input.call ≡ lists →
+  cut_at : (q : Reading) (lists : List (List Token)) (done : List Move) (m : Move) (rest : List Move) → FramesAtCut (broken.Full full) e2 (q ∷ rs) → call_lists e2.input.call ≡ lists →
       argument_fed x (scan_work k.scan) complete (work_in a) ≡ done ++ m ∷ rest →
       Did sizes (state_at (state_of e W) (r ∷ rs) e.last (lists_of k.scan.args (scan_work k.scan) ++ e.input.builds)) (state_at (state_of e W) (q ∷ rs) e2.last (lists ++ e.input.builds)) w w done →
       refusal sizes m (state_at (state_of e W) (q ∷ rs) e2.last (lists ++ e.input.builds)) ≡ Some full →
       CutsIn sizes (state_of e W) e2 w w (feeding r x) (broken.Full full)
-  cut_at q lists done m rest now near same moves did no_room = record {
+  cut_at q lists done m rest near same moves did no_room = record {
     book' = with_work (q ∷ rs) book;
     cuts = cuts_by sizes _ e2 (with_work (q ∷ rs) book) w w (done ++ m ∷ rest) (feeding r x) (broken.Full full) (feeding_is e book.number name r x h ∙ moves)
         (later_cuts sizes (state_of e W) (state_at (state_of e W) (q ∷ rs) e2.last (lists ++ e.input.builds)) e2 (with_work (q ∷ rs) book) w w w done (m ∷ rest) (broken.Full full)
         (subst (λ (u : State). Did sizes u (state_at (state_of e W) (q ∷ rs) e2.last (lists ++ e.input.builds)) w w done) start did)
         (full_cuts sizes _ e2 (with_work (q ∷ rs) book) w m rest full (broken.Full full) refl no_room (finish q lists same)));
-    near = frames_near q now near;
+    near = near;
   }
-
-  -- the call is this reading
-  call_near : (q : Reading) (next : Scan) → q.kind ≡ r.kind → asks.More Raw ≡ reading.ask q.kind q.fed → e2.input.call ≡ calls.Stopped name end.Full next → CutScan h.long text next q.fed →
-      CallAtCut (broken.Full full) (open_call name) e2.input.call q
-  call_near q next same asked now at = CutOff (record {
-    full = full;
-    is_full = refl;
-    long = h.long;
-    number = book.number h.id;
-    text = text;
-    kind = same ∙ h.kind;
-    asked = asked;
-    next = next;
-    stopped = now;
-    at = at;
-  })
 
   -- WITHIN A GROWTH
   growth_cut : (next : Scan) → ((was : List Token) → call_work e2.input.call ≡ Some was → e2.last ≡ e.last) → e2.input.call ≡ calls.Stopped name end.Full next → IsCutInGrowth text x.token k.scan next → CutsIn sizes (state_of e W) e2 w w (feeding r x) (broken.Full full)
@@ -187,8 +191,10 @@ module _ (sizes : Sizes) (e e2 : Engine) (book : Book) (r : Reading) (rs : List 
     whole : drop (length c.was) (target_by complete (work_in a)) ≡ c.front ++ c.behind
     whole = ap (λ (o : Option (List Token)). drop (length (unwrap_or o [])) (target_by complete (work_in a))) (sym c.before) ∙ sym (growth_is e book.number name r x h) ∙ c.whole
 
-    near : CallAtCut (broken.Full full) (open_call name) e2.input.call r
-    near = call_near r next refl h.asked now (Within (record { scan = k.scan; seen = x; gathers = k.gathers; cut = c }))
+    near : FramesAtCut (broken.Full full) e2 (r ∷ rs)
+    near =
+        let g : Gathers h.long text k.scan r.fed = k.gathers in
+        frames_near r (record { name = name; text = text; answers = resume_scan text k.scan }) next refl refl refl g.goes_on now (Within (record { scan = k.scan; seen = x; call = refl; read = read; cut = c }))
 
     last : e2.last ≡ e.last
     last = unfed (c.was ++ c.front) (ap call_work now ∙ ap scan_work c.after ∙ work_with k.scan k.scan.present c.was (c.was ++ c.front) refl c.before)
@@ -208,22 +214,29 @@ module _ (sizes : Sizes) (e e2 : Engine) (book : Book) (r : Reading) (rs : List 
     by_behind : (ts : List Token) → c.behind ≡ ts → 0 < length ts → CutsIn sizes (state_of e W) e2 w w (feeding r x) (broken.Full full)
     by_behind [] left some = absurd (omega (arith, some))
     by_behind (t ∷ ts) left some =
-        cut_at r (cut_lists c.was c.front k.scan.args) (map Grows c.front) (Grows t) (map Grows ts ++ behind_growth x complete (work_in a)) (ap call_in now) near same
+        cut_at r (cut_lists c.was c.front k.scan.args) (map Grows c.front) (Grows t) (map Grows ts ++ behind_growth x complete (work_in a)) near same
         (moves ∙ ap (λ (us : List Token). map Grows c.front ++ (map Grows us ++ behind_growth x complete (work_in a))) left) did (no_more r (cut_lists c.was c.front k.scan.args) same)
 
   -- IN FRONT OF A PLACE
   between_cut : (next : Scan) → (call_work e2.input.call ≡ None → e2.last ≡ x) → e2.input.call ≡ calls.Stopped name end.Full next → IsCutBetween text x.token k.scan next → CutsIn sizes (state_of e W) e2 w w (feeding r x) (broken.Full full)
   between_cut next fed now c = by_present k.scan.present refl where
-    asked : asks.More Raw ≡ reading.ask r.kind (r.fed ++ Tok x ∷ [])
-    asked =
-        let g : Gathers h.long text k.scan r.fed = k.gathers in
-        sym (ap (λ (kind : reading.Kind). reading.ask kind (r.fed ++ Tok x ∷ [])) h.kind ∙ asked_of name h.long text r.fed (Tok x) ∙ ap (call_ask name) (g.goes_on (Tok x ∷ []) ∙ c.due))
-
     q : Reading
     q = fed_reading r x
 
-    near : CallAtCut (broken.Full full) (open_call name) e2.input.call q
-    near = call_near q next refl asked now (Behind (record { scan = k.scan; before = r.fed; seen = x; gathers = k.gathers; last = refl; cut = c }))
+    near : FramesAtCut (broken.Full full) e2 (q ∷ rs)
+    near =
+        let g : Gathers h.long text k.scan r.fed = k.gathers in
+        frames_near q (record { name = name; text = text; answers = λ fed. resume_scan text k.scan (call.Tok x.token ∷ fed) }) next refl refl refl
+        (λ more. ap (gathered h.long text) (append_assoc r.fed (Tok x ∷ []) more) ∙ g.goes_on (Tok x ∷ more)) now (Behind (record {
+          scan = k.scan;
+          before = r.fed;
+          seen = x;
+          gathers = subst (λ (kind : reading.Kind). IsGathered (record { name = name; text = text; answers = resume_scan text k.scan }) kind r.fed) (sym h.kind) (refl, refl, g.goes_on);
+          read = read;
+          last = refl;
+          call = refl;
+          cut = c;
+        }))
 
     last : e2.last ≡ x
     last = fed (ap call_work now ∙ ap (option_map (λ (s : Stage). s.list)) c.none)
@@ -250,7 +263,7 @@ module _ (sizes : Sizes) (e e2 : Engine) (book : Book) (r : Reading) (rs : List 
         let bare : k.scan.args ≡ [] = k.has_work none in
         let lists : call_lists e2.input.call ≡ [] = lists_now ∙ ap (λ (us : List (List Token)). last_first us []) (same ∙ bare) in
         let had : lists_of k.scan.args (scan_work k.scan) ≡ [] = ap (λ (o : Option (List Token)). lists_of k.scan.args o) none ∙ ap (λ (us : List (List Token)). lists_of us None) bare in
-        cut_at q [] (Feeds (Tok x) ∷ []) Opened [] (ap call_in now) near lists (moves None k.scan.args none same)
+        cut_at q [] (Feeds (Tok x) ∷ []) Opened [] near lists (moves None k.scan.args none same)
         (subst (λ (y : Seen). Did sizes (state_at (state_of e W) (r ∷ rs) e.last (lists_of k.scan.args (scan_work k.scan) ++ e.input.builds)) (state_at (state_of e W) (q ∷ rs) y e.input.builds) w w (Feeds (Tok x) ∷ [])) (sym last)
         (subst (λ (l : List (List Token)). Did sizes (state_at (state_of e W) (r ∷ rs) e.last (l ++ e.input.builds)) (state_at (state_of e W) (q ∷ rs) x e.input.builds) w w (Feeds (Tok x) ∷ [])) (sym had) (feeds_did sizes (state_of e W) w r rs e.last x e.input.builds)))
         (no_more q [] lists)
@@ -262,7 +275,7 @@ module _ (sizes : Sizes) (e e2 : Engine) (book : Book) (r : Reading) (rs : List 
         let lists : call_lists e2.input.call ≡ list_of_tokens arg ++ args = lists_now ∙ ap (λ (us : List (List Token)). last_first us []) same ∙ last_more k.scan.args arg [] in
         let had : lists_of k.scan.args (scan_work k.scan) ≡ was ∷ args = ap (lists_of k.scan.args) work in
         let within_size = room q (list_of_tokens arg ++ args) lists in
-        cut_at q (list_of_tokens arg ++ args) (grown_to was arg ++ (Feeds (Tok x) ∷ Completed arg ∷ [])) Opened [] (ap call_in now) near lists
+        cut_at q (list_of_tokens arg ++ args) (grown_to was arg ++ (Feeds (Tok x) ∷ Completed arg ∷ [])) Opened [] near lists
         (moves (Some was) (k.scan.args ++ arg ∷ []) work same ∙ ap (λ (us : List (List Token)). argument_fed x (Some was) us (Some [])) (drop-append_seam k.scan.args (arg ∷ [])) ∙ sym (append_assoc (grown_to was arg) (Feeds (Tok x) ∷ Completed arg ∷ []) (Opened ∷ [])))
         (subst (λ (y : Seen). Did sizes (state_at (state_of e W) (r ∷ rs) e.last (lists_of k.scan.args (scan_work k.scan) ++ e.input.builds)) (state_at (state_of e W) (q ∷ rs) y ((list_of_tokens arg ++ args) ++ e.input.builds)) w w (grown_to was arg ++ (Feeds (Tok x) ∷ Completed arg ∷ []))) (sym last)
         (subst (λ (l : List (List Token)). Did sizes (state_at (state_of e W) (r ∷ rs) e.last (l ++ e.input.builds)) (state_at (state_of e W) (q ∷ rs) x ((list_of_tokens arg ++ args) ++ e.input.builds)) w w (grown_to was arg ++ (Feeds (Tok x) ∷ Completed arg ∷ []))) (sym had)

@@ -23,7 +23,7 @@ use Rattle.plain_machine.specs.Does.{Did}
 use Rattle.plain_machine.proofs.Doing.{did_none, did_join, did_one}
 use Rattle.macro_call.specs.Growths.{target_by}
 use Rattle.input_state.specs.Callings.{last_first}
-use Rattle.gullet.proofs.CallLists.{lists_of}
+use Rattle.engine_state.proofs.CallsKnown.{lists_of}
 use Rattle.gullet.proofs.CallFeedingCases.{FedCase, Waits, Enters, Grown, Last, Next}
 use Rattle.engine_state.proofs.Joining.{quiet_here}
 

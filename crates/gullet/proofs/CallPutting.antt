@@ -33,12 +33,13 @@ use Rattle.input_state.specs.declared.answer.Call.{Call}
 use Rattle.macro_call.specs.declared.ask.CallAsk.TheVariants as asked
 use Rattle.engine_state.specs.declared.engine.Engine.{Engine}
 use Rattle.engine_state.specs.Book.{Book, with_work}
-use Rattle.engine_state.specs.Calls.{AllStand, ReadingsStand, CallStands, IsGathered, args_of}
-use Rattle.reading_frames.specs.Stack.{call_ended}
+use Rattle.engine_state.specs.Calls.{args_of, AllStand}
+use Rattle.engine_state.proofs.CallsKnown.{CallStands, IsGathered, ReadingsBy, join}
+use Rattle.reading_frames.specs.Stack.{reading_ended}
 use Rattle.engine_state.specs.Stands.{IsSound, SameStore, state_of}
 use Rattle.engine_state.specs.Rules.{world_of, Cuts, Went}
 use Rattle.gullet.proofs.CallEnding.{here, closed_went, lists_gone}
-use Rattle.engine_state.proofs.CallKept.{meant_by, left_frames, left_shallow}
+use Rattle.engine_state.proofs.CallKept.{meant_by}
 use Rattle.engine_state.proofs.Cutting.{later_cuts, full_cuts, cuts_by}
 use Rattle.engine_state.proofs.Joining.{quiet_here, quiet_wrote, went_by}
 use Rattle.engine_state.proofs.Storing.{sound_still}
@@ -47,14 +48,14 @@ use Rattle.gullet.proofs.Ending.{none_found}
 -- WHAT IS PUT
 
 -- the macro of the call
-pub put_is : (e : Engine) (number : ℕ → ℕ) (c : Call) (r : Reading) (h : CallStands e number c r) → IsGathered c.name e.input.call → put_of e.input.lists e.input.groups.now.meanings e.input.call ≡ call_put h.id (list_at e.input.lists h.id) (args_of e.input.call)
+pub put_is : (e : Engine) (number : ℕ → ℕ) (c : Call) (r : Reading) (h : CallStands e number c r) → IsGathered c.name h.long (list_at e.input.lists h.id) e.input.call r.fed → put_of e.input.lists e.input.groups.now.meanings e.input.call ≡ call_put h.id (list_at e.input.lists h.id) (args_of e.input.call)
 put_is e number c r h at = by_calling e.input.call at where
-  by_calling : (k : Calling) → IsGathered c.name k → put_of e.input.lists e.input.groups.now.meanings k ≡ call_put h.id (list_at e.input.lists h.id) (args_of k)
+  by_calling : (k : Calling) → IsGathered c.name h.long (list_at e.input.lists h.id) k r.fed → put_of e.input.lists e.input.groups.now.meanings k ≡ call_put h.id (list_at e.input.lists h.id) (args_of k)
   by_calling calls.NotCalling where_it = absurd where_it
   by_calling (calls.Gathering n scan) where_it = absurd where_it
   by_calling (calls.Stopped n why scan) where_it = absurd where_it
   by_calling (calls.Gathered n args) where_it =
-      ap (λ (x : Name). macro_put e.input.lists (name_meaning e.input.groups.now.meanings x) args) where_it ∙ ap (λ (m : Meaning (Option ℕ)). macro_put e.input.lists m args) h.meaning
+      ap (λ (x : Name). macro_put e.input.lists (name_meaning e.input.groups.now.meanings x) args) where_it.0 ∙ ap (λ (m : Meaning (Option ℕ)). macro_put e.input.lists m args) h.meaning
 
 pub moves_are : (number : ℕ → ℕ) (name : Name) (long : Bool) (id : ℕ) (ts : List Token) (args : List (List Token)) (k : reading.Kind) → k ≡ reading.Arguments name long (number id) ts →
     called_with k args ≡ arguments_put (numbered number (call_put id ts args)) (call_put id ts args).items
@@ -102,8 +103,8 @@ module _ (sizes : Sizes) (e : Engine) (book : Book) (r : Reading) (rs : List Rea
         (full_cuts sizes settled_state e2 W w (CalledWith P) [] full (broken.Full full) refl (demands_same (Some full) x xs some refuses)
         (ap (λ (q : Pending). record (state_of e W) { pending = q }) (settle_of book.number e.input.pending) ∙ ap (λ (y : Engine). state_of y W) (sym after)))
 
-  module _ (e2 : Engine) (after : e2 ≡ record e { readings = call_ended e.readings; input = record e.input { pending = after_call p e.input.pending; call = NotCalling; lists = e2.input.lists } }) (all_lists : KeepsShared e.input e2.input) where
-    k : ReadingsStand (Some c) e book.number (r ∷ rs)
+  module _ (e2 : Engine) (after : e2 ≡ record e { readings = reading_ended e.readings; input = record e.input { pending = after_call p e.input.pending; call = NotCalling; lists = e2.input.lists } }) (all_lists : KeepsShared e.input e2.input) where
+    k : ReadingsBy (Some c) e book.number (r ∷ rs)
     k = here sizes e book c r rs is st
 
     -- the input with the body in front, its lists as they were
@@ -118,8 +119,8 @@ module _ (sizes : Sizes) (e : Engine) (book : Book) (r : Reading) (rs : List Rea
     }
 
     module _ (x : Item) (xs : List Item) (some : p.items ≡ x ∷ xs) where
-      now : e2 ≡ record e { readings = call_ended e.readings; input = record middle { lists = e2.input.lists } }
-      now = after ∙ ap (λ (q : Pending). record e { readings = call_ended e.readings; input = record e.input { pending = q; call = NotCalling; lists = e2.input.lists } }) (pending_put p e.input.pending x xs some)
+      now : e2 ≡ record e { readings = reading_ended e.readings; input = record middle { lists = e2.input.lists } }
+      now = after ∙ ap (λ (q : Pending). record e { readings = reading_ended e.readings; input = record e.input { pending = q; call = NotCalling; lists = e2.input.lists } }) (pending_put p e.input.pending x xs some)
 
       store : SameStore middle e2.input
       store = record {
@@ -135,7 +136,7 @@ module _ (sizes : Sizes) (e : Engine) (book : Book) (r : Reading) (rs : List Rea
       put_stands = record {
         sound = sound_still sizes (record e { input = middle }) e2 book.number book.all_lists (ap (λ (y : Engine). y.sizes) now) (ap (λ (y : Engine). y.readings.size) now) (ap (λ (y : Engine). y.conditionals) now) (ap (λ (y : Engine). y.names) now) (ap (λ (y : Engine). y.reports) now) store middle_sound;
         idle = ap (λ (y : Engine). y.input.making) now ∙ st.idle;
-        all = subst (λ (y : Engine). ReadingsStand (call_in y.input.call) y book.number rs) (sym now) (record { frames = left_frames e c rs k.1; shallow = left_shallow e c rs k.1 });
+        all = join e2 book.number rs (subst (λ (y : Engine). ReadingsBy (call_in y.input.call) y book.number rs) (sym now) (record { frames = k.1.frames; shallow = k.1.shallow }));
       }
 
       put_state : made (CalledWith P) settled_state ≡ state_of e2 (with_work rs book)
@@ -150,7 +151,7 @@ module _ (sizes : Sizes) (e : Engine) (book : Book) (r : Reading) (rs : List Rea
     put_went f told fits = by_items p.items refl where
       by_items : (xs : List Item) → p.items ≡ xs → Went sizes (state_of e W) e2 (world_of f told e) (world_of f told e2) (arguments_put P xs) 0
       by_items [] none =
-          closed_went sizes e e2 book r rs c is st (after ∙ ap (λ (q : Pending). record e { readings = call_ended e.readings; input = record e.input { pending = q; call = NotCalling; lists = e2.input.lists } }) (pending_same p e.input.pending none)) all_lists
+          closed_went sizes e e2 book r rs c is st (after ∙ ap (λ (q : Pending). record e { readings = reading_ended e.readings; input = record e.input { pending = q; call = NotCalling; lists = e2.input.lists } }) (pending_same p e.input.pending none)) all_lists
           (state_of e W) f told (world_of f told e) [] (did_none sizes (state_of e W) (world_of f told e)) refl
       by_items (x ∷ xs) some = record {
         book' = with_work rs book;
@@ -170,12 +171,12 @@ module _ (sizes : Sizes) (e e2 : Engine) (book : Book) (r : Reading) (rs : List 
   meant : is_listed (lists_held e.input.groups) h.id ≡ true
   meant = meant_by e.input.groups name h.long h.outer h.id h.meaning
 
-  pub put_rule : e2 ≡ record e { readings = call_ended e.readings; input = record e.input { pending = after_call (put_of e.input.lists e.input.groups.now.meanings e.input.call) e.input.pending; call = NotCalling; lists = e2.input.lists } } → KeepsShared e.input e2.input →
+  pub put_rule : e2 ≡ record e { readings = reading_ended e.readings; input = record e.input { pending = after_call (put_of e.input.lists e.input.groups.now.meanings e.input.call) e.input.pending; call = NotCalling; lists = e2.input.lists } } → KeepsShared e.input e2.input →
       put_refusal (put_of e.input.lists e.input.groups.now.meanings e.input.call) e.input ≡ None → (f : FilesTold) (told : SinkTold) →
       Went sizes (state_of e (with_work (r ∷ rs) book)) e2 (world_of f told e) (world_of f told e2) (called_with r.kind (args_of e.input.call)) 0
   put_rule after all_lists fits f told =
       went_by sizes _ e2 _ _ _ _ 0 moves (put_went sizes e book r rs _ is st h.id (list_at e.input.lists h.id) (args_of e.input.call) meant e2
-      (after ∙ ap (λ (p : Put). record e { readings = call_ended e.readings; input = record e.input { pending = after_call p e.input.pending; call = NotCalling; lists = e2.input.lists } }) what) all_lists f told
+      (after ∙ ap (λ (p : Put). record e { readings = reading_ended e.readings; input = record e.input { pending = after_call p e.input.pending; call = NotCalling; lists = e2.input.lists } }) what) all_lists f told
       (ap (λ (p : Put). put_refusal p e.input) (sym what) ∙ fits))
 
   pub put_cut : e2 ≡ record e { input = record e.input { pending = end_token_lists e.input.pending; lists = e2.input.lists } } → (full : Full) → put_refusal (put_of e.input.lists e.input.groups.now.meanings e.input.call) e.input ≡ Some full → (w : World) →

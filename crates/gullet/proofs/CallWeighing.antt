@@ -1,12 +1,10 @@
 -- What a rule of a call makes lighter, and whether it has a step.
-use Rattle.std.proofs.Common.{◌≡◌, ◌+◌, ◌<◌, ◌≤◌, ap, ◌∙◌, subst, arith, Bool, false, List, [], ◌∷◌}
+use Rattle.std.proofs.Common.{◌≡◌, ◌+◌, ◌<◌, ◌≤◌, ap, ◌∙◌, subst, arith, Bool, true, false, List, drop}
 use Rattle.std.specs.Prelude.{Option, Some, None, Result, Ok, Err, IfOk, OnOk, OnErr, ◌&&◌}
 use Rattle.tex_defs.specs.declared.Name.{Name}
 use Rattle.plain_tokens.specs.Pending.{pulled}
-use Rattle.plain_readings.specs.Weights.{act_weight}
-use Rattle.reading_frames.specs.declared.frame.Frame.{Frame}
-use Rattle.reading_frames.specs.declared.frame.Frame.TheVariants as frame
-use Rattle.reading_frames.specs.Stack.{Stack, call_ended, without_call}
+use Rattle.plain_readings.specs.Weights.{act_frame, act_weight, ask_weight, behind_weight}
+use Rattle.reading_frames.specs.Stack.{Stack, reading_ended}
 use Rattle.reading_frames.specs.Weights.{frames_weight, innermost_weight, stack_weight}
 use Rattle.reading_frames.proofs.Weights.{small as weights_small}
 use Rattle.input_state.specs.Reads.{gives_step}
@@ -21,10 +19,11 @@ use Rattle.macro_call.specs.declared.ask.CallAsk.TheVariants as call
 use Rattle.engine_state.specs.declared.engine.Engine.{Engine}
 use Rattle.engine_state.specs.declared.outcome.Ruled.{Ruled}
 use Rattle.engine_state.specs.declared.outcome.Ruled.TheVariants.{Step, Free, Halted}
-use Rattle.engine_state.specs.Calls.{brace_call, open_call}
+use Rattle.engine_state.specs.Calls.{asks_by, asks_of, brace_call, open_call}
 use Rattle.gullet.proofs.CallsIn.{noted_asks}
 use Rattle.engine_state.specs.Stands.{SameFrames}
-use Rattle.engine_state.specs.Steps.{stepping, asked, all_want, call_asks_more, pending_weight, readings_weight, call_weight, weight, IsStep, StepsIf}
+use Rattle.engine_state.specs.Steps.{stepping, asked, call_asks_more, pending_weight, readings_weight, weight, IsStep, StepsIf, asked_by, wants_token}
+use Rattle.reading_frames.specs.declared.frame.Frame.{Frame}
 
 -- where there is none
 pub on_ok : {T E : Type 0} {P Q : Type 0} → (r : Result T E) → (P → Q) → OnOk r P → OnOk r Q
@@ -45,50 +44,51 @@ frames_join e e1 e2 a b = record { readings = b.readings ∙ a.readings; lists =
 
 -- WHAT THE ENGINE WEIGHS
 
-readings_same : (e e1 : Engine) (c : Option Call) → e1.readings ≡ e.readings → readings_weight c e1 ≡ readings_weight c e
-readings_same e e1 None same = ap stack_weight same
-readings_same e e1 (Some c) same = ap (λ (s : Stack). stack_weight s + call_weight c.ask) same
+readings_same : (e e1 : Engine) (c : Option Call) → e1.readings ≡ e.readings → e1.input.call ≡ e.input.call → readings_weight c e1 ≡ readings_weight c e
+readings_same e e1 None same call = ap stack_weight same
+readings_same e e1 (Some c) same call =
+    ap (λ (s : Stack). act_frame + frames_weight (drop 1 s.frames) + ask_weight behind_weight (asks_of c e1.input.call)) same
+    ∙ ap (λ (k : Calling). act_frame + frames_weight (drop 1 e.readings.frames) + ask_weight behind_weight (asks_of c k)) call
 
 pub same_weight : (e e1 : Engine) → SameFrames e e1 → pending_weight e1.input.pending ≡ pending_weight e.input.pending → weight e1 ≡ weight e
 same_weight e e1 same left =
-    let readings : readings_weight (call_in e1.input.call) e1 ≡ readings_weight (call_in e.input.call) e = ap (λ (k : Calling). readings_weight (call_in k) e1) same.call ∙ readings_same e e1 (call_in e.input.call) same.readings in
+    let readings : readings_weight (call_in e1.input.call) e1 ≡ readings_weight (call_in e.input.call) e = ap (λ (k : Calling). readings_weight (call_in k) e1) same.call ∙ readings_same e e1 (call_in e.input.call) same.readings same.call in
     omega (arith, readings, left)
 
 pub lighter_by : (e e1 e2 : Engine) → SameFrames e e1 → pending_weight e1.input.pending ≡ pending_weight e.input.pending → weight e2 < weight e1 → weight e2 < weight e
 lighter_by e e1 e2 same left h = omega (arith, h, same_weight e e1 same left)
 
 -- one that asks for no token
-pub heavy : (a : CallAsk) → call_asks_more a ≡ false → act_weight ≤ call_weight a
-heavy call.More is = cc
-heavy call.ExtraBrace is = omega arith
-heavy call.Gathered is = omega arith
-heavy call.Mismatch is = omega arith
-heavy (call.ParEnded silent) is = omega arith
+heavy : (name : Name) (a : CallAsk) (k : Calling) → call_asks_more a ≡ false → act_weight ≤ ask_weight behind_weight (asks_by name a k)
+heavy name call.More k is = cc
+heavy name call.ExtraBrace k is = omega arith
+heavy name call.Gathered k is = omega arith
+heavy name call.Mismatch k is = omega arith
+heavy name (call.ParEnded false) k is = omega arith
+heavy name (call.ParEnded true) k is = omega arith
 
--- the frames without the call weigh less than those with an end
-frames_left : (fs : List Frame) → frames_weight (without_call fs) + innermost_weight (without_call fs) < frames_weight fs + innermost_weight fs + act_weight
-frames_left [] = omega arith
-frames_left (frame.Call name ∷ fs) = omega (arith, weights_small fs)
-frames_left (f ∷ fs) = omega arith
+-- the frames beneath weigh less than these with an end
+frames_left : (fs : List Frame) → frames_weight (drop 1 fs) + innermost_weight (drop 1 fs) < act_frame + frames_weight (drop 1 fs) + act_weight
+frames_left fs = omega (arith, weights_small (drop 1 fs))
 
 -- the engine without its call
-pub closed_light : (e : Engine) (i : Stored) (c : Call) → call_in e.input.call ≡ Some c → call_asks_more c.ask ≡ false → pending_weight i.pending ≡ pending_weight e.input.pending → i.call ≡ NotCalling → weight (record e { readings = call_ended e.readings; input = i }) < weight e
+pub closed_light : (e : Engine) (i : Stored) (c : Call) → call_in e.input.call ≡ Some c → call_asks_more c.ask ≡ false → pending_weight i.pending ≡ pending_weight e.input.pending → i.call ≡ NotCalling → weight (record e { readings = reading_ended e.readings; input = i }) < weight e
 closed_light e i c is none left gone =
     let had : readings_weight (call_in e.input.call) e ≡ readings_weight (Some c) e = ap (λ (c : Option Call). readings_weight c e) is in
-    let has : readings_weight (call_in i.call) (record e { readings = call_ended e.readings; input = i }) ≡ stack_weight (call_ended e.readings) = ap (λ (k : Calling). readings_weight (call_in k) (record e { readings = call_ended e.readings; input = i })) gone in
-    omega (arith, had, has, left, heavy c.ask none, frames_left e.readings.frames)
+    let has : readings_weight (call_in i.call) (record e { readings = reading_ended e.readings; input = i }) ≡ stack_weight (reading_ended e.readings) = ap (λ (k : Calling). readings_weight (call_in k) (record e { readings = reading_ended e.readings; input = i })) gone in
+    omega (arith, had, has, left, heavy c.name c.ask e.input.call none, frames_left e.readings.frames)
 
 -- the same, where other lists may stand in front
-pub closed_within : (e x : Engine) (c : Call) → x ≡ record e { readings = call_ended e.readings; input = x.input } → x.input.call ≡ NotCalling → pending_weight x.input.pending ≡ pending_weight e.input.pending → call_in e.input.call ≡ Some c → call_asks_more c.ask ≡ false → weight x < weight e
+pub closed_within : (e x : Engine) (c : Call) → x ≡ record e { readings = reading_ended e.readings; input = x.input } → x.input.call ≡ NotCalling → pending_weight x.input.pending ≡ pending_weight e.input.pending → call_in e.input.call ≡ Some c → call_asks_more c.ask ≡ false → weight x < weight e
 closed_within e x c now gone left is none =
-    let light : weight (record e { readings = call_ended e.readings; input = x.input }) < weight e = closed_light e x.input c is none left gone in
+    let light : weight (record e { readings = reading_ended e.readings; input = x.input }) < weight e = closed_light e x.input c is none left gone in
     omega (arith, light, ap weight now)
 
 -- its call ends
-pub closed_lighter : (e e1 e2 : Engine) (i : Stored) (c : Call) → SameFrames e e1 → pending_weight e1.input.pending ≡ pending_weight e.input.pending → pending_weight i.pending ≡ pending_weight e1.input.pending → i.call ≡ NotCalling → e2 ≡ record e1 { readings = call_ended e1.readings; input = i } → call_in e.input.call ≡ Some c → call_asks_more c.ask ≡ false → weight e2 < weight e
+pub closed_lighter : (e e1 e2 : Engine) (i : Stored) (c : Call) → SameFrames e e1 → pending_weight e1.input.pending ≡ pending_weight e.input.pending → pending_weight i.pending ≡ pending_weight e1.input.pending → i.call ≡ NotCalling → e2 ≡ record e1 { readings = reading_ended e1.readings; input = i } → call_in e.input.call ≡ Some c → call_asks_more c.ask ≡ false → weight e2 < weight e
 closed_lighter e e1 e2 i c same before left gone after is none =
-    let light : weight (record e1 { readings = call_ended e1.readings; input = i }) < weight e1 = closed_light e1 i c (ap call_in same.call ∙ is) none left gone in
-    let now : weight e2 ≡ weight (record e1 { readings = call_ended e1.readings; input = i }) = ap weight after in
+    let light : weight (record e1 { readings = reading_ended e1.readings; input = i }) < weight e1 = closed_light e1 i c (ap call_in same.call ∙ is) none left gone in
+    let now : weight e2 ≡ weight (record e1 { readings = reading_ended e1.readings; input = i }) = ap weight after in
     omega (arith, light, now, same_weight e e1 same before)
 
 -- it goes on behind its extra brace
@@ -103,8 +103,8 @@ brace_lighter e e1 e2 name same before after is =
 
 -- WHETHER IT HAS A STEP
 
-pub call_steps : (e : Engine) (call : Call) → call_in e.input.call ≡ Some call → stepping e ≡ (all_want (Some call) (asked e) && gives_step (pulled e.input.groups.now.categories e.input.pending))
-call_steps e call is = ap (λ (x : Option Call). all_want x (asked e) && gives_step (pulled e.input.groups.now.categories e.input.pending)) is
+pub call_steps : (e : Engine) (call : Call) → call_in e.input.call ≡ Some call → stepping e ≡ (wants_token (asked_by (Some call) e.input.call (asked e)) && gives_step (pulled e.input.groups.now.categories e.input.pending))
+call_steps e call is = ap (λ (x : Option Call). wants_token (asked_by x e.input.call (asked e)) && gives_step (pulled e.input.groups.now.categories e.input.pending)) is
 
 pub steps_as_one : (r : Result Ruled Broken) (b b' : Bool) → b ≡ b' → IfOk r (λ ruled. StepsIf ruled b) → IfOk r (λ ruled. StepsIf ruled b')
 steps_as_one r b b' is h = subst (λ (x : Bool). IfOk r (λ ruled. StepsIf ruled x)) is h

@@ -7,7 +7,6 @@ pub mod CallFeedingAnswers
 pub mod CallFeedingCuts
 pub mod CallFeedingMoves
 pub mod CallFeedingCases
-pub mod CallLists
 pub mod CallPutting
 pub mod CallRules
 pub mod CallWeighing

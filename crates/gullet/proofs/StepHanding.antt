@@ -12,9 +12,13 @@ use Rattle.input_state.specs.declared.answer.Call.{Call}
 use Rattle.input_state.specs.Callings.{call_in}
 use Rattle.engine_state.specs.declared.engine.Engine.{Engine}
 use Rattle.engine_state.specs.Book.{Book, with_work}
-use Rattle.engine_state.specs.Calls.{AllStand, ReadingsStand, open_call}
-use Rattle.engine_state.specs.Rules.{feeds_of, WantsHere, Takes}
+use Rattle.engine_state.specs.Calls.{AllStand, open_call, asks_of}
+use Rattle.engine_state.proofs.CallsKnown.{ReadingsBy, split}
+use Rattle.engine_state.specs.Rules.{feeds_of, Takes}
 use Rattle.gullet.proofs.CallRules.{asks_this}
+use Rattle.engine_state.specs.Steps.{asked_by, asked}
+use Rattle.rows.specs.Readings.{More}
+use Rattle.engine_state.proofs.Checking.{more_asked}
 
 module _ (sizes : Sizes) (e : Engine) where
   -- the call that asks for a token is the innermost reading
@@ -23,9 +27,9 @@ module _ (sizes : Sizes) (e : Engine) where
       (book : Book) → Takes sizes (Some Raw) e book → P book (feeds_of book.work x)
   feeds_call x P some h book t = by_call (call_in e.input.call) refl where
     at : (call : Call) (work : List Reading) → call_in e.input.call ≡ Some call → call_in e.input.call ≡ Some (open_call call.name) → AllStand sizes e (with_work work book) → P (with_work work book) (feeds_of work x)
-    at call [] is asks st = let none : ReadingsStand (Some call) e book.number [] = subst (λ (c : Option Call). ReadingsStand c e book.number []) is st.all in absurd none
+    at call [] is asks st = let none : ReadingsBy (Some call) e book.number [] = subst (λ (c : Option Call). ReadingsBy c e book.number []) is (split e book.number [] st.all) in absurd none
     at call (r ∷ rs) is asks st = h book r rs call.name asks st
 
     by_call : (o : Option Call) → call_in e.input.call ≡ o → P book (feeds_of book.work x)
     by_call None none = let no : false ≡ true = sym (ap is_some none) ∙ some in absurd cc
-    by_call (Some call) is = let wants : WantsHere (Some call) (Some Raw) e = subst (λ (c : Option Call). WantsHere c (Some Raw) e) is t.0 in at call book.work is (asks_this e call _ is wants.0) t.1
+    by_call (Some call) is = let wants : Some (asks_of call e.input.call) ≡ Some (More Raw) = sym (ap (λ (c : Option Call). asked_by c e.input.call (asked e)) is) ∙ t.0 in at call book.work is (asks_this e call _ is (more_asked call.name call.ask e.input.call Raw wants)) t.1

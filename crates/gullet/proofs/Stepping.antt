@@ -31,7 +31,7 @@ use Rattle.input_state.specs.Stored.{gathered}
 use Rattle.engine_state.specs.declared.engine.Engine.{Engine}
 use Rattle.engine_state.specs.Book.{Book, with_work}
 use Rattle.engine_state.specs.Stands.{FramesStand, state_of}
-use Rattle.engine_state.specs.Steps.{asked, asks_more, frames_want}
+use Rattle.engine_state.specs.Steps.{asked, asks_more, wants_token}
 use Rattle.engine_state.specs.Rules.{plan_of, feeds_of}
 
 -- MOVES WITHOUT A STEP
@@ -79,7 +79,7 @@ pub handed_now : (e : Engine) (book : Book) (page : Page) (enters : Bool) (o : O
 handed_now e book page enters o onward h = handed_steps page enters o onward (pulled e.input.groups.now.categories (pending_of book.number e.input.pending)) h ∙ ap one_if (gives_same book.number e.input.groups.now.categories e.input.pending)
 
 -- what the frames ask for is what the machine's innermost reading does
-pub asked_same : (fs : List Frame) (held : Lists) (work : List Reading) → frames.AreFramesOf fs held work → asked_in work ≡ asks_in fs held
+pub asked_same : (fs : List Frame) (held : Lists) (work : List Reading) → frames.AreFramesOf None fs held work → asked_in work ≡ asks_in fs held
 asked_same [] held [] h = refl
 asked_same [] held (r ∷ rs) h = absurd h
 asked_same (f ∷ fs) held [] h = absurd h
@@ -119,12 +119,12 @@ answer_steps e book work r (Relaxes c n) = answer_free (state_of e book) work r 
 answer_steps e book work r Magnifies = answer_free (state_of e book) work r Magnifies tt
 answer_steps e book work r (Fetches l) = answer_free (state_of e book) work r (Fetches l) tt
 
-steps_of : (e : Engine) (book : Book) (work : List Reading) → steps (plan_of e (with_work work book)) ≡ one_if (frames_want (asked_in work) && gives_step (pulled e.input.groups.now.categories e.input.pending))
+steps_of : (e : Engine) (book : Book) (work : List Reading) → steps (plan_of e (with_work work book)) ≡ one_if (wants_token (asked_in work) && gives_step (pulled e.input.groups.now.categories e.input.pending))
 steps_of e book [] = let page : Page = page_of (state_of e (with_work [] book)) in handed_now e book page false None (stomach page) (stomach_none page)
 steps_of e book (r ∷ rs) = answer_steps e (with_work (r ∷ rs) book) (r ∷ rs) r (ask r.kind r.fed)
 
-pub frame_steps : (e : Engine) (book : Book) → FramesStand e book.work → steps (plan_of e book) ≡ one_if (frames_want (asked e) && gives_step (pulled e.input.groups.now.categories e.input.pending))
-frame_steps e book h = steps_of e book book.work ∙ ap (λ (o : Option Ask). one_if (frames_want o && gives_step (pulled e.input.groups.now.categories e.input.pending))) (asked_stands e book.work h)
+pub frame_steps : (e : Engine) (book : Book) → FramesStand e book.work → steps (plan_of e book) ≡ one_if (wants_token (asked e) && gives_step (pulled e.input.groups.now.categories e.input.pending))
+frame_steps e book h = steps_of e book book.work ∙ ap (λ (o : Option Ask). one_if (wants_token o && gives_step (pulled e.input.groups.now.categories e.input.pending))) (asked_stands e book.work h)
 
 -- A STEP COMES, where no file was opened
 
@@ -167,10 +167,10 @@ module _ (sizes : Sizes) where
   answer_needs e book work r Magnifies unopened h g = no g
   answer_needs e book work r (Fetches l) unopened h g = no g
 
-  needs_in : (e : Engine) (book : Book) (work : List Reading) → e.input.pending.next ≡ None → (frames_want (asked_in work) && gives_step (pulled e.input.groups.now.categories e.input.pending)) ≡ true → StepComes sizes (state_of e (with_work work book))
+  needs_in : (e : Engine) (book : Book) (work : List Reading) → e.input.pending.next ≡ None → (wants_token (asked_in work) && gives_step (pulled e.input.groups.now.categories e.input.pending)) ≡ true → StepComes sizes (state_of e (with_work work book))
   needs_in e book [] unopened g = let page : Page = page_of (state_of e (with_work [] book)) in pulled_needs e (with_work [] book) page false None (stomach page) unopened refl g
   needs_in e book (r ∷ rs) unopened g = answer_needs e (with_work (r ∷ rs) book) (r ∷ rs) r (ask r.kind r.fed) unopened refl g
 
-  pub frame_needs : (e : Engine) (book : Book) → e.input.pending.next ≡ None → FramesStand e book.work → (frames_want (asked e) && gives_step (pulled e.input.groups.now.categories e.input.pending)) ≡ true → StepComes sizes (state_of e book)
+  pub frame_needs : (e : Engine) (book : Book) → e.input.pending.next ≡ None → FramesStand e book.work → (wants_token (asked e) && gives_step (pulled e.input.groups.now.categories e.input.pending)) ≡ true → StepComes sizes (state_of e book)
   frame_needs e book unopened h g =
-      needs_in e book book.work unopened (ap (λ (o : Option Ask). frames_want o && gives_step (pulled e.input.groups.now.categories e.input.pending)) (asked_stands e book.work h) ∙ g)
+      needs_in e book book.work unopened (ap (λ (o : Option Ask). wants_token o && gives_step (pulled e.input.groups.now.categories e.input.pending)) (asked_stands e book.work h) ∙ g)

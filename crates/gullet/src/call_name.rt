@@ -73,7 +73,7 @@ fn begin_call(engine: &mut Engine, name: Name, long: bool) -> Result<(), Full>
         return Err(full);
     }
     if let Err(full) = engine.input.begin_call(name, long) {
-        engine.readings.end_call();
+        engine.readings.end();
         return Err(full);
     }
     Ok(())

@@ -4,7 +4,7 @@ ghost use Rattle.tex_syntax.specs.declared.words.Report.TheVariants.{ParagraphEn
 ghost use Rattle.tex_syntax.specs.declared.words.Want.TheVariants.{Raw};
 ghost use Rattle.plain_readings.specs.Calls.{par_token};
 ghost use Rattle.rows.specs.Readings.{Noted};
-ghost use Rattle.reading_frames.specs.Stack.{call_ended};
+ghost use Rattle.reading_frames.specs.Stack.{reading_ended};
 ghost use Rattle.plain_machine.specs.States.{Feeds};
 ghost use Rattle.plain_machine.specs.Plan.{failed, put_one, reported};
 ghost use Rattle.macro_call.specs.PlainScans.{noted_scan};
@@ -107,7 +107,7 @@ fn take<S: Sink>(engine: &mut Engine, out: &mut S) -> Result<Ruled, Broken>
 /// The arguments pass to the body of the macro, which is put; one without items isn't. The call has ended.
 fn put_call(engine: &mut Engine) -> Result<(), Full>
     requires { IsComplete engine.old.input.call }
-    ensures ok { OnOk result (engine.new ≡ record engine.old { readings = call_ended engine.old.readings; input = record engine.old.input { pending = after_call (put_of engine.old.input.lists engine.old.input.groups.now.meanings engine.old.input.call) engine.old.input.pending; call = NotCalling; lists = engine.new.input.lists } }) }
+    ensures ok { OnOk result (engine.new ≡ record engine.old { readings = reading_ended engine.old.readings; input = record engine.old.input { pending = after_call (put_of engine.old.input.lists engine.old.input.groups.now.meanings engine.old.input.call) engine.old.input.pending; call = NotCalling; lists = engine.new.input.lists } }) }
     ensures fits { OnOk result (put_refusal (put_of engine.old.input.lists engine.old.input.groups.now.meanings engine.old.input.call) engine.old.input ≡ None) }
     ensures light { OnOk result ((call : Call) → call_in engine.old.input.call ≡ Some call → call_asks_more call.ask ≡ false → weight engine.new < weight engine.old) }
     ensures refused { IfErr result (λ full. put_refusal (put_of engine.old.input.lists engine.old.input.groups.now.meanings engine.old.input.call) engine.old.input ≡ Some full) }
@@ -117,7 +117,7 @@ fn put_call(engine: &mut Engine) -> Result<(), Full>
     ensures column { engine.new.in_line ≡ engine.old.in_line }
 {
     engine.input.put_call()?;
-    engine.readings.end_call();
+    engine.readings.end();
     Ok(())
 }
 
@@ -187,9 +187,9 @@ fn go_on_behind_brace(engine: &mut Engine)
 
 /// The call ends without its arguments, and its lists go.
 fn close_call(engine: &mut Engine)
-    ensures after { engine.new ≡ record engine.old { readings = call_ended engine.old.readings; input = record engine.old.input { call = NotCalling; lists = engine.new.input.lists } } }
+    ensures after { engine.new ≡ record engine.old { readings = reading_ended engine.old.readings; input = record engine.old.input { call = NotCalling; lists = engine.new.input.lists } } }
     ensures keeps { KeepsShared engine.old.input engine.new.input }
 {
     engine.input.drop_call();
-    engine.readings.end_call();
+    engine.readings.end();
 }

@@ -1,7 +1,7 @@
 -- A token of a list that enters where one is asked for that is copied: the frame is one that builds a list, in its body.
 use Rattle.std.proofs.Common.{◌≡◌, Bool, true, false, List, [], ◌∷◌, ◌++◌, Some, refl, sym, ap, subst, ◌∙◌, arith}
 use Rattle.std.proofs.lemmas.List.{append-nil, length-append}
-use Rattle.std.specs.Prelude.{if◌then◌else◌}
+use Rattle.std.specs.Prelude.{if◌then◌else◌, None}
 use Rattle.tex_defs.specs.declared.Token.{Token}
 use Rattle.tex_syntax.specs.declared.words.Manner.{Manner}
 use Rattle.tex_syntax.specs.declared.words.Want.TheVariants.{Raw, Expanded, Copied}
@@ -28,7 +28,7 @@ use Rattle.reading_frames.proofs.Feeding.{fed_on}
 
 -- what a frame does that takes the token: it stays
 abbrev Takes : Frame → List Token → Lists → Token → Type 0
-Takes f list held t = GoesOn f f (list ∷ held) ((list ++ t ∷ []) ∷ held) (Verbatim t)
+Takes f list held t = GoesOn None None f f (list ∷ held) ((list ++ t ∷ []) ∷ held) (Verbatim t)
 
 module _ (list : List Token) (held : Lists) (t : Token) where
   number_raw : (expanded : Bool) → More (if expanded then Expanded else Raw) ≡ More Copied → ⊥
@@ -36,7 +36,7 @@ module _ (list : List Token) (held : Lists) (t : Token) where
   number_raw false e = cc
 
   build_takes : (defines : Bool) (m : Manner) (p : BuildPlace) → let f : Frame = Build (record { defines = defines; manner = m; place = p }) in resume f (list ∷ held) [] ≡ More Copied → Takes f list held t
-  build_takes defines m (place.At (stage.InBody b depth)) e = record { asks = λ fed. refl; lists_are = λ fed. refl; holds = λ h. omega (arith, h); beneath = refl; checks = refl; apart = refl }
+  build_takes defines m (place.At (stage.InBody b depth)) e = record { asks = λ fed. refl; lists_are = λ fed. refl; holds = λ h. omega (arith, h); beneath = refl; checks = refl; framed = λ k fed h. h; apart = λ h. h }
   build_takes defines m (place.At (stage.Reference b depth character)) e = absurd (number_raw m.expanded e)
   build_takes defines m (place.At s) e = absurd cc
   build_takes defines m place.Whole e = absurd cc
@@ -63,16 +63,16 @@ module _ (list : List Token) (held : Lists) (t : Token) where
   takes f n e = absurd (omega (arith, n))
 
 -- the reading asks for a token that is copied too
-reading_asks : (f : Frame) (held : Lists) (r : Reading) → IsFrameOf f held r → resume f held [] ≡ More Copied → ask r.kind r.fed ≡ More Copied
+reading_asks : (f : Frame) (held : Lists) (r : Reading) → IsFrameOf None f held r → resume f held [] ≡ More Copied → ask r.kind r.fed ≡ More Copied
 reading_asks f held r stands e = ap (ask r.kind) (sym (append-nil r.fed)) ∙ stands.goes_on [] ∙ e
 
-enters_above : (f : Frame) (fs : List Frame) (held : Lists) (r : Reading) (rs : List Reading) (t : Token) → list_count f ≡ 1 → AreFramesOf (f ∷ fs) held (r ∷ rs) → resume f held [] ≡ More Copied →
+enters_above : (f : Frame) (fs : List Frame) (held : Lists) (r : Reading) (rs : List Reading) (t : Token) → list_count f ≡ 1 → AreFramesOf None (f ∷ fs) held (r ∷ rs) → resume f held [] ≡ More Copied →
     Enters (f ∷ fs) held (r ∷ rs) t
 enters_above f fs [] r rs t n stands e = absurd (omega (arith, n, stands.0.holds))
 enters_above f fs (list ∷ held) r rs t n stands e =
     let on : Takes f list held t = takes list held t f n e in
     record {
-      stands = fed_on f f fs (list ∷ held) ((list ++ t ∷ []) ∷ held) (Verbatim t) (r ∷ rs) on stands;
+      stands = fed_on None None f f fs (list ∷ held) ((list ++ t ∷ []) ∷ held) (Verbatim t) (r ∷ rs) on stands;
       copies =
           ap (λ (a : Ask). Some a)
           (sym (on.asks []) ∙ sym (stands.0.goes_on (Verbatim t ∷ [])) ∙ (readings.enters r.kind r.fed t (reading_asks f (list ∷ held) r stands.0 e)).copies);
@@ -80,7 +80,7 @@ enters_above f fs (list ∷ held) r rs t n stands e =
       shallow = λ s. (omega (arith, s.0, length-append list (t ∷ [])), subst (λ (l : Lists). AreShallow fs l) (sym on.beneath) s.1);
     }
 
-pub enters : (fs : List Frame) (held : Lists) (work : List Reading) (t : Token) → AreFramesOf fs held work → AsksCopied (asks_in fs held) → Enters fs held work t
+pub enters : (fs : List Frame) (held : Lists) (work : List Reading) (t : Token) → AreFramesOf None fs held work → AsksCopied (asks_in fs held) → Enters fs held work t
 enters [] held work t stands e = absurd cc
 enters (f ∷ fs) held [] t stands e = absurd stands
 enters (f ∷ fs) held (r ∷ rs) t stands e =

@@ -1,5 +1,5 @@
 -- The lists that a frame has built, which are held.
-use Rattle.std.proofs.Common.{◌≡◌, ◌≤◌, ℕ, Bool, true, false, List, [], ◌∷◌, length, take, drop, arith, refl, sym, ap, ◌∙◌}
+use Rattle.std.proofs.Common.{◌≡◌, ◌≤◌, ℕ, Bool, true, false, List, [], ◌∷◌, length, take, drop, arith, refl, sym, ap, ◌∙◌, None}
 use Rattle.std.proofs.lemmas.List.{append-nil}
 use Rattle.tex_defs.specs.declared.Token.{Token}
 use Rattle.tex_syntax.specs.declared.words.Manner.{Manner}
@@ -115,13 +115,13 @@ built_now (Behind c x) held h = refl
 built_now (Skips scan) held h = refl
 built_now (Called name) held h = refl
 
-lists_built : (f : Frame) (held : Lists) (r : Reading) → IsFrameOf f held r → lists r.kind r.fed ≡ building f held []
+lists_built : (f : Frame) (held : Lists) (r : Reading) → IsFrameOf None f held r → lists r.kind r.fed ≡ building f held []
 lists_built f held r stands = ap (lists r.kind) (sym (append-nil r.fed)) ∙ stands.builds_on []
 
-pub lists_counted : (f : Frame) (held : Lists) (r : Reading) → IsFrameOf f held r → length (lists r.kind r.fed) ≡ list_count f
+pub lists_counted : (f : Frame) (held : Lists) (r : Reading) → IsFrameOf None f held r → length (lists r.kind r.fed) ≡ list_count f
 lists_counted f held r stands = ap (λ (l : Lists). length l) (lists_built f held r stands) ∙ built_length f held
 
-pub are_held : (f : Frame) (held : Lists) (r : Reading) → IsFrameOf f held r → AreHeld f held r
+pub are_held : (f : Frame) (held : Lists) (r : Reading) → IsFrameOf None f held r → AreHeld f held r
 are_held f held r stands = record {
   first =
       lists_built f held r stands ∙ built_now f held stands.holds ∙ ap (λ (n : ℕ). take n held) (sym (lists_counted f held r stands));

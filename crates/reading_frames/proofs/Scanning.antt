@@ -47,14 +47,14 @@ found_scanned (SkipsText line) n held o = refl
 found_scanned Unguarded n held o = refl
 found_scanned Inherits n held o = refl
 
-among : (fs : List Frame) (n : ℕ) (held : Lists) (work : List Reading) → AreFramesOf fs (drop n held) work → innermost_scanned work (drop n held) ≡ scanning_of held (innermost_found fs n)
+among : (fs : List Frame) (n : ℕ) (held : Lists) (work : List Reading) → AreFramesOf None fs (drop n held) work → innermost_scanned work (drop n held) ≡ scanning_of held (innermost_found fs n)
 among [] n held [] stands = refl
 among [] n held (r ∷ rs) stands = absurd stands
 among (f ∷ fs) n held [] stands = absurd stands
 among (f ∷ fs) n held (r ∷ rs) stands =
     let dropped : drop (list_count f) (drop n held) ≡ drop (n + list_count f) held = drop-drop (list_count f) n held in
     let beneath : innermost_scanned rs (drop (n + list_count f) held) ≡ scanning_of held (innermost_found fs (n + list_count f)) =
-    among fs (n + list_count f) held rs (subst (λ (l : Lists). AreFramesOf fs l rs) dropped stands.1) in
+    among fs (n + list_count f) held rs (subst (λ (l : Lists). AreFramesOf None fs l rs) dropped stands.1) in
     ap (λ (s : Status). scanned_at s (list_on_top (length (lists r.kind r.fed)) (drop n held)) (innermost_scanned rs (drop (length (lists r.kind r.fed)) (drop n held)))) stands.0.checks ∙
     ap (λ (m : ℕ). scanned_at (frame_status f) (list_on_top m (drop n held)) (innermost_scanned rs (drop m (drop n held)))) (lists_counted f (drop n held) r stands.0) ∙
     ap (λ (l : Lists). scanned_at (frame_status f) (list_on_top (list_count f) (drop n held)) (innermost_scanned rs l)) dropped ∙
@@ -68,7 +68,7 @@ guarded (SkipsText line) held o = refl
 guarded Unguarded held o = refl
 guarded Inherits held o = refl
 
-pub scans : (fs : List Frame) (held : Lists) (work : List Reading) → AreFramesOf fs held work → scanning work held ≡ scanning_of held (found_in fs)
+pub scans : (fs : List Frame) (held : Lists) (work : List Reading) → AreFramesOf None fs held work → scanning work held ≡ scanning_of held (found_in fs)
 scans [] held [] stands = refl
 scans [] held (r ∷ rs) stands = absurd stands
 scans (f ∷ fs) held [] stands = absurd stands

@@ -1,5 +1,5 @@
 -- The stack of all open readings, the innermost first.
-use Rattle.std.specs.Prelude.{◌≡◌, ℕ, if◌then◌else◌, ◌+◌, ◌≤◌, ◌<◌, ◌^◌, List, [], ◌∷◌, Option, Some, None, length, drop}
+use Rattle.std.specs.Prelude.{◌≡◌, ℕ, ◌+◌, ◌≤◌, ◌<◌, ◌^◌, List, [], ◌∷◌, Option, Some, None, length, drop}
 use Rattle.tex_defs.specs.declared.Full.{Full}
 use Rattle.tex_defs.specs.declared.Table.TheVariants.{ExpansionDepth}
 use Rattle.tex_defs.specs.declared.Name.{Name}
@@ -13,7 +13,7 @@ use Rattle.plain_readings.specs.Readings.{Reading, ask, fed_with}
 use Rattle.plain_readings.specs.Scanning.{Status, Scans, SkipsText, Unguarded, Scanning}
 use Rattle.plain_readings.specs.Scanning as machine
 use Rattle.reading_frames.specs.Views.{Lists, top_list, ask_of}
-use Rattle.reading_frames.specs.Resumes.{resume, building, list_count, frame_status, groups, is_call, next_in_body}
+use Rattle.reading_frames.specs.Resumes.{resume, building, list_count, frame_status, groups, next_in_body}
 use Rattle.reading_frames.specs.Frames.{AreFramesOf, AreShallow}
 use Rattle.reading_frames.specs.declared.ask.Ask.{Ask}
 use Rattle.reading_frames.specs.declared.ask.Found.{Found}
@@ -96,17 +96,13 @@ with_innermost (Some f) fs = in_place f fs
 
 -- CALLS OF MACROS
 
--- the frames without the call that is innermost, if one is
-abbrev pub without_call : List Frame → List Frame
-without_call [] = []
-without_call (f ∷ fs) = if is_call f then fs else f ∷ fs
-
--- the stack with a call of the macro of this name above all, and without it
+-- the stack with a call of the macro of this name above all
 abbrev pub call_begun : Name → Stack → Stack
 call_begun name s = record { frames = Call name ∷ s.frames; size = s.size }
 
-abbrev pub call_ended : Stack → Stack
-call_ended s = record { frames = without_call s.frames; size = s.size }
+-- without the innermost
+abbrev pub reading_ended : Stack → Stack
+reading_ended s = record { frames = drop 1 s.frames; size = s.size }
 
 -- WHAT IS READ AT A CHECK. What is read itself has the list of this number among those that are held, the innermost being number 0.
 abbrev pub found_at : Status → ℕ → (around : Option Found) → Option Found
@@ -139,13 +135,13 @@ abbrev pub AsksCopied : Option reading.Ask → Type 0
 AsksCopied o = o ≡ Some (More Copied)
 
 pub record Enters (fs : List Frame) (held : Lists) (work : List Reading) (t : Token) : Type 0 where
-  pub stands : AreFramesOf fs (grow_first t held) (fed_with (Verbatim t) work)
+  pub stands : AreFramesOf None fs (grow_first t held) (fed_with (Verbatim t) work)
   pub copies : AsksCopied (asks_in fs (grow_first t held))
   pub beneath : lists_beneath fs (grow_first t held) ≡ lists_beneath fs held
   pub shallow : AreShallow fs held → AreShallow fs (grow_first t held)
 
 abbrev pub TokensEnter : Type 0
-TokensEnter = (fs : List Frame) (held : Lists) (work : List Reading) (t : Token) → AreFramesOf fs held work → AsksCopied (asks_in fs held) → Enters fs held work t
+TokensEnter = (fs : List Frame) (held : Lists) (work : List Reading) (t : Token) → AreFramesOf None fs held work → AsksCopied (asks_in fs held) → Enters fs held work t
 
 -- THE BRACES: where each group has its brace in its list, no more groups are open than the list on top has tokens.
 abbrev pub GroupsHaveBraces : Type 0

@@ -1,5 +1,5 @@
 // An open reading, in a few variables.
-ghost use Rattle.std.specs.Prelude.{◌≡◌, ◌≤◌, ◌<◌, ◌+◌, ◌^◌, List, [], ◌∷◌, length, true, false};
+ghost use Rattle.std.specs.Prelude.{◌≡◌, ◌≤◌, ◌<◌, ◌+◌, ◌^◌, List, [], ◌∷◌, length, true, false, None};
 ghost use Rattle.tex_defs.specs.declared.Token.{Token};
 ghost use Rattle.rows.specs.declared.words.Value.TheVariants as value_of;
 ghost use Rattle.equivalents.specs.declared.values.Loc.{Loc as Location};
@@ -157,7 +157,7 @@ fn of_keyword(asked: KeywordAsk) -> Ask
 impl Frame {
     /// A reading begins; one that builds a list has one of no token on top.
     pub fn begin(opening: Opening) -> Frame
-        ensures begins { (held : Lists) → Begins (reading_kind opening) result held (opened_lists opening held) }
+        ensures begins { (held : Lists) → Begins None (reading_kind opening) result held (opened_lists opening held) }
         ensures shallow { groups result ≡ 0 }
         ensures own { own_weight result ≡ opening_frame opening }
         ensures ends { frame_end result ≡ opening_end opening }
@@ -460,13 +460,6 @@ impl Frame {
             Frame::Skips(scan) => Some(Found::SkippedText(scan.line)),
             _ => None,
         }
-    }
-
-    /// Whether it is a call of a macro.
-    pub fn is_call(&self) -> bool
-        ensures { result ≡ is_call self.now }
-    {
-        matches!(self, Frame::Call(_))
     }
 
     /// Whether its token is read under normal status, whatever is read around it.

@@ -1,5 +1,5 @@
 // All open readings.
-ghost use Rattle.std.specs.Prelude.{◌≡◌, ◌≤◌, ◌<◌, ◌+◌, ◌-◌, ◌*◌, ◌^◌, List, [], ◌∷◌, ◌++◌, drop, length, reverse, true, false, IfOk, IfErr, IfSome, OnOk, MatchBool};
+ghost use Rattle.std.specs.Prelude.{◌≡◌, ◌≤◌, ◌<◌, ◌+◌, ◌-◌, ◌*◌, ◌^◌, List, [], ◌∷◌, ◌++◌, drop, length, reverse, true, false, IfOk, IfErr, IfSome, OnOk, MatchBool, None};
 ghost use Rattle.tex_defs.specs.declared.Token.{Token};
 ghost use Rattle.rows.specs.declared.words.Value.TheVariants as value_of;
 ghost use Rattle.equivalents.specs.declared.values.Loc.{Loc};
@@ -10,7 +10,7 @@ ghost use Rattle.plain_readings.specs.Weights.{value_frame, act_frame, value_wei
 ghost use Rattle.reading_frames.specs.Views.{has_no_token, reading_kind, IsFetchedAt, Lists, on_top};
 ghost use Rattle.reading_frames.specs.Resumes.{with_list, listed_count, token_count, Owns};
 ghost use Rattle.reading_frames.specs.Frames.{AreFramesOf, AreShallow, opened_lists};
-ghost use Rattle.reading_frames.specs.Stack.{Stack, innermost_body, AsksCopied, depth_full, asks_in, asked_in, asked_of, innermost_groups, innermost_count, innermost_lists, innermost_of, with_innermost, lists_beneath, found_in, innermost_found, scanning_of, call_begun, call_ended};
+ghost use Rattle.reading_frames.specs.Stack.{Stack, innermost_body, AsksCopied, depth_full, asks_in, asked_in, asked_of, innermost_groups, innermost_count, innermost_lists, innermost_of, with_innermost, lists_beneath, found_in, innermost_found, scanning_of, call_begun, reading_ended};
 ghost use Rattle.reading_frames.specs.declared.ask.Ask.TheVariants as asks;
 ghost use Rattle.reading_frames.specs.Weights.{frames_weight, opening_frame, opening_end, innermost_weight, innermost_end, innermost_fed, innermost_puts, begun_weight, begun_with_weight, IsReported};
 
@@ -119,7 +119,7 @@ impl Readings {
     /// Whether the innermost is an expanded text or the body of an expanded macro, which asks for a token that is copied.
     pub fn copies(&self) -> bool
         ensures asks { (held : Lists) → MatchBool result (AsksCopied (asks_in self.now.frames held)) (AsksCopied (asks_in self.now.frames held) → ⊥) }
-        ensures stands { (held : Lists) (work : List Reading) → AreFramesOf self.now.frames held work → MatchBool result (AsksCopied (asked_in work)) (AsksCopied (asked_in work) → ⊥) }
+        ensures stands { (held : Lists) (work : List Reading) → AreFramesOf None self.now.frames held work → MatchBool result (AsksCopied (asked_in work)) (AsksCopied (asked_in work) → ⊥) }
     {
         matches!(self.ask(), Some(Ask::More(Want::Copied)))
     }
@@ -130,7 +130,7 @@ impl Readings {
     pub fn body_want(&self) -> Option<Want>
         ensures is { result ≡ innermost_body self.now.frames }
         ensures asks { IfSome result (λ want. (held : Lists) → asked_of held (Some (asks.More want)) ≡ asks_in self.now.frames held) }
-        ensures stands { IfSome result (λ want. (held : Lists) (work : List Reading) → AreFramesOf self.now.frames held work → asked_of held (Some (asks.More want)) ≡ asked_in work) }
+        ensures stands { IfSome result (λ want. (held : Lists) (work : List Reading) → AreFramesOf None self.now.frames held work → asked_of held (Some (asks.More want)) ≡ asked_in work) }
     {
         let Some(frame) = &self.innermost else {
             return None;
@@ -144,7 +144,7 @@ impl Readings {
     /// What the innermost asks for.
     pub fn ask(&self) -> Option<Ask>
         ensures asks { (held : Lists) → asked_of held result ≡ asks_in self.now.frames held }
-        ensures stands { (held : Lists) (work : List Reading) → AreFramesOf self.now.frames held work → asked_of held result ≡ asked_in work }
+        ensures stands { (held : Lists) (work : List Reading) → AreFramesOf None self.now.frames held work → asked_of held result ≡ asked_in work }
         ensures least { IfSome result (λ a. 1 ≤ length self.now.frames) }
         ensures owns { IfSome result (λ a. Owns a (innermost_count self.now.frames)) }
         ensures found { IfSome result (λ a. IsFetchedAt a) }
@@ -171,16 +171,6 @@ impl Readings {
         ensures unchanged { IfErr result (λ full. self.new ≡ self.old) }
     {
         self.push(Frame::Call(name))
-    }
-
-    /// The call ends, if the innermost is one.
-    pub fn end_call(&mut self)
-        ensures { self.new ≡ call_ended self.old }
-    {
-        match &self.innermost {
-            Some(frame) if frame.is_call() => self.innermost = self.beneath.pop(),
-            _ => {}
-        }
     }
 
     /// This frame stands above all.
@@ -211,7 +201,7 @@ impl Readings {
     /// # Errors
     /// As many are open as there may be. Nothing has changed then.
     pub fn begin(&mut self, opening: Opening) -> Result<(), Full>
-        ensures begins { OnOk result ((held : Lists) (work : List Reading) → AreFramesOf self.old.frames held work → AreFramesOf self.new.frames (opened_lists opening held) (opened (reading_kind opening) work)) }
+        ensures begins { OnOk result ((held : Lists) (work : List Reading) → AreFramesOf None self.old.frames held work → AreFramesOf None self.new.frames (opened_lists opening held) (opened (reading_kind opening) work)) }
         ensures shallow { OnOk result ((held : Lists) → AreShallow self.old.frames held → AreShallow self.new.frames (opened_lists opening held)) }
         ensures room { OnOk result (length self.old.frames < self.old.size) }
         ensures count { OnOk result (length self.new.frames ≡ length self.old.frames + 1) }
@@ -239,7 +229,7 @@ impl Readings {
     /// # Errors
     /// As many are open as there may be. Nothing has changed then.
     pub fn begin_with(&mut self, opening: Opening, x: Seen) -> Result<Grown, Full>
-        ensures begins { IfOk result (λ grown. (held : Lists) (work : List Reading) → AreFramesOf self.old.frames held work → AreFramesOf self.new.frames (on_top grown (opened_lists opening held)) (opened_with (reading_kind opening) (Tok x) work)) }
+        ensures begins { IfOk result (λ grown. (held : Lists) (work : List Reading) → AreFramesOf None self.old.frames held work → AreFramesOf None self.new.frames (on_top grown (opened_lists opening held)) (opened_with (reading_kind opening) (Tok x) work)) }
         ensures shallow { IfOk result (λ grown. (held : Lists) → AreShallow self.old.frames held → AreShallow self.new.frames (on_top grown (opened_lists opening held))) }
         ensures room { OnOk result (length self.old.frames < self.old.size) }
         ensures count { OnOk result (length self.new.frames ≡ length self.old.frames + 1) }
@@ -268,7 +258,7 @@ impl Readings {
         requires { innermost_groups self.old.frames + 1 < 2 ^ 64 }
         ensures ends { innermost_end self.new.frames ≡ innermost_end self.old.frames }
         ensures weight { innermost_weight self.new.frames ≤ innermost_fed self.old.frames }
-        ensures stands { (held : Lists) (work : List Reading) → AreFramesOf self.old.frames held work → AreFramesOf self.new.frames (on_top result held) (fed_with (Tok x) work) }
+        ensures stands { (held : Lists) (work : List Reading) → AreFramesOf None self.old.frames held work → AreFramesOf None self.new.frames (on_top result held) (fed_with (Tok x) work) }
         ensures count { length self.new.frames ≡ length self.old.frames }
         ensures frames { frames_weight self.new.frames ≡ frames_weight self.old.frames }
         ensures size { self.new.size ≡ self.old.size }
@@ -290,7 +280,7 @@ impl Readings {
     pub fn noted(&mut self) -> Grown
         ensures ends { innermost_end self.new.frames ≡ innermost_end self.old.frames }
         ensures weight { IsReported (asks_in self.old.frames []) → innermost_weight self.new.frames < innermost_weight self.old.frames }
-        ensures stands { (held : Lists) (work : List Reading) → AreFramesOf self.old.frames held work → AreFramesOf self.new.frames (on_top result held) (fed_with Noted work) }
+        ensures stands { (held : Lists) (work : List Reading) → AreFramesOf None self.old.frames held work → AreFramesOf None self.new.frames (on_top result held) (fed_with Noted work) }
         ensures count { length self.new.frames ≡ length self.old.frames }
         ensures frames { frames_weight self.new.frames ≡ frames_weight self.old.frames }
         ensures size { self.new.size ≡ self.old.size }
@@ -310,7 +300,7 @@ impl Readings {
     /// The innermost takes the value of the reading that ended above it, and says whether it keeps the list that came with it, which may
     /// have no token: if so, that is on top.
     pub fn feed_value(&mut self, value: Value, is_empty: bool) -> bool
-        ensures stands { (ts : List Token) → is_empty ≡ has_no_token ts → (held : Lists) (work : List Reading) → AreFramesOf self.old.frames held work → AreFramesOf self.new.frames (with_list result ts held) (fed_with (Val value ts) work) }
+        ensures stands { (ts : List Token) → is_empty ≡ has_no_token ts → (held : Lists) (work : List Reading) → AreFramesOf None self.old.frames held work → AreFramesOf None self.new.frames (with_list result ts held) (fed_with (Val value ts) work) }
         ensures kept { result ≡ true → is_empty ≡ false }
         ensures list { result ≡ true → value ≡ value_of.List }
         ensures ends { innermost_end self.new.frames ≡ innermost_end self.old.frames }
@@ -331,7 +321,7 @@ impl Readings {
     pub fn fetched(&mut self, value: StoredValue<()>)
         ensures ends { innermost_end self.new.frames ≡ innermost_end self.old.frames }
         ensures weight { (l : Loc) → asks_in self.old.frames [] ≡ Some (Fetches l) → innermost_weight self.new.frames < innermost_weight self.old.frames }
-        ensures stands { (held : Lists) (work : List Reading) → AreFramesOf self.old.frames held work → AreFramesOf self.new.frames held (fed_with (Fetched value) work) }
+        ensures stands { (held : Lists) (work : List Reading) → AreFramesOf None self.old.frames held work → AreFramesOf None self.new.frames held (fed_with (Fetched value) work) }
         ensures count { length self.new.frames ≡ length self.old.frames }
         ensures frames { frames_weight self.new.frames ≡ frames_weight self.old.frames }
         ensures size { self.new.size ≡ self.old.size }
@@ -358,11 +348,11 @@ impl Readings {
     #[tactic(auto, using(crate::proofs::Weights::small))]
     pub fn end(&mut self) -> bool
         ensures list { listed_count result ≡ innermost_count self.old.frames }
-        ensures stands { (held : Lists) (work : List Reading) → AreFramesOf self.old.frames held work → AreFramesOf self.new.frames (lists_beneath self.old.frames held) (drop 1 work) }
+        ensures stands { (held : Lists) (work : List Reading) → AreFramesOf None self.old.frames held work → AreFramesOf None self.new.frames (lists_beneath self.old.frames held) (drop 1 work) }
         ensures shallow { (held : Lists) → AreShallow self.old.frames held → AreShallow self.new.frames (lists_beneath self.old.frames held) }
         ensures count { length self.new.frames ≡ length self.old.frames - 1 }
         ensures frames { frames_weight self.new.frames ≡ frames_weight (drop 1 self.old.frames) }
-        ensures rest { self.new ≡ record { frames = drop 1 self.old.frames; size = self.old.size } }
+        ensures rest { self.new ≡ reading_ended self.old }
         ensures weight { innermost_weight self.new.frames < act_frame + act_weight }
     {
         let has_list = self.has_list();
@@ -374,7 +364,7 @@ impl Readings {
     #[tactic(auto, using(crate::proofs::Scanning::scans, crate::proofs::Scanning::unguarded_found, crate::proofs::Scanning::beneath_found))]
     pub fn scanned(&self) -> Option<Found>
         ensures is { result ≡ found_in self.now.frames }
-        ensures scans { (held : Lists) (work : List Reading) → AreFramesOf self.now.frames held work → scanning work held ≡ scanning_of held result }
+        ensures scans { (held : Lists) (work : List Reading) → AreFramesOf None self.now.frames held work → scanning work held ≡ scanning_of held result }
     {
         let Some(frame) = &self.innermost else {
             return None;

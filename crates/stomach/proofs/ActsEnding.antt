@@ -54,7 +54,7 @@ use Rattle.engine_state.specs.Rules.{world_of, Cuts, Reports, Went, Halts, DoesO
 use Rattle.engine_state.specs.Stands.{Stands, FramesStand, SameFrames, SameOthers, SameStore, state_of, page_of}
 use Rattle.gullet.specs.Stepping.{ExpandsOnce, EndsRun}
 use Rattle.engine_state.specs.Steps.{asked, freed, IsHalted}
-use Rattle.engine_state.proofs.Uncalled.{all_of}
+use Rattle.engine_state.proofs.Uncalled.{all_of, frames_none as uncalled_frames}
 use Rattle.engine_state.proofs.CallKept.{frames_kept}
 use Rattle.gullet.proofs.JobName.{name_stands}
 use Rattle.engine_state.proofs.Joining.{quiet_wrote, halts_on, halts_least, went_by, went_on}
@@ -66,7 +66,7 @@ use Rattle.rows.specs.Suiting.{IsSuited, IsThere, IsVariable, TakesAll, AsksSuit
 use Rattle.stomach.specs.Effects.{done_alone, assignment_of, IsAlone}
 use Rattle.stomach.specs.Halting.{DoesRuleIn}
 use Rattle.stomach.proofs.Codes.{sets_small}
-use Rattle.input_state.specs.Callings.{NotCalling, call_in}
+use Rattle.input_state.specs.Callings.{NotCalling}
 
 -- WHAT IS DONE ALONE
 
@@ -97,7 +97,7 @@ pub above_acts : (beneath : List Reading) (page : Page) (c : Call) (e : Effect) 
 above_acts beneath page c (effect.PutList l) h = absurd h
 above_acts beneath page c e h = refl
 
-asks_as : (fs : List Frame) (held : List (List Token)) (r : Reading) (rs : List Reading) (a : Ask) → frames.AreFramesOf fs held (r ∷ rs) → asks_in fs held ≡ Some a → ask r.kind r.fed ≡ a
+asks_as : (fs : List Frame) (held : List (List Token)) (r : Reading) (rs : List Reading) (a : Ask) → frames.AreFramesOf None fs held (r ∷ rs) → asks_in fs held ≡ Some a → ask r.kind r.fed ≡ a
 asks_as [] held r rs a st asks = absurd st
 asks_as (f ∷ fs) held r rs a st asks =
     let is : resume f held [] ≡ a = cc asks in
@@ -114,8 +114,8 @@ small_effect sizes e book r rs c does st asks =
 
 -- THE OPEN READINGS
 
-pub frames_none : (e e' : Engine) (work : List Reading) → e.input.call ≡ NotCalling → SameFrames e e' → FramesStand e work → FramesOf (call_in e'.input.call) e' work
-frames_none e e' work none same st = subst (λ (c : Option _). FramesOf c e' work) (sym (ap call_in (same.call ∙ none))) (frames_kept e e' work same st)
+pub frames_none : (e e' : Engine) (work : List Reading) → e.input.call ≡ NotCalling → SameFrames e e' → FramesStand e work → FramesOf e' work
+frames_none e e' work none same st = uncalled_frames e' work (same.call ∙ none) (frames_kept e e' work same st)
 
 -- ONE MOVE OF THE READINGS
 
@@ -139,7 +139,7 @@ begun_leaves k s = (refl, refl)
 -- WHAT COMES BEHIND MOVES
 
 -- the readings being others then
-rules_behind : (sizes : Sizes) (s u : State) (e' : Engine) (book : Book) (w v w' : World) (ms ns : List Move) (ruled : Ruled) → u.reports ≡ s.reports → Did sizes s u w v ms → steps ms ≡ 0 → (IsHalted ruled → FramesOf (call_in e'.input.call) e' book.work) →
+rules_behind : (sizes : Sizes) (s u : State) (e' : Engine) (book : Book) (w v w' : World) (ms ns : List Move) (ruled : Ruled) → u.reports ≡ s.reports → Did sizes s u w v ms → steps ms ≡ 0 → (IsHalted ruled → FramesOf e' book.work) →
     DoesOnward sizes u e' book v w' ns ruled → DoesRuleIn sizes s e' w w' (ms ++ ns) (freed ruled)
 rules_behind sizes s u e' book w v w' ms ns Step same d n stand h = went_on sizes s u e' w v w' ms ns 0 0 d n h
 rules_behind sizes s u e' book w v w' ms ns Free same d n stand h = absurd h

@@ -1,6 +1,6 @@
 -- The next rule has a step exactly where the engine says so: of a call that gathers its arguments, or of a frame.
 use Rattle.std.proofs.Common.{◌≡◌, List, [], ◌∷◌, refl, sym, ap, ◌∙◌, true, false}
-use Rattle.std.specs.Prelude.{Option, Some, None, ◌&&◌}
+use Rattle.std.specs.Prelude.{Option, Some, None, ◌&&◌, Bool}
 use Rattle.tex_syntax.specs.declared.words.Want.TheVariants.{Raw}
 use Rattle.tex_defs.specs.declared.Sizes.{Sizes}
 use Rattle.tex_defs.specs.declared.Name.{Name}
@@ -19,12 +19,13 @@ use Rattle.macro_call.specs.declared.ask.CallAsk.{CallAsk}
 use Rattle.macro_call.specs.declared.ask.CallAsk.TheVariants as call
 use Rattle.engine_state.specs.declared.engine.Engine.{Engine}
 use Rattle.engine_state.specs.Book.{Book, with_work}
-use Rattle.engine_state.specs.Calls.{AllStand, ReadingsStand, asks_by}
+use Rattle.engine_state.specs.Calls.{asks_by, AllStand}
+use Rattle.engine_state.proofs.CallsKnown.{ReadingsBy, split}
 use Rattle.engine_state.specs.Stands.{state_of}
-use Rattle.engine_state.specs.Steps.{stepping, all_want, asked, call_asks_more}
+use Rattle.engine_state.specs.Steps.{stepping, asked, call_asks_more, asked_by, wants_token}
 use Rattle.engine_state.specs.Rules.{plan_of}
 use Rattle.gullet.proofs.Stepping.{no, one_if, free_of, handed_now, pulled_needs, frame_steps, frame_needs}
-use Rattle.stomach.proofs.Unread.{call_none}
+use Rattle.stomach.proofs.Unread.{call_more, call_none}
 
 -- A RULE'S STEPS
 
@@ -35,13 +36,13 @@ call_steps e book work r name call.More =
 call_steps e book work r name a =
     free_of (answered (state_of e book) work r (asks_by name a e.input.call)) (answered_none (state_of e book) work r (asks_by name a e.input.call) (call_none name a e.input.call refl))
 
-steps_at : (e : Engine) (c : Option Call) (book : Book) (work : List Reading) → ReadingsStand c e book.number work → steps (plan_of e (with_work work book)) ≡ one_if (all_want c (asked e) && gives_step (pulled e.input.groups.now.categories e.input.pending))
+steps_at : (e : Engine) (c : Option Call) (book : Book) (work : List Reading) → ReadingsBy c e book.number work → steps (plan_of e (with_work work book)) ≡ one_if (wants_token (asked_by c e.input.call (asked e)) && gives_step (pulled e.input.groups.now.categories e.input.pending))
 steps_at e None book work h = frame_steps e (with_work work book) h
 steps_at e (Some c) book [] h = absurd h
-steps_at e (Some c) book (r ∷ rs) h = rw (← h.0.asked) (call_steps e (with_work (r ∷ rs) book) (r ∷ rs) r c.name c.ask)
+steps_at e (Some c) book (r ∷ rs) h = rw (← h.0.asked) (call_steps e (with_work (r ∷ rs) book) (r ∷ rs) r c.name c.ask) ∙ ap (λ (b : Bool). one_if (b && gives_step (pulled e.input.groups.now.categories e.input.pending))) (sym (call_more c.name c.ask e.input.call))
 
 pub plan_steps : (sizes : Sizes) (e : Engine) (book : Book) → AllStand sizes e book → steps (plan_of e book) ≡ one_if (stepping e)
-plan_steps sizes e book h = steps_at e (call_in e.input.call) book book.work h.all
+plan_steps sizes e book h = steps_at e (call_in e.input.call) book book.work (split e book.number book.work h.all)
 
 -- a rule that begins with no step has none
 pub plan_silent : (sizes : Sizes) (e : Engine) → stepping e ≡ false → (book : Book) → AllStand sizes e book → steps (plan_of e book) ≡ 0
@@ -60,11 +61,11 @@ call_needs sizes e book work r name call.More unopened h g =
     pulled_needs sizes e book page true (scanning work (gathered e.input)) (λ x. wanted page Raw (feeding r x) x) unopened h g
 call_needs sizes e book work r name a unopened h g = no g
 
-needs_at : (sizes : Sizes) (e : Engine) (c : Option Call) (book : Book) (work : List Reading) → e.input.pending.next ≡ None → ReadingsStand c e book.number work → (all_want c (asked e) && gives_step (pulled e.input.groups.now.categories e.input.pending)) ≡ true → StepComes sizes (state_of e (with_work work book))
+needs_at : (sizes : Sizes) (e : Engine) (c : Option Call) (book : Book) (work : List Reading) → e.input.pending.next ≡ None → ReadingsBy c e book.number work → (wants_token (asked_by c e.input.call (asked e)) && gives_step (pulled e.input.groups.now.categories e.input.pending)) ≡ true → StepComes sizes (state_of e (with_work work book))
 needs_at sizes e None book work unopened h g = frame_needs sizes e (with_work work book) unopened h g
 needs_at sizes e (Some c) book [] unopened h g = absurd h
 needs_at sizes e (Some c) book (r ∷ rs) unopened h g =
-    call_needs sizes e (with_work (r ∷ rs) book) (r ∷ rs) r c.name c.ask unopened (ap (answered (state_of e (with_work (r ∷ rs) book)) (r ∷ rs) r) (sym h.0.asked)) g
+    call_needs sizes e (with_work (r ∷ rs) book) (r ∷ rs) r c.name c.ask unopened (ap (answered (state_of e (with_work (r ∷ rs) book)) (r ∷ rs) r) (sym h.0.asked)) (ap (λ (b : Bool). b && gives_step (pulled e.input.groups.now.categories e.input.pending)) (sym (call_more c.name c.ask e.input.call)) ∙ g)
 
 pub stepping_needs : (sizes : Sizes) (e : Engine) → e.input.pending.next ≡ None → stepping e ≡ true → (book : Book) → AllStand sizes e book → StepComes sizes (state_of e book)
-stepping_needs sizes e unopened g book h = needs_at sizes e (call_in e.input.call) book book.work unopened h.all g
+stepping_needs sizes e unopened g book h = needs_at sizes e (call_in e.input.call) book book.work unopened (split e book.number book.work h.all) g

@@ -115,7 +115,7 @@ module _ (name : Name) (long outer global : Bool) where
 -- the list on top
 pub macro_went : (sizes : Sizes) (e : Engine) (book : Book) (w : World) (r : Reading) (rs : List Reading) (c : Call) (name : Name) (global : Bool) (stack : Stack) (i : Stored) → global ≡ is_global (page_of e book) c → top_list e.input.builds ≢ [] →
     stack ≡ record { frames = drop 1 e.readings.frames; size = e.readings.size } →
-    ((lists : List (List Token)) (work : List Reading) → frames.AreFramesOf e.readings.frames lists work → frames.AreFramesOf stack.frames (lists_beneath e.readings.frames lists) (drop 1 work)) →
+    ((lists : List (List Token)) (work : List Reading) → frames.AreFramesOf None e.readings.frames lists work → frames.AreFramesOf None stack.frames (lists_beneath e.readings.frames lists) (drop 1 work)) →
     ((lists : List (List Token)) → AreShallow e.readings.frames lists → AreShallow stack.frames (lists_beneath e.readings.frames lists)) →
     i ≡ record e.input { builds = drop 1 e.input.builds; groups = i.groups; lists = i.lists } → Defines global e.input.groups i.groups (all_puts e.input.pending) e.input.lists i.lists (held.first_list e.input.builds) name c.long c.outer → KeepsShared e.input i →
     refused e.input.sizes (name_demands global e.input.groups name) ≡ None →

@@ -10,14 +10,13 @@ use Rattle.plain_machine.specs.Bounded.{FitMoves}
 use Rattle.plain_machine.specs.Extended.{Rests, extended, extended_pending}
 use Rattle.plain_machine.specs.Numbers.{pending_of}
 use Rattle.input_state.specs.NextBytes.{with_bytes, with_first_bytes}
-use Rattle.input_state.specs.Callings.{call_in}
 use Rattle.line_reader.specs.Readers as readers
 use Rattle.line_reader.specs.Readers.{came_first}
 use Rattle.engine_state.specs.declared.engine.Engine.{Engine}
 use Rattle.engine_state.specs.Book.{Book}
 use Rattle.engine_state.specs.Calls.{AllStand}
 use Rattle.engine_state.specs.Stands.{SameFrames, SameStore, state_of}
-use Rattle.engine_state.specs.Steps.{all_want, asked}
+use Rattle.engine_state.specs.Steps.{asks_now, wants_token}
 use Rattle.engine_state.proofs.CallKept.{all_still}
 use Rattle.engine_state.proofs.Storing.{sound_still}
 use Rattle.stomach.specs.Ahead.{came_in, given, IsGiven, Lacks, LacksLine, LacksFirst}
@@ -158,9 +157,9 @@ innermost_now bytes e (innermost.Frame a) h = (h.0, record { asks = h.1.asks; st
 pub innermost_given : (all left : Rests) (e e' : Engine) → IsGiven all left e e' → (i : Innermost) → IsInnermost e i → IsInnermost e' i
 innermost_given all left e e' is i h = subst (λ (x : Engine). IsInnermost x i) (sym is.after) (innermost_now is.bytes e i h)
 
-wants_now : (bytes : List ℕ) (e : Engine) (b : Bool) → b ≡ all_want (call_in e.input.call) (asked e) → b ≡ all_want (call_in (given bytes e).input.call) (asked (given bytes e))
+wants_now : (bytes : List ℕ) (e : Engine) (b : Bool) → b ≡ wants_token (asks_now e) → b ≡ wants_token (asks_now (given bytes e))
 wants_now bytes e b h = h
 
 -- and whether a token is wanted
-pub wants_given : (all left : Rests) (e e' : Engine) → IsGiven all left e e' → (b : Bool) → b ≡ all_want (call_in e.input.call) (asked e) → b ≡ all_want (call_in e'.input.call) (asked e')
-wants_given all left e e' is b h = subst (λ (x : Engine). b ≡ all_want (call_in x.input.call) (asked x)) (sym is.after) (wants_now is.bytes e b h)
+pub wants_given : (all left : Rests) (e e' : Engine) → IsGiven all left e e' → (b : Bool) → b ≡ wants_token (asks_now e) → b ≡ wants_token (asks_now e')
+wants_given all left e e' is b h = subst (λ (x : Engine). b ≡ wants_token (asks_now x)) (sym is.after) (wants_now is.bytes e b h)

@@ -19,8 +19,7 @@ use Rattle.plain_machine.specs.States.{State, Move}
 use Rattle.plain_machine.specs.Plan.{Page, expansion, expanded, expanded_as, command}
 use Rattle.plain_machine.specs.Does.{Did}
 use Rattle.engine_state.specs.declared.broken.Broken.{Broken}
-use Rattle.input_state.specs.declared.answer.Call.{Call}
-use Rattle.input_state.specs.Callings.{NotCalling, call_in}
+use Rattle.input_state.specs.Callings.{NotCalling, call_in, Calling}
 use Rattle.engine_state.specs.declared.engine.Engine.{Engine}
 use Rattle.gullet.specs.declared.expansion.Stepped.{Stepped}
 use Rattle.gullet.specs.declared.expansion.Stepped.TheVariants.{Unexpandable}
@@ -28,9 +27,9 @@ use Rattle.engine_state.specs.declared.outcome.Ruled.{Ruled}
 use Rattle.engine_state.specs.declared.outcome.Ruled.TheVariants.{Step, Free, Halted}
 use Rattle.engine_state.specs.Book.{Book, with_work}
 use Rattle.engine_state.specs.Stands.{Stands, SameReadings, state_of, page_of}
-use Rattle.engine_state.specs.Steps.{IsFree, StepsIf}
+use Rattle.engine_state.specs.Steps.{IsFree, StepsIf, asked_by, asked}
 use Rattle.gullet.specs.Stepping.{Steps, StepStepsIf, IsKept, Stays, expands}
-use Rattle.engine_state.specs.Rules.{onward_of, feeds_of, WantsHere, Takes, Comes, Went, DoesRule, DoesOnward}
+use Rattle.engine_state.specs.Rules.{onward_of, feeds_of, Takes, Comes, Went, DoesRule, DoesOnward}
 use Rattle.engine_state.proofs.Uncalled.{all_of, framed, no_call}
 use Rattle.engine_state.proofs.Coming.{comes_went, comes_halts}
 use Rattle.gullet.proofs.Stepping.{feeds_none, free_of, no}
@@ -70,7 +69,7 @@ module _ (page : Page) (work : List Reading) (x : Seen) where
 
 -- A FRAME IS FED
 
-no_frame : (fs : List Frame) (held : Lists) (a : Ask) → frames.AreFramesOf fs held [] → asks_in fs held ≡ Some a → ⊥
+no_frame : (fs : List Frame) (held : Lists) (a : Ask) → frames.AreFramesOf None fs held [] → asks_in fs held ≡ Some a → ⊥
 no_frame [] held a st is = cc
 no_frame (f ∷ fs) held a st is = st
 
@@ -80,8 +79,8 @@ module _ (sizes : Sizes) (e : Engine) (none : e.input.call ≡ NotCalling) where
       ((book : Book) (r : Reading) (rs : List Reading) → Stands sizes e (with_work (r ∷ rs) book) → P (with_work (r ∷ rs) book) (feeds_of (r ∷ rs) x)) →
       (book : Book) → Takes sizes (Some w) e book → P book (feeds_of book.work x)
   feeds_frame w x P h book t = at book.work (framed sizes e book none t.1) where
-    wants : WantsHere None (Some w) e
-    wants = subst (λ (c : Option Call). WantsHere c (Some w) e) (ap call_in none) t.0
+    wants : asked e ≡ Some (More w)
+    wants = subst (λ (k : Calling). asked_by (call_in k) k (asked e) ≡ Some (More w)) none t.0
 
     at : (work : List Reading) → Stands sizes e (with_work work book) → P (with_work work book) (feeds_of work x)
     at [] st = absurd (no_frame e.readings.frames e.input.builds (More w) st.readings.frames wants)

@@ -46,7 +46,7 @@ use Rattle.input_state.specs.Callings.{NotCalling}
 
 -- NO COMMAND BEGINS WITHIN A FRAME that stands for a reading
 
-no_command : (fs : List Frame) (held : List (List Token)) (work : List Reading) (c : Call) (begins : Bool) → frames.AreFramesOf fs held work → asks_in fs held ≡ Some (Inner (Command c) begins) → ⊥
+no_command : (fs : List Frame) (held : List (List Token)) (work : List Reading) (c : Call) (begins : Bool) → frames.AreFramesOf None fs held work → asks_in fs held ≡ Some (Inner (Command c) begins) → ⊥
 no_command [] held work c begins st asks = cc
 no_command (f ∷ fs) held [] c begins st asks = st
 no_command (f ∷ fs) held (r ∷ rs) c begins st asks =

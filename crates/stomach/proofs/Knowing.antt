@@ -18,7 +18,6 @@ use Rattle.plain_machine.proofs.FileRules.{wanted_reads}
 use Rattle.plain_machine.proofs.Renumbering.{pulled_same}
 use Rattle.input_state.specs.NextBytes.{KnowsNext, KnowsFirst}
 use Rattle.input_state.specs.NextBytes as next
-use Rattle.input_state.specs.Callings.{call_in}
 use Rattle.line_reader.specs.Readers as readers
 use Rattle.line_reader.specs.Readers.{OpenReader, MayLeave}
 use Rattle.engine_state.specs.declared.engine.Engine.{Engine}
@@ -26,7 +25,7 @@ use Rattle.engine_state.specs.Book.{Book}
 use Rattle.engine_state.specs.Calls.{AllStand}
 use Rattle.engine_state.specs.Rules.{plan_of}
 use Rattle.engine_state.specs.Stands.{state_of}
-use Rattle.engine_state.specs.Steps.{all_want, all_start, asked}
+use Rattle.engine_state.specs.Steps.{asks_now, wants_token, asks_start}
 use Rattle.stomach.specs.Ahead.{IsGiven, Knows, IsNext, IsFirst, HasEnded, WantsNone, Needs, Lacks, LacksLine, LacksFirst}
 use Rattle.stomach.specs.Ran.{UnreadBy, ForLine, whole_state}
 use Rattle.stomach.proofs.GivenBytes.{stands_given, state_given}
@@ -104,7 +103,7 @@ module _ (sizes : Sizes) (e : Engine) (book : Book) (stands : AllStand sizes e b
   next_ready left (next.HasLine h) = HasLine h
   next_ready left (next.TooLong h) = TooLong (subst (λ (x : Sizes). x.buffer_size < length e.input.pending.rest) stands.sound.sized.input h)
 
-  module _ (gone : List ℕ) (left : Rests) (unopened : e.input.pending.next ≡ None) (never : all_start (call_in e.input.call) (asked e) ≡ false) where
+  module _ (gone : List ℕ) (left : Rests) (unopened : e.input.pending.next ≡ None) (never : asks_start (asks_now e) ≡ false) where
     abbrev left_then : List (List ℕ)
     left_then = (rests_before gone (plan_of e book) left).left
 
@@ -118,7 +117,7 @@ module _ (sizes : Sizes) (e : Engine) (book : Book) (stands : AllStand sizes e b
     is_known rs (WantsNone none h) may = inr (unopened, plan_unread sizes e h never book stands)
 
     -- its next reading, where it wants a token
-    pub reads_known : (rs : List OpenReader) → Knows e rs → all_want (call_in e.input.call) (asked e) ≡ true → MayLeave rs left_then → Reads sizes (state_of e book) gone left
+    pub reads_known : (rs : List OpenReader) → Knows e rs → wants_token (asks_now e) ≡ true → MayLeave rs left_then → Reads sizes (state_of e book) gone left
     reads_known rs (IsNext none h) wants may = reads_by (next_ready (plain.first_left left_then) h)
     reads_known rs (IsFirst bytes is h) wants may = absurd (not_both e.input.pending.next bytes unopened is)
     reads_known rs (HasEnded r outer is ended) wants may = reads_by (NoMore (none_left r outer rs left_then is ended may))

@@ -101,7 +101,7 @@ module _ (l : Loc) (global : Bool) where
 
 pub list_went : (sizes : Sizes) (e : Engine) (book : Book) (w : World) (r : Reading) (rs : List Reading) (c : Call) (l : Loc) (global : Bool) (stack : Stack) (i : Stored) → global ≡ is_global (page_of e book) c → top_list e.input.builds ≢ [] →
     stack ≡ record { frames = drop 1 e.readings.frames; size = e.readings.size } →
-    ((lists : List (List Token)) (work : List Reading) → frames.AreFramesOf e.readings.frames lists work → frames.AreFramesOf stack.frames (lists_beneath e.readings.frames lists) (drop 1 work)) →
+    ((lists : List (List Token)) (work : List Reading) → frames.AreFramesOf None e.readings.frames lists work → frames.AreFramesOf None stack.frames (lists_beneath e.readings.frames lists) (drop 1 work)) →
     ((lists : List (List Token)) → AreShallow e.readings.frames lists → AreShallow stack.frames (lists_beneath e.readings.frames lists)) →
     i ≡ record e.input { builds = drop 1 e.input.builds; groups = i.groups; lists = i.lists } → SetsList global e.input.groups i.groups (all_puts e.input.pending) e.input.lists i.lists (held.first_list e.input.builds) l → KeepsShared e.input i →
     refused e.input.sizes (set_demands global e.input.groups l) ≡ None →

@@ -30,7 +30,7 @@ use Rattle.engine_state.specs.CutReadings.{FramesAtCut, CutsIn}
 use Rattle.engine_state.specs.Faults.{why_of}
 use Rattle.engine_state.specs.Rules.{IsMoment, world_of, plan_of, Cuts, Went}
 use Rattle.engine_state.specs.Stands.{state_of}
-use Rattle.engine_state.specs.Steps.{all_start, asked, stepping}
+use Rattle.engine_state.specs.Steps.{stepping, asks_now, asks_start}
 use Rattle.gullet.proofs.Stepping as stepping
 use Rattle.stomach.specs.Ahead.{Knows, is_opened, needs_step}
 use Rattle.stomach.specs.Files.{AreGone}
@@ -43,7 +43,6 @@ use Rattle.stomach.proofs.Knowing.{first_known, is_known}
 use Rattle.stomach.proofs.Reading.{reads_none, reads_map}
 use Rattle.stomach.proofs.Running.{IsKnown, rule_went, rule_halts, rule_cut, same_moment, whole_moment}
 use Rattle.stomach.proofs.Unread.{starts_same}
-use Rattle.input_state.specs.Callings.{call_in}
 
 -- HOW MANY FILES ARE OPEN, in the machine's state
 
@@ -80,7 +79,7 @@ moment_count IsWant at s h = ap count h
 
 -- THE RULE AND THE READERS
 
-module _ (rs rs' : OpenReaders) (e e' : Engine) (s s' : SinkTold) (unopened : e.input.pending.next ≡ None) (never : all_start (call_in e.input.call) (asked e) ≡ false) (knows : AreTied rs e → Knows e rs.readers)
+module _ (rs rs' : OpenReaders) (e e' : Engine) (s s' : SinkTold) (unopened : e.input.pending.next ≡ None) (never : asks_start (asks_now e) ≡ false) (knows : AreTied rs e → Knows e rs.readers)
     (stays : open_files e'.input.pending ≤ length rs.readers → length rs'.readers ≡ open_files e'.input.pending) (most : rs'.most ≡ rs.most)
     (all left : Rests) (may : MayLeave rs.readers all.left) (gone : AreGone all left (length rs.readers - length rs'.readers)) (sizes : Sizes) (f : FilesTold) (book : Book) (stands : AllStand sizes e book) (tied : AreTied rs e) where
   abbrev moves : List Move

@@ -48,12 +48,12 @@ use Rattle.engine_state.specs.Rules.{Halts, Cuts, CountsReports}
 use Rattle.engine_state.specs.Faults.{why_of}
 use Rattle.engine_state.specs.Stands.{Stands, state_of}
 use Rattle.engine_state.proofs.CuttingReadings.{near_all, near_none, near_still}
-use Rattle.engine_state.proofs.Uncalled.{all_of, framed, no_call}
+use Rattle.engine_state.proofs.Uncalled.{all_of, framed, frames_none, no_call}
 use Rattle.stomach.specs.Files.{Sought, input_front}
 use Rattle.stomach.specs.Ran.{Came, CutBy, Stops, UnreadBy, ForFile, whole_state}
 use Rattle.input_state.specs.declared.answer.Call.{Call as EngineCall}
 use Rattle.engine_state.specs.Stands.{SameFrames, SameStore}
-use Rattle.engine_state.specs.Steps.{all_start}
+use Rattle.engine_state.specs.Steps.{asked_by, asks_start}
 use Rattle.engine_state.proofs.CallKept.{all_still, frames_kept}
 use Rattle.engine_state.proofs.Storing.{sound_still}
 use Rattle.line_reader.specs.Readers.{OpenReader, OpenReaders}
@@ -63,10 +63,11 @@ use Rattle.stomach.specs.Read.{AreTied}
 use Rattle.stomach.proofs.FilesFound.{found_at}
 use Rattle.stomach.proofs.Running.{same_moment, whole_moment}
 use Rattle.input_state.specs.Callings.{NotCalling, call_in, Calling}
+use Rattle.stomach.proofs.Unread.{call_starts}
 
 -- THE READING that has a file's name
 
-module _ (sizes : Sizes) (e : Engine) (a : Ask) (asks : (held : Lists) (work : List Reading) → frames.AreFramesOf e.readings.frames held work → asked_of held (Some a) ≡ asked_in work) (P : Book → Type 0)
+module _ (sizes : Sizes) (e : Engine) (a : Ask) (asks : (held : Lists) (work : List Reading) → frames.AreFramesOf None e.readings.frames held work → asked_of held (Some a) ≡ asked_in work) (P : Book → Type 0)
     (h : (book : Book) (r : Reading) (rs : List Reading) → ask r.kind r.fed ≡ ask_of e.input.builds a → Stands sizes e (with_work (r ∷ rs) book) → P (with_work (r ∷ rs) book)) where
   work_named : (book : Book) (work : List Reading) → Stands sizes e (with_work work book) → Some (ask_of e.input.builds a) ≡ asked_in work → P (with_work work book)
   work_named book [] st now = absurd cc
@@ -258,7 +259,7 @@ module _ (sizes : Sizes) (e : Engine) (c : Call) (back : Bool) (ts : List Token)
     split : (ms : List Move) → (front_moves ++ FileOpened name ∷ []) ++ ms ≡ front_moves ++ FileOpened name ∷ ms
     split ms = append_assoc front_moves (FileOpened name ∷ []) ms
 
-    pub missing_halts : (e2 : Engine) (w' : World) (o : Outcome) (j : ℕ) → Halts sizes (state_of e' (with_work rs book)) e2 (with_work rs book) w w' (unless_found (page_of (state_of e' (with_work rs book))) name None) o 0 → FramesOf (call_in e2.input.call) e2 rs → Stops sizes s0 e2 left w w' j o
+    pub missing_halts : (e2 : Engine) (w' : World) (o : Outcome) (j : ℕ) → Halts sizes (state_of e' (with_work rs book)) e2 (with_work rs book) w w' (unless_found (page_of (state_of e' (with_work rs book))) name None) o 0 → FramesOf e2 rs → Stops sizes s0 e2 left w w' j o
     missing_halts e2 w' o j halts frames =
         let d : Did sizes (state_of e' (with_work rs book)) halts.t w w' missed = subst (λ (ms : List Move). Did sizes (state_of e' (with_work rs book)) halts.t w w' ms) (page_kept back sought.did.state) halts.did in
         let more : Did sizes (whole_state left e' (with_work rs book)) (extended left halts.t) w w' missed = moves_did sizes (state_of e' (with_work rs book)) halts.t left missed missed_still w w' d in
@@ -327,12 +328,12 @@ module _ (e' e2 : Engine) (is : e2 ≡ record e' { input = record e'.input { pen
     room = subst (λ (x : Sizes). x.text_input_levels ≤ rs.most) (sym same) tied.room;
   }))
 
-none_called : (c : Option EngineCall) (o : Option reading.Ask) → all_start c o ≡ true → c ≡ None
-none_called None o h = refl
-none_called (Some c) o h = absurd (false≢true h)
+none_called : (c : Option EngineCall) (k : Calling) (o : Option reading.Ask) → asks_start (asked_by c k o) ≡ true → c ≡ None
+none_called None k o h = refl
+none_called (Some c) k o h = absurd (false≢true (sym (call_starts c.name c.ask k) ∙ h))
 
-pub starts_uncalled : (k : Calling) (o : Option reading.Ask) → all_start (call_in k) o ≡ true → k ≡ NotCalling
-starts_uncalled k o h = no_call k (none_called (call_in k) o h)
+pub starts_uncalled : (k : Calling) (o : Option reading.Ask) → asks_start (asked_by (call_in k) k o) ≡ true → k ≡ NotCalling
+starts_uncalled k o h = no_call k (none_called (call_in k) k o h)
 
 pub match_true : (A B : Type 0) (b : Bool) → b ≡ true → MatchBool b A B → A
 match_true A B true is h = h
@@ -346,8 +347,8 @@ match_false A B false is h = h
 pub frames_near : (sizes : Sizes) (e e2 : Engine) (book : Book) (b : Broken) → SameFrames e e2 → Stands sizes e book → FramesAtCut b e2 book.work
 frames_near sizes e e2 book b same st = near_still b e e2 book.work same (near_none b e book.work st.uncalled st.readings)
 
-pub frames_by : (sizes : Sizes) (e e2 : Engine) (book : Book) → SameFrames e e2 → Stands sizes e book → FramesOf (call_in e2.input.call) e2 book.work
-frames_by sizes e e2 book same st = subst (λ (c : Option EngineCall). FramesOf c e2 book.work) (sym (ap call_in (same.call ∙ st.uncalled))) (frames_kept e e2 book.work same st.readings)
+pub frames_by : (sizes : Sizes) (e e2 : Engine) (book : Book) → SameFrames e e2 → Stands sizes e book → FramesOf e2 book.work
+frames_by sizes e e2 book same st = frames_none e2 book.work (same.call ∙ st.uncalled) (frames_kept e e2 book.work same st.readings)
 
 -- there are as many readers as text input levels
 pub no_room : (sizes : Sizes) (e e' : Engine) (book book' : Book) (w : World) (back : Bool) (page : Page) (name other : List ℕ) (n : ℕ) (rs : OpenReaders) → AreTied rs e → Stands sizes e book → Sought sizes (state_of e book) e' book' w (input_front page back name) other n →

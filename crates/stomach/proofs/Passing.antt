@@ -143,7 +143,7 @@ pub record IsGiven (given : Groups → ℕ → Groups) (groups new_groups : Grou
   pub list : list_at lists id ≡ ts
 
 module _ (sizes : Sizes) (e : Engine) (book : Book) (w : World) (r : Reading) (rs : List Reading) (ts : List Token) (some : ts ≢ []) (stack : Stack) (size : stack.size ≡ e.readings.size) (own : innermost_count e.readings.frames ≡ 1)
-    (stand : (lists : List (List Token)) (work : List Reading) → frames.AreFramesOf e.readings.frames lists work → frames.AreFramesOf stack.frames (lists_beneath e.readings.frames lists) (drop 1 work))
+    (stand : (lists : List (List Token)) (work : List Reading) → frames.AreFramesOf None e.readings.frames lists work → frames.AreFramesOf None stack.frames (lists_beneath e.readings.frames lists) (drop 1 work))
     (shallow : (lists : List (List Token)) → AreShallow e.readings.frames lists → AreShallow stack.frames (lists_beneath e.readings.frames lists)) (st : Stands sizes e (with_work (r ∷ rs) book))
     (m : Move) (given : Groups → ℕ → Groups) (passes : Passes m ts given) (quiet : IsQuiet m) (silent : steps (m ∷ []) ≡ 0) (fits : refusal sizes m (state_of e (with_work (r ∷ rs) book)) ≡ None) where
   abbrev here : Book
@@ -185,7 +185,7 @@ module _ (sizes : Sizes) (e : Engine) (book : Book) (w : World) (r : Reading) (r
       };
       idle = st.idle;
       readings = record {
-        frames = subst (λ (l : List (List Token)). frames.AreFramesOf stack.frames l rs) own_beneath (stand e.input.builds (r ∷ rs) st.readings.frames);
+        frames = subst (λ (l : List (List Token)). frames.AreFramesOf None stack.frames l rs) own_beneath (stand e.input.builds (r ∷ rs) st.readings.frames);
         shallow = subst (λ (l : List (List Token)). AreShallow stack.frames l) own_beneath (shallow e.input.builds st.readings.shallow);
       };
       uncalled = st.uncalled;

@@ -23,7 +23,7 @@ use Rattle.engine_state.specs.Rules.{world_of, plan_of}
 use Rattle.engine_state.specs.Stands.{state_of}
 use Rattle.input_state.specs.declared.answer.Call.{Call}
 use Rattle.input_state.specs.Callings.{call_in}
-use Rattle.engine_state.specs.Steps.{weight, readings_weight, pending_weight, stepping, all_want, all_start, asked}
+use Rattle.engine_state.specs.Steps.{weight, readings_weight, pending_weight, stepping, asks_now, wants_token, asks_start}
 use Rattle.stomach.specs.declared.early.Early.{Early}
 use Rattle.stomach.specs.declared.early.Early.TheVariants as early
 use Rattle.stomach.specs.declared.runs.Ended.TheVariants as ended
@@ -179,13 +179,13 @@ module _ (sizes : Sizes) (e : Engine) (left : Rests) (rs : List OpenReader) (kno
   -- the file goes by no step
   keeps_open : e.input.pending.next ≡ None → stepping e ≡ true → closes (plan_of e book) ≡ false
   keeps_open unopened waits =
-      let never : all_start (call_in e.input.call) (asked e) ≡ false = wants_no_start e (wants_step (all_want (call_in e.input.call) (asked e)) (gives_step (pulled e.input.groups.now.categories e.input.pending)) waits) in
+      let never : asks_start (asks_now e) ≡ false = wants_no_start e (wants_step (wants_token (asks_now e)) (gives_step (pulled e.input.groups.now.categories e.input.pending)) waits) in
       let one : steps (plan_of e book) ≡ 1 = plan_one sizes e waits book stands in
       open_if (closes (plan_of e book)) (λ is. omega (arith, one, closing_is_free (state_of e book) (plan_of e book) (plan_counts (state_of e book) unopened (starts_same sizes e book stands ∙ never)) is))
 
   step_known : e.input.pending.next ≡ None → stepping e ≡ true → StepComes sizes (whole_state left e book)
   step_known unopened waits =
-      let wants : all_want (call_in e.input.call) (asked e) ≡ true = wants_step (all_want (call_in e.input.call) (asked e)) (gives_step (pulled e.input.groups.now.categories e.input.pending)) waits in
+      let wants : wants_token (asks_now e) ≡ true = wants_step (wants_token (asks_now e)) (gives_step (pulled e.input.groups.now.categories e.input.pending)) waits in
       let stays : closes (plan_of e book) ≡ false = keeps_open unopened waits in
       let may' : MayLeave rs (rests_before [] (plan_of e book) left).left = subst (λ (r : Rests). MayLeave rs r.left) (sym (open_before [] (plan_of e book) left stays)) may in
       comes_known sizes e left book [] stays (reads_known sizes e book stands [] left unopened (wants_no_start e wants) rs knows wants may') (stepping_needs sizes e unopened waits book stands)

@@ -28,12 +28,13 @@ use Rattle.engine_state.specs.Book.{Book, with_work}
 use Rattle.engine_state.specs.CutReadings.{CutsIn}
 use Rattle.engine_state.specs.Rules.{WantsHere, Takes, world_of, plan_of, next_moves}
 use Rattle.engine_state.specs.Stands.{Stands, state_of}
-use Rattle.engine_state.specs.Steps.{asked, asks_more, asks_start, all_start, frames_want, all_want, stepping}
+use Rattle.engine_state.specs.Steps.{asked, asks_more, asks_start, stepping, asks_now, asked_by, wants_token}
 use Rattle.engine_state.proofs.Uncalled.{all_of}
 use Rattle.stomach.specs.declared.innermost.Innermost.{Innermost}
 use Rattle.stomach.specs.declared.innermost.Innermost.TheVariants as innermost
 use Rattle.stomach.specs.Innermost.{AsksFor, ReadingsAsk, IsAsked, IsInnermost, ask_wants, frame_wants, innermost_wants, ask_opens, frame_opens, innermost_opens}
 use Rattle.stomach.specs.Halting.{DoesRuleIn}
+use Rattle.stomach.proofs.Unread.{call_more, call_starts}
 
 -- WHAT THE INNERMOST READING ASKS FOR
 
@@ -51,14 +52,14 @@ wants_of : (held : Lists) (x : Ask) → asks_more (ask_of held x) ≡ ask_wants 
 wants_of held (asks.More want) = refl
 wants_of held x = refl
 
-wants_frame : (held : Lists) (a : Option Ask) → frames_want (asked_of held a) ≡ frame_wants a
+wants_frame : (held : Lists) (a : Option Ask) → wants_token (asked_of held a) ≡ frame_wants a
 wants_frame held None = refl
 wants_frame held (Some x) = wants_of held x
 
-pub wants_same : (e : Engine) (i : Innermost) → IsInnermost e i → innermost_wants i ≡ all_want (call_in e.input.call) (asked e)
-wants_same e (innermost.Call c) h = sym (ap (λ (o : Option Call). all_want o (asked e)) h)
+pub wants_same : (e : Engine) (i : Innermost) → IsInnermost e i → innermost_wants i ≡ wants_token (asks_now e)
+wants_same e (innermost.Call c) h = sym (call_more c.name c.ask e.input.call) ∙ sym (ap (λ (o : Option Call). wants_token (asked_by o e.input.call (asked e))) h)
 wants_same e (innermost.Frame a) h =
-    sym (wants_frame e.input.builds a) ∙ (ap frames_want (h.1.asks e.input.builds) ∙ sym (ap (λ (k : Calling). all_want (call_in k) (asked e)) h.0))
+    sym (wants_frame e.input.builds a) ∙ (ap wants_token (h.1.asks e.input.builds) ∙ sym (ap (λ (k : Calling). wants_token (asked_by (call_in k) k (asked e))) h.0))
 
 -- and whether that a file be opened
 opens_of : (held : Lists) (x : Ask) → starts (ask_of held x) ≡ ask_opens x
@@ -69,10 +70,10 @@ opens_frame : (held : Lists) (a : Option Ask) → asks_start (asked_of held a) �
 opens_frame held None = refl
 opens_frame held (Some x) = opens_of held x
 
-pub opens_same : (e : Engine) (i : Innermost) → IsInnermost e i → innermost_opens i ≡ all_start (call_in e.input.call) (asked e)
-opens_same e (innermost.Call c) h = sym (ap (λ (o : Option Call). all_start o (asked e)) h)
+pub opens_same : (e : Engine) (i : Innermost) → IsInnermost e i → innermost_opens i ≡ asks_start (asks_now e)
+opens_same e (innermost.Call c) h = sym (call_starts c.name c.ask e.input.call) ∙ sym (ap (λ (o : Option Call). asks_start (asked_by o e.input.call (asked e))) h)
 opens_same e (innermost.Frame a) h =
-    sym (opens_frame e.input.builds a) ∙ (ap asks_start (h.1.asks e.input.builds) ∙ sym (ap (λ (k : Calling). all_start (call_in k) (asked e)) h.0))
+    sym (opens_frame e.input.builds a) ∙ (ap asks_start (h.1.asks e.input.builds) ∙ sym (ap (λ (k : Calling). asks_start (asked_by (call_in k) k (asked e))) h.0))
 
 pub asks_as : (e : Engine) (a b : Ask) → a ≡ b → AsksFor e (Some a) → AsksFor e (Some b)
 asks_as e a b is h = subst (λ (x : Ask). AsksFor e (Some x)) is h
@@ -120,7 +121,7 @@ pub by_none : (sizes : Sizes) (e : Engine) (P : Book → List Move → Type 0) �
     ((book : Book) → Takes sizes None e book → P book (next_moves None e book)) → (book : Book) → Stands sizes e book → P book (plan_of e book)
 by_none sizes e P asks stand none h book st = at book.work st (stand e.input.builds book.work st.readings.frames) where
   taken : (work : List Reading) → Stands sizes e (with_work work book) → Takes sizes None e (with_work work book)
-  taken work st = (subst (λ (c : Option Call). WantsHere c None e) (sym (ap call_in none)) (sym (asks e.input.builds)), all_of sizes e (with_work work book) st)
+  taken work st = (subst (λ (k : Calling). WantsHere (asked_by (call_in k) k (asked e)) None) (sym none) (sym (asks e.input.builds)), all_of sizes e (with_work work book) st)
 
   at : (work : List Reading) → Stands sizes e (with_work work book) → None ≡ asked_in work → P (with_work work book) (plan_of e (with_work work book))
   at [] st now = h (with_work [] book) (taken [] st)
@@ -128,11 +129,11 @@ by_none sizes e P asks stand none h book st = at book.work st (stand e.input.bui
 
 -- a token is wanted
 pub more_taken : (sizes : Sizes) (e : Engine) (want : Want) (book : Book) → e.input.call ≡ NotCalling → asked e ≡ Some (reading.More want) → Stands sizes e book → Takes sizes (Some want) e book
-more_taken sizes e want book none asks st = (subst (λ (c : Option Call). WantsHere c (Some want) e) (sym (ap call_in none)) asks, all_of sizes e book st)
+more_taken sizes e want book none asks st = (subst (λ (k : Calling). WantsHere (asked_by (call_in k) k (asked e)) (Some want)) (sym none) asks, all_of sizes e book st)
 
 -- an act with a list that opens no file
-pub not_started : (e : Engine) (a : reading.Ask) → e.input.call ≡ NotCalling → asked e ≡ Some a → all_start (call_in e.input.call) (asked e) ≡ false → starts a ≡ false
-not_started e a none is h = ap asks_start (sym is) ∙ (ap (λ (k : Calling). all_start (call_in k) (asked e)) (sym none) ∙ h)
+pub not_started : (e : Engine) (a : reading.Ask) → e.input.call ≡ NotCalling → asked e ≡ Some a → asks_start (asks_now e) ≡ false → starts a ≡ false
+not_started e a none is h = ap asks_start (sym is) ∙ (ap (λ (k : Calling). asks_start (asked_by (call_in k) k (asked e))) (sym none) ∙ h)
 
 pub acts_as : (files : Files) (page : Page) (c : Command) (e : Effect) (ts : List Token) → starts (reading.ActsOn c e ts) ≡ false → acts_in files page c e ts ≡ acts_on page c e ts
 acts_as files page c (effect.StartInput back) ts none = absurd cc
@@ -140,7 +141,7 @@ acts_as files page c x ts none = refl
 
 -- WHETHER THE RULE HAS A STEP
 
-pub asked_steps : (e : Engine) (a : Option reading.Ask) → e.input.call ≡ NotCalling → asked e ≡ a → stepping e ≡ (frames_want a && gives_step (pulled e.input.groups.now.categories e.input.pending))
+pub asked_steps : (e : Engine) (a : Option reading.Ask) → e.input.call ≡ NotCalling → asked e ≡ a → stepping e ≡ (wants_token a && gives_step (pulled e.input.groups.now.categories e.input.pending))
 asked_steps e a none is =
-    ap (λ (k : Calling). all_want (call_in k) (asked e) && gives_step (pulled e.input.groups.now.categories e.input.pending)) none
-    ∙ ap (λ (o : Option reading.Ask). frames_want o && gives_step (pulled e.input.groups.now.categories e.input.pending)) is
+    ap (λ (k : Calling). wants_token (asked_by (call_in k) k (asked e)) && gives_step (pulled e.input.groups.now.categories e.input.pending)) none
+    ∙ ap (λ (o : Option reading.Ask). wants_token o && gives_step (pulled e.input.groups.now.categories e.input.pending)) is

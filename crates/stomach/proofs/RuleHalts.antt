@@ -1,39 +1,29 @@
 -- Where a rule ends the run, the open readings are as they were.
-use Rattle.std.proofs.Common.{◌≡◌, ℕ, List, [], ◌∷◌, sym, subst, ◌∙◌, ap}
-use Rattle.std.specs.Prelude.{Bool, Option, Some, None}
+use Rattle.std.proofs.Common.{◌≡◌, ℕ, List, sym, subst, ◌∙◌, ap}
+use Rattle.std.specs.Prelude.{Bool}
 use Rattle.tex_syntax.specs.declared.words.Outcome.{Outcome}
 use Rattle.tex_defs.specs.Places.{World}
 use Rattle.tex_defs.specs.declared.Sizes.{Sizes}
-use Rattle.plain_readings.specs.Readings.{Reading}
 use Rattle.plain_machine.specs.States.{State, Move}
-use Rattle.input_state.specs.Callings.{Calling, call_in}
-use Rattle.input_state.specs.declared.answer.Call.{Call}
+use Rattle.input_state.specs.Callings.{call_in}
 use Rattle.engine_state.specs.declared.engine.Engine.{Engine}
 use Rattle.engine_state.specs.declared.outcome.Ruled.{Ruled}
 use Rattle.engine_state.specs.declared.outcome.Ruled.TheVariants.{Step, Free, Halted}
 use Rattle.engine_state.specs.Book.{Book}
-use Rattle.engine_state.specs.Calls.{AllStand, CallReads, FramesOf}
+use Rattle.engine_state.specs.Calls.{AllStand, FramesOf}
 use Rattle.engine_state.specs.Rules.{DoesRule, Halts}
 use Rattle.engine_state.specs.Stands.{Stands, SameFrames, SameReadings, state_of}
 use Rattle.engine_state.specs.Steps.{IsHalted}
-use Rattle.engine_state.proofs.Uncalled.{frames_all}
-use Rattle.engine_state.proofs.CallKept.{beneath_still, frames_kept, readings_still}
+use Rattle.engine_state.proofs.Uncalled.{frames_all, frames_none, no_call}
+use Rattle.engine_state.proofs.CallKept.{frames_still, readings_still}
 use Rattle.engine_state.proofs.Stopping.{noted, noted_same, noted_went, noted_halts}
 use Rattle.stomach.specs.Halting.{HaltsIn, DoesRuleIn}
 
 -- THE OPEN READINGS
 
-frames_by : (e e' : Engine) (c : Option Call) (work : List Reading) → SameFrames e e' → FramesOf c e work → FramesOf c e' work
-frames_by e e' None work same h = frames_kept e e' work same h
-frames_by e e' (Some c) [] same h = h
-frames_by e e' (Some c) (r ∷ rs) same h = (subst (λ (k : Calling). CallReads c k r) (sym same.call) h.0, beneath_still e e' c rs same.readings same.lists h.1)
-
-frames_still : (e e' : Engine) (work : List Reading) → SameFrames e e' → FramesOf (call_in e.input.call) e work → FramesOf (call_in e'.input.call) e' work
-frames_still e e' work same h = subst (λ (c : Option Call). FramesOf c e' work) (sym (ap call_in same.call)) (frames_by e e' (call_in e.input.call) work same h)
-
 -- where no call gathers its arguments
-bare_frames : (sizes : Sizes) (e e' : Engine) (book : Book) → Stands sizes e book → SameReadings e e' → FramesOf (call_in e'.input.call) e' book.work
-bare_frames sizes e e' book st same = subst (λ (c : Option Call). FramesOf c e' book.work) (sym (same.call ∙ ap call_in st.uncalled)) (readings_still e e' book.work same st.readings)
+bare_frames : (sizes : Sizes) (e e' : Engine) (book : Book) → Stands sizes e book → SameReadings e e' → FramesOf e' book.work
+bare_frames sizes e e' book st same = frames_none e' book.work (no_call e'.input.call (same.call ∙ ap call_in st.uncalled)) (readings_still e e' book.work same st.readings)
 
 -- the same moves
 pub rules_by : (sizes : Sizes) (s : State) (e' : Engine) (w w' : World) (ms ns : List Move) (ruled : Ruled) → ns ≡ ms → DoesRuleIn sizes s e' w w' ms ruled → DoesRuleIn sizes s e' w w' ns ruled

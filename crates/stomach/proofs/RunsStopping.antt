@@ -1,16 +1,14 @@
 -- An engine that has noted whether it has stopped stands for the same moment of a run.
-use Rattle.std.proofs.Common.{ℕ, List, []}
-use Rattle.std.specs.Prelude.{Bool, Option, Some, None, ◌∷◌, Result, Ok, Err, MatchResult}
+use Rattle.std.proofs.Common.{ℕ, List}
+use Rattle.std.specs.Prelude.{Bool, Result, Ok, Err, MatchResult}
 use Rattle.tex_defs.specs.declared.Sizes.{Sizes}
 use Rattle.tex_defs.specs.Places.{World}
 use Rattle.plain_readings.specs.Readings.{Reading}
 use Rattle.plain_machine.specs.States.{State}
 use Rattle.world_io.specs.Contents.{SinkTold}
-use Rattle.input_state.specs.declared.answer.Call.{Call}
-use Rattle.input_state.specs.Callings.{call_in}
 use Rattle.engine_state.specs.declared.engine.Engine.{Engine}
 use Rattle.engine_state.specs.Calls.{FramesOf}
-use Rattle.engine_state.proofs.CallKept.{beneath_still, frames_kept}
+use Rattle.engine_state.proofs.CallKept.{frames_still}
 use Rattle.engine_state.proofs.Stopping.{noted, noted_same, noted_counts, noted_near, noted_stands}
 use Rattle.line_reader.specs.Readers.{OpenReaders}
 use Rattle.plain_machine.specs.Extended.{Rests}
@@ -25,14 +23,12 @@ pub match_to : {T E : Type 0} {P P' : T → Type 0} {Q Q' : E → Type 0} → (r
 match_to (Ok x) f g h = f x h
 match_to (Err y) f g h = g y h
 
-frames_noted : (b : Bool) (e : Engine) (c : Option Call) (work : List Reading) → FramesOf c e work → FramesOf c (noted b e) work
-frames_noted b e None work h = frames_kept e (noted b e) work (noted_same b e) h
-frames_noted b e (Some c) [] h = h
-frames_noted b e (Some c) (r ∷ rs) h = (h.0, beneath_still e (noted b e) c rs (noted_same b e).readings (noted_same b e).lists h.1)
+frames_noted : (b : Bool) (e : Engine) (work : List Reading) → FramesOf e work → FramesOf (noted b e) work
+frames_noted b e work h = frames_still e (noted b e) work (noted_same b e) h
 
 module _ (b : Bool) (e' : Engine) (left : Rests) (t : State) where
   end_noted : IsEnd e' left t → IsEnd (noted b e') left t
-  end_noted h = record { book' = h.book'; frames = frames_noted b e' (call_in e'.input.call) h.book'.work h.frames; same = h.same }
+  end_noted h = record { book' = h.book'; frames = frames_noted b e' h.book'.work h.frames; same = h.same }
 
   at_noted : (sizes : Sizes) → IsAt sizes e' left t → IsAt sizes (noted b e') left t
   at_noted sizes h = record { book' = h.book'; stands = noted_stands b sizes e' h.book' h.stands; same = h.same }

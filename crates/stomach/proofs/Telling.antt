@@ -24,17 +24,15 @@ use Rattle.plain_machine.proofs.Doing.{did_join}
 use Rattle.plain_machine.proofs.Pulls.{answered_none}
 use Rattle.world_io.specs.Contents.{FilesTold, SinkTold, world}
 use Rattle.engine_state.specs.declared.broken.Broken.{Broken}
-use Rattle.input_state.specs.declared.answer.Call.{Call}
-use Rattle.input_state.specs.Callings.{NotCalling, call_in}
+use Rattle.input_state.specs.Callings.{NotCalling}
 use Rattle.engine_state.specs.declared.engine.Engine.{Engine}
 use Rattle.engine_state.specs.Book.{Book, with_work}
-use Rattle.engine_state.specs.Calls.{FramesOf}
 use Rattle.engine_state.specs.CutReadings.{CutsIn}
 use Rattle.engine_state.specs.Rules.{world_of, Halts, Reports, Went}
 use Rattle.engine_state.specs.Stands.{Stands, SameFrames, state_of, page_of, own_style}
 use Rattle.engine_state.specs.Steps.{weight, pending_weight}
 use Rattle.engine_state.proofs.CallKept.{frames_kept}
-use Rattle.engine_state.proofs.Uncalled.{all_of}
+use Rattle.engine_state.proofs.Uncalled.{all_of, frames_none}
 use Rattle.gullet.proofs.Stepping.{free_of}
 use Rattle.gullet.proofs.CallWeighing.{lighter_by}
 use Rattle.engine_state.proofs.CuttingReadings.{column_in, in_by, later_in}
@@ -47,7 +45,7 @@ pub frames_halt : (sizes : Sizes) (e e' : Engine) (s : State) (book : Book) (w w
 frames_halt sizes e e' s book w w' moves o k same st h = record {
   book' = book;
   halts = h;
-  frames = subst (λ (c : Option Call). FramesOf c e' book.work) (sym (ap call_in (same.call ∙ st.uncalled))) (frames_kept e e' book.work same st.readings);
+  frames = frames_none e' book.work (same.call ∙ st.uncalled) (frames_kept e e' book.work same st.readings);
 }
 
 -- THE NOTE IS CUT OFF

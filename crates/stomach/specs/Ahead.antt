@@ -4,11 +4,10 @@ use Rattle.line_reader.specs.Readers.{OpenReader}
 use Rattle.plain_tokens.specs.Pending.{Pending}
 use Rattle.plain_machine.specs.Extended.{Rests, extended}
 use Rattle.input_state.specs.NextBytes.{KnowsNext, NeedsBytes, KnowsFirst, NeedsFirst, with_bytes, with_first_bytes}
-use Rattle.input_state.specs.Callings.{call_in}
 use Rattle.engine_state.specs.declared.engine.Engine.{Engine}
 use Rattle.engine_state.specs.Book.{Book}
 use Rattle.engine_state.specs.Stands.{state_of}
-use Rattle.engine_state.specs.Steps.{all_want, asked, stepping}
+use Rattle.engine_state.specs.Steps.{stepping, asks_now, wants_token}
 
 -- these bytes of the file came that gives the next line
 abbrev pub came_in : Option (List ℕ) → List ℕ → Pending → Pending
@@ -29,11 +28,11 @@ pub data Knows (e : Engine) (rs : List OpenReader) : Type 0 where
   IsNext : e.input.pending.next ≡ None → KnowsNext e.input → Knows e rs
   IsFirst : (bytes : List ℕ) → e.input.pending.next ≡ Some bytes → KnowsFirst e.input → Knows e rs
   HasEnded : (r : OpenReader) → (outer : List OpenReader) → rs ≡ r ∷ outer → r.ended ≡ true → Knows e rs
-  WantsNone : e.input.pending.next ≡ None → all_want (call_in e.input.call) (asked e) ≡ false → Knows e rs
+  WantsNone : e.input.pending.next ≡ None → wants_token (asks_now e) ≡ false → Knows e rs
 
 -- bytes are needed: for the next reading, where a token is wanted, or for the first line of a file that was opened
 pub data Lacks (e : Engine) : Type 0 where
-  LacksLine : e.input.pending.next ≡ None → all_want (call_in e.input.call) (asked e) ≡ true → NeedsBytes e.input → Lacks e
+  LacksLine : e.input.pending.next ≡ None → wants_token (asks_now e) ≡ true → NeedsBytes e.input → Lacks e
   LacksFirst : NeedsFirst e.input → Lacks e
 
 -- and the file's end hasn't come

@@ -7,7 +7,6 @@ use Rattle.world_io.specs.Contents.{FilesTold, SinkTold}
 use Rattle.plain_readings.specs.Readings.{Reading}
 use Rattle.plain_machine.specs.States.{State, Move}
 use Rattle.plain_machine.specs.Plan.{Page}
-use Rattle.input_state.specs.Callings.{call_in}
 use Rattle.engine_state.specs.declared.broken.Broken.{Broken}
 use Rattle.engine_state.specs.declared.engine.Engine.{Engine}
 use Rattle.engine_state.specs.declared.outcome.Ruled.{Ruled}
@@ -22,7 +21,7 @@ use Rattle.engine_state.specs.Rules.{world_of, plan_of, Halts, Went}
 pub record HaltsIn (sizes : Sizes) (s : State) (e' : Engine) (w w' : World) (moves : List Move) (o : Outcome) (k : ℕ) : Type 0 where
   pub book' : Book
   pub halts : Halts sizes s e' book' w w' moves o k
-  pub frames : FramesOf (call_in e'.input.call) e' book'.work
+  pub frames : FramesOf e' book'.work
 
 -- of a rule
 abbrev pub DoesRuleIn : Sizes → State → Engine → World → World → List Move → Ruled → Type 0

@@ -19,7 +19,7 @@ AsksFor e a = (held : Lists) → asked_of held a ≡ asks_in e.readings.frames h
 
 -- and so it is with the reading for which it stands
 abbrev pub ReadingsAsk : Engine → Option Ask → Type 0
-ReadingsAsk e a = (held : Lists) (work : List Reading) → frames.AreFramesOf e.readings.frames held work → asked_of held a ≡ asked_in work
+ReadingsAsk e a = (held : Lists) (work : List Reading) → frames.AreFramesOf None e.readings.frames held work → asked_of held a ≡ asked_in work
 
 -- none is open, or the innermost asks for this
 pub record IsAsked (e : Engine) (a : Option Ask) : Type 0 where

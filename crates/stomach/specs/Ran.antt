@@ -21,7 +21,6 @@ use Rattle.engine_state.specs.declared.outcome.Ruled.{Ruled}
 use Rattle.engine_state.specs.declared.outcome.Ruled.TheVariants as ruled
 use Rattle.stomach.specs.Ahead.{Lacks, needs_step}
 use Rattle.stomach.specs.Read.{AreTied}
-use Rattle.input_state.specs.Callings.{call_in}
 use Rattle.engine_state.specs.Faults.{why_of}
 use Rattle.engine_state.specs.Book.{Book}
 use Rattle.engine_state.specs.Calls.{AllStand, FramesOf}
@@ -45,7 +44,7 @@ pub record Came (sizes : Sizes) (s : State) (e' : Engine) (left : Rests) (w w' :
 -- A run has ended in this state: the engine stands for it, with its open readings, but for how it stopped.
 pub record IsEnd (e' : Engine) (left : Rests) (t : State) : Type 0 where
   pub book' : Book
-  pub frames : FramesOf (call_in e'.input.call) e' book'.work
+  pub frames : FramesOf e' book'.work
   pub same : record t { stopped = None } ≡ whole_state left e' book'
 
 -- The machine has come from s to its end, behind at most k steps.

@@ -3,10 +3,9 @@ ghost use Rattle.std.specs.Prelude.{◌≡◌, ◌<◌, true, List, IfErr, OnErr
 ghost use Rattle.tex_defs.specs.Places.{Rose};
 ghost use Rattle.world_io.specs.declared.traits.Fault.TheVariants.{Failed, NoMemory};
 ghost use Rattle.line_reader.specs.Readers.{OpenReader, AreOpen, ids};
-ghost use Rattle.engine_state.specs.Steps.{all_want, asked};
+ghost use Rattle.engine_state.specs.Steps.{asks_now, wants_token};
 ghost use Rattle.stomach.specs.Read.{ReadsTo, AreTied};
 ghost use Rattle.stomach.specs.Ahead.{IsGiven, Knows, Needs, needs_step, read_weight};
-ghost use Rattle.input_state.specs.Callings.{call_in};
 ghost use Rattle.input_state.specs.HeldLists.{has_item};
 
 use engine_state::Engine;
@@ -19,7 +18,7 @@ const WINDOW: usize = 256;
 /// Whether the next rule is the step of a token that a list or a call has left; `wants`: whether it wants a token. Then no byte of a file is needed for it.
 #[inline(always)]
 pub fn has_token(engine: &Engine, wants: bool) -> bool
-    requires { wants ≡ all_want (call_in engine.now.input.call) (asked engine.now) }
+    requires { wants ≡ wants_token (asks_now engine.now) }
     ensures is { result ≡ (has_item engine.now.input.pending.puts && not (is_some engine.now.input.pending.next) && wants) }
     ensures knows { IsTrue result → (rs : List OpenReader) → Knows engine.now rs }
     ensures step { IsTrue result → needs_step engine.now ≡ true }
@@ -30,7 +29,7 @@ pub fn has_token(engine: &Engine, wants: bool) -> bool
 /// Whether the next rule needs bytes of a file that haven't come; `wants`: whether it wants a token.
 #[inline(always)]
 fn needs_bytes(engine: &Engine, readers: &Readers, wants: bool) -> bool
-    requires { wants ≡ all_want (call_in engine.now.input.call) (asked engine.now) }
+    requires { wants ≡ wants_token (asks_now engine.now) }
     ensures { MatchBool result (Needs engine.now readers.now.readers) (AreTied readers.now engine.now → Knows engine.now readers.now.readers) }
 {
     if readers.count() == 0 || readers.is_ended() {
@@ -80,7 +79,7 @@ pub fn read_ahead<F: Files>(
     files: &mut F,
     wants: bool,
 ) -> Result<(), Fault>
-    requires wants { wants ≡ all_want (call_in engine.old.input.call) (asked engine.old) }
+    requires wants { wants ≡ wants_token (asks_now engine.old) }
     requires open { AreOpen readers.old.readers (F.told files.old) }
     ensures came { ReadsTo readers.old.readers readers.new.readers (F.told files.old) (F.told files.new) (λ all left. IsGiven all left engine.old engine.new) }
     ensures knows { OnOk result (AreTied readers.new engine.new → Knows engine.new readers.new.readers) }

@@ -13,9 +13,9 @@ ghost use Rattle.plain_machine.specs.States.{Spelt};
 ghost use Rattle.world_io.specs.Contents.{FilesTold};
 ghost use Rattle.world_io.specs.declared.traits.Fault.TheVariants.{Failed, NoMemory};
 ghost use Rattle.input_state.specs.Stored.{spelt as spelt_in};
-ghost use Rattle.input_state.specs.Callings.{NotCalling, call_in};
+ghost use Rattle.input_state.specs.Callings.{NotCalling};
 ghost use Rattle.engine_state.specs.Clauses.{HoldsLists, MakesMoves, CutsMoves};
-ghost use Rattle.engine_state.specs.Steps.{all_start, asked, weight, IsStep, IsFree};
+ghost use Rattle.engine_state.specs.Steps.{weight, IsStep, IsFree, asks_now, asks_start};
 ghost use Rattle.line_reader.specs.Readers.{AreOpen};
 ghost use Rattle.stomach.specs.declared.early.Early.TheVariants as early;
 ghost use Rattle.stomach.specs.Files.{SeeksFile, CutsSeeking, AreGone};
@@ -88,7 +88,7 @@ pub(crate) fn open_file<F: Files, S: Sink>(
 ) -> Result<Ruled, Early>
     requires idle { engine.old.input.making ≡ None }
     requires running { engine.old.stopped ≡ false }
-    requires starts { all_start (call_in engine.old.input.call) (asked engine.old) ≡ true }
+    requires starts { asks_start (asks_now engine.old) ≡ true }
     requires none_opened { engine.old.input.pending.next ≡ None }
     requires open { AreOpen readers.old.readers (F.told files.old) }
     ensures rule { ReadsTo readers.old.readers readers.new.readers (F.told files.old) (F.told files.new) (λ all left. RuledTo readers.old engine.old (S.told out.old) readers.new engine.new (S.told out.new) all left result) }

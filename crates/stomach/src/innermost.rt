@@ -1,8 +1,8 @@
 // The innermost reading, by what it asks for.
 ghost use Rattle.std.specs.Prelude.{◌≡◌};
-ghost use Rattle.engine_state.specs.Steps.{all_want, asked};
+ghost use Rattle.engine_state.specs.Steps.{asks_now, wants_token};
 ghost use Rattle.stomach.specs.Innermost.{IsInnermost, innermost_wants, innermost_opens};
-ghost use Rattle.input_state.specs.Callings.{NotCalling, call_in};
+ghost use Rattle.input_state.specs.Callings.{NotCalling};
 
 use engine_state::Engine;
 use input_state::Call;
@@ -27,7 +27,7 @@ impl Innermost {
     #[inline(always)]
     pub fn look(&mut self, engine: &Engine)
         ensures is { IsInnermost engine.now self.new }
-        ensures wants { innermost_wants self.new ≡ all_want (call_in engine.now.input.call) (asked engine.now) }
+        ensures wants { innermost_wants self.new ≡ wants_token (asks_now engine.now) }
     {
         match engine.input.call() {
             Some(call) => *self = Innermost::Call(call),
@@ -44,7 +44,7 @@ impl Innermost {
     fn ask(&mut self, engine: &Engine)
         requires uncalled { engine.now.input.call ≡ NotCalling }
         ensures is { IsInnermost engine.now self.new }
-        ensures wants { innermost_wants self.new ≡ all_want (call_in engine.now.input.call) (asked engine.now) }
+        ensures wants { innermost_wants self.new ≡ wants_token (asks_now engine.now) }
     {
         match engine.readings.ask() {
             None => *self = Innermost::Frame(None),

@@ -9,12 +9,12 @@ ghost use Rattle.reading_frames.specs.Frames as frames;
 ghost use Rattle.plain_machine.specs.Plan.{acts_on, reported_as};
 ghost use Rattle.plain_machine.specs.States.{Closed};
 ghost use Rattle.input_state.specs.Reads.{gives_step};
-ghost use Rattle.input_state.specs.Callings.{NotCalling, call_in};
+ghost use Rattle.input_state.specs.Callings.{NotCalling};
 ghost use Rattle.engine_state.specs.Clauses.{CutsWhere, DoesWhere, Taking};
 ghost use Rattle.engine_state.specs.CutReadings.{CutsIn};
 ghost use Rattle.engine_state.specs.Stands.{Stands, SameReadings};
 ghost use Rattle.engine_state.specs.Rules.{plan_of, next_moves, DoesRule};
-ghost use Rattle.engine_state.specs.Steps.{all_start, asked, stepping, stops_run, IsStep, IsFree, IsHalted, StepsIf, weight};
+ghost use Rattle.engine_state.specs.Steps.{asked, stepping, stops_run, IsStep, IsFree, IsHalted, StepsIf, weight, asks_now, asks_start};
 ghost use Rattle.stomach.specs.Clauses.{DoesIf};
 ghost use Rattle.stomach.specs.Innermost.{IsAsked, IsInnermost};
 ghost use Rattle.stomach.specs.Halting.{DoesRuleIn, DoesPlanIn, CutsPlanIn, DoesRuleAtReading, CutsRuleAtReading};
@@ -115,11 +115,11 @@ fn act_on<S: Sink>(
 /// Does the rule of what the innermost frame asks for, where no call gathers its arguments.
 fn ask_rule<S: Sink>(engine: &mut Engine, out: &mut S, ask: Ask) -> Result<Ruled, Broken>
     requires idle { engine.old.input.making ≡ None }
-    requires no_start { all_start (call_in engine.old.input.call) (asked engine.old) ≡ false }
+    requires no_start { asks_start (asks_now engine.old) ≡ false }
     requires uncalled { engine.old.input.call ≡ NotCalling }
     requires running { engine.old.stopped ≡ false }
     requires asks { (held : Lists) → asked_of held (Some ask) ≡ asks_in engine.old.readings.frames held }
-    requires stands { (held : Lists) (work : List Reading) → frames.AreFramesOf engine.old.readings.frames held work → asked_of held (Some ask) ≡ asked_in work }
+    requires stands { (held : Lists) (work : List Reading) → frames.AreFramesOf None engine.old.readings.frames held work → asked_of held (Some ask) ≡ asked_in work }
     requires found { IsFetchedAt ask }
     ensures light { IfOk result (λ ruled. IsFree ruled → weight engine.new < weight engine.old) }
     ensures step { IfOk result (λ ruled. StepsIf ruled (stepping engine.old)) }
@@ -169,7 +169,7 @@ fn ask_rule<S: Sink>(engine: &mut Engine, out: &mut S, ask: Ask) -> Result<Ruled
 fn frame_rule<S: Sink>(engine: &mut Engine, out: &mut S, ask: &Option<Ask>) -> Result<Ruled, Broken>
     requires asked { IsAsked engine.old ask.now }
     requires idle { engine.old.input.making ≡ None }
-    requires no_start { all_start (call_in engine.old.input.call) (asked engine.old) ≡ false }
+    requires no_start { asks_start (asks_now engine.old) ≡ false }
     requires uncalled { engine.old.input.call ≡ NotCalling }
     requires running { engine.old.stopped ≡ false }
     ensures light { IfOk result (λ ruled. IsFree ruled → weight engine.new < weight engine.old) }
@@ -198,7 +198,7 @@ pub(crate) fn rule<S: Sink>(
 ) -> Result<Ruled, Broken>
     requires innermost { IsInnermost engine.old innermost.now }
     requires idle { engine.old.input.making ≡ None }
-    requires no_start { all_start (call_in engine.old.input.call) (asked engine.old) ≡ false }
+    requires no_start { asks_start (asks_now engine.old) ≡ false }
     requires running { engine.old.stopped ≡ false }
     ensures light { IfOk result (λ ruled. IsFree ruled → weight engine.new < weight engine.old) }
     ensures step { IfOk result (λ ruled. StepsIf ruled (stepping engine.old)) }

@@ -3,13 +3,12 @@ ghost use Rattle.std.specs.Prelude.{◌≡◌, ◌<◌, IfOk, IfErr, OnOk, Match
 ghost use Rattle.tex_defs.specs.Places.{Rose};
 ghost use Rattle.world_io.specs.declared.traits.Fault.TheVariants.{Failed, NoMemory};
 ghost use Rattle.line_reader.specs.Readers.{AreOpen};
-ghost use Rattle.engine_state.specs.Steps.{all_want, asked, weight, stops_run, IsFree, StepsIf};
+ghost use Rattle.engine_state.specs.Steps.{weight, stops_run, IsFree, StepsIf, asks_now, wants_token};
 ghost use Rattle.stomach.specs.declared.early.Early.TheVariants as early;
 ghost use Rattle.stomach.specs.Ahead.{Knows, needs_step as plain_needs_step};
 ghost use Rattle.stomach.specs.Innermost.{IsInnermost};
 ghost use Rattle.stomach.specs.Read.{ReadsTo, AreTied};
 ghost use Rattle.stomach.specs.Ran.{RuledTo, FreeTo, RanTo, StoppedTo};
-ghost use Rattle.input_state.specs.Callings.{call_in};
 
 use crate::ahead::{has_token, read_ahead};
 use crate::early::Early;
@@ -31,7 +30,7 @@ pub enum Ended {
 /// Whether the next rule needs a step; `wants`: whether it wants a token.
 #[inline(always)]
 fn needs_step(engine: &Engine, wants: bool) -> bool
-    requires { wants ≡ all_want (call_in engine.now.input.call) (asked engine.now) }
+    requires { wants ≡ wants_token (asks_now engine.now) }
     ensures { result ≡ plain_needs_step engine.now }
 {
     engine.input.has_next() || wants && engine.input.is_ready()

@@ -65,7 +65,7 @@ returns c = let i = c.in_ok-input.ensures in let n = c.in-Ok.ensures in let o = 
         };
         idle = making;
         readings = record {
-          frames = subst (λ (x : Stack). frames.AreFramesOf x.frames c.in_ok-input.input.builds []) (sym o) (ap (λ (x : Stored). x.builds) i);
+          frames = subst (λ (x : Stack). frames.AreFramesOf None x.frames c.in_ok-input.input.builds []) (sym o) (ap (λ (x : Stored). x.builds) i);
           shallow = subst (λ (x : Stack). AreShallow x.frames c.in_ok-input.input.builds) (sym o) tt;
         };
         uncalled = ap (λ (x : Stored). x.call) i;
