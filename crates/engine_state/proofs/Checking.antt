@@ -216,4 +216,4 @@ using sizes e c (Some want) book is t = by_work book.work refl where
 pub call_finds : (e : Engine) (c : Call) → call_in e.input.call ≡ Some c → (sizes : Sizes) (book : Book) (want : Option Want) → Takes sizes want e book → Finds (found.Builds scanned.Use c.name 0) e book × IsSome want
 call_finds e c is sizes book want t =
     let u : Using sizes e c want book = using sizes e c want book is t in
-    (ap (λ (work : List Reading). scanning_of e work) u.work ∙ taking_scanned e book.number c.name u.r u.rs u.readings.0, u.wants)
+    (ap (λ (work : List Reading). scanning_of e work) u.work ∙ taking_scanned e book.number c.name u.r u.rs u.readings, u.wants)

@@ -48,7 +48,7 @@ use Rattle.engine_state.specs.Book.{Book, with_work}
 use Rattle.engine_state.specs.Calls.{AllStand, AsksToken, work_or_none}
 use Rattle.engine_state.specs.CutReadings.{CutsIn}
 use Rattle.engine_state.specs.Stands.{IsSized, SameFrames, SameOthers, SameStore, OnlyColumn, state_of, page_of, own_style}
-use Rattle.engine_state.specs.Steps.{asked, asks_now, asked_by}
+use Rattle.engine_state.specs.Steps.{asked, asks_bare, asks_now, asked_by}
 use Rattle.engine_state.specs.Rules.{world_of, onward_of, feeds_of, space_moves, token_moves, scanning_of, nth_list, scanned_list, away_text, check_moves, IsScanned, IsFound, Finds, Takes, WantsHere, Behind, Comes, Went, Reports, DoesOnward}
 use Rattle.engine_state.proofs.Uncalled.{no_call}
 use Rattle.engine_state.proofs.CallKept.{all_still}
@@ -66,6 +66,9 @@ asked_kept e e' readings lists = ap (λ (s : Stack). asks_in s.frames e'.input.b
 
 pub asks_kept : (e e' : Engine) → SameFrames e e' → asks_now e' ≡ asks_now e
 asks_kept e e' same = ap (λ (k : Calling). asked_by (call_in k) k (asked e')) same.call ∙ ap (asked_by (call_in e.input.call) e.input.call) (asked_kept e e' same.readings same.lists)
+
+pub bare_kept : (e e' : Engine) → SameFrames e e' → asks_bare e' ≡ asks_bare e
+bare_kept e e' same = ap (λ (k : Calling). asked_by (call_in k) k (asks_in e'.readings.frames [])) same.call ∙ ap (λ (s : Stack). asked_by (call_in e.input.call) e.input.call (asks_in s.frames [])) same.readings
 
 pub takes_still : (sizes : Sizes) (want : Option Want) (e e' : Engine) (book : Book) → SameFrames e e' → AllStand sizes e' book → Takes sizes want e book → Takes sizes want e' book
 takes_still sizes want e e' book same st t = (subst (λ (o : Option Ask). WantsHere o want) (sym (asks_kept e e' same)) t.0, st)

@@ -73,6 +73,10 @@ pub ok_both : {T E : Type 0} {P Q R : T → Type 0} → (r : Result T E) → ((x
 ok_both (Ok x) f h k = f x h k
 ok_both (Err e) f h k = tt
 
+pub ok_three : {T E : Type 0} {P Q R S : T → Type 0} → (r : Result T E) → ((x : T) → P x → Q x → R x → S x) → IfOk r P → IfOk r Q → IfOk r R → IfOk r S
+ok_three (Ok x) f h k l = f x h k l
+ok_three (Err e) f h k l = tt
+
 pub err_to : {T E : Type 0} {P Q : E → Type 0} → (r : Result T E) → ((x : E) → P x → Q x) → IfErr r P → IfErr r Q
 err_to (Ok x) f h = tt
 err_to (Err e) f h = f e h

@@ -1,6 +1,16 @@
 pub mod CallsKnown
 pub mod Uncalled
+pub mod CallBraces
+pub mod CallEnding
+pub mod CallFeeding
+pub mod CallFeedingAnswers
+pub mod CallFeedingCases
+pub mod CallFeedingCuts
+pub mod CallFeedingMoves
 pub mod CallKept
+pub mod CallWeighing
+pub mod CallsFed
+pub mod CallsIn
 pub mod Cells
 pub mod Changing
 pub mod Checking
@@ -12,6 +22,7 @@ pub mod Conditionals
 pub mod Counting
 pub mod Cutting
 pub mod FramesHeld
+pub mod InnermostFed
 pub mod Joining
 pub mod GroupEnds
 pub mod Grouping
@@ -25,6 +36,7 @@ pub mod CuttingReadings
 pub mod Pulling
 pub mod FirstLines
 pub mod Putting
+pub mod ReadingCloses
 pub mod ReadingEnds
 pub mod ReadingsFed
 pub mod ReadingsOpened

@@ -55,14 +55,13 @@ use Rattle.engine_state.specs.declared.outcome.Ruled.{Ruled}
 use Rattle.engine_state.specs.declared.outcome.Ruled.TheVariants.{Step, Free, Halted}
 use Rattle.engine_state.specs.declared.outcome.Last.TheVariants as last
 use Rattle.engine_state.specs.Begins.{last_moves}
-use Rattle.engine_state.specs.Steps.{IsHalted, IsSkipped, IsOver, NextStepsIf, next_met, next_free, file_weight, outer_weight, pending_weight, readings_weight, weight, asked, asked_by}
+use Rattle.engine_state.specs.Steps.{IsHalted, IsSkipped, IsOver, NextStepsIf, next_met, next_free, file_weight, outer_weight, pending_weight, readings_weight, weight, asked_by}
 use Rattle.engine_state.specs.declared.outcome.Next.{Next}
 use Rattle.engine_state.specs.Book.{Book}
 use Rattle.plain_readings.specs.Weights.{act_frame, ask_weight, behind_weight}
-use Rattle.engine_state.specs.Calls.{AllStand, asks_of}
-use Rattle.engine_state.proofs.CallsKnown.{CallStands, ReadingsBy, split, join}
+use Rattle.engine_state.specs.Calls.{AllStand, MacroStands, ReadingsStand, asks_of}
 use Rattle.engine_state.specs.Entering.{with_names, EntryFits, EntryRefused}
-use Rattle.engine_state.specs.Stands.{Counts, IsSized, IsSound, SameStore, SameFrames, FramesStand, state_of, page_of, depth}
+use Rattle.engine_state.specs.Stands.{Counts, IsSized, IsSound, SameStore, SameFrames, state_of, page_of, depth}
 use Rattle.engine_state.specs.CutReadings.{CutsIn}
 use Rattle.engine_state.specs.Rules.{world_of, onward_of, enters_of, scanning_of, token_moves, name_moves, WantsHere, Takes, Cuts, Went, Meets, Nexts, DoesOnward}
 use Rattle.engine_state.proofs.CallKept.{all_still}
@@ -164,29 +163,21 @@ module _ (sizes : Sizes) (e : Engine) (book : Book) where
     bodies = h.bodies;
   }
 
-  call_names : (new : List (List ℕ)) (c : Call) (r : Reading) → CallStands e book.number c r → CallStands (with_names new e) book.number c r
-  call_names new c r h = record {
-    long = h.long;
-    outer = h.outer;
-    id = h.id;
-    meaning = meaning_more new e.input.groups c.name ∙ h.meaning;
-    kind = h.kind;
-    places = h.places;
-    asked = h.asked;
-    at = h.at;
-    holds = h.holds;
+  -- a call is that of the same macro
+  macro_names : (new : List (List ℕ)) (text : List Token) (c : Option Call) (work : List Reading) → MacroStands c e book.number text work → MacroStands c (with_names new e) book.number text work
+  macro_names new text None work m = tt
+  macro_names new text (Some c) [] m = m
+  macro_names new text (Some c) (r ∷ rs) m =
+      record { long = m.long; outer = m.outer; id = m.id; meaning = meaning_more new e.input.groups c.name ∙ m.meaning; list = m.list; kind = m.kind; places = m.places }
+
+  all_names : (new : List (List ℕ)) → ReadingsStand e book.number book.work → ReadingsStand (with_names new e) book.number book.work
+  all_names new h = record {
+    readings = record { text = h.readings.text; frames = record { frames = h.readings.frames.frames; shallow = h.readings.frames.shallow }; far = h.readings.far };
+    macro = macro_names new h.readings.text (call_in e.input.call) book.work h.macro;
   }
 
-  pub frames_names : (new : List (List ℕ)) (work : List Reading) → FramesStand e work → FramesStand (with_names new e) work
-  frames_names new work h = record { frames = h.frames; shallow = h.shallow }
-
-  readings_names : (new : List (List ℕ)) (c : Option Call) (work : List Reading) → ReadingsBy c e book.number work → ReadingsBy c (with_names new e) book.number work
-  readings_names new None work h = frames_names new work h
-  readings_names new (Some c) [] h = h
-  readings_names new (Some c) (r ∷ rs) h = (call_names new c r h.0, record { innermost = h.1.innermost; frames = h.1.frames; shallow = h.1.shallow })
-
   pub takes_names : (want : Option Want) (new : List (List ℕ)) → Takes sizes want e book → Takes sizes want (with_names new e) book
-  takes_names want new h = (h.0, record { sound = sound_names new h.1.sound; idle = h.1.idle; all = join (with_names new e) book.number book.work (readings_names new (call_in e.input.call) book.work (split e book.number book.work h.1.all)) })
+  takes_names want new h = (h.0, record { sound = sound_names new h.1.sound; idle = h.1.idle; all = all_names new h.1.all })
 
   module _ (want : Option Want) (x : Lexeme) (t : Token) (is : t ≡ token_of (enters_of want) e.names.names x) (sound : IsSound sizes e book.number book.all_lists) where
     abbrev new : List (List ℕ)

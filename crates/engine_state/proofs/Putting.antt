@@ -36,7 +36,7 @@ use Rattle.engine_state.specs.Stands.{SameFrames, Counts, IsSized, IsSound, Stan
 use Rattle.engine_state.specs.Rules.{world_of, Cuts, Went, Reports, Halts}
 use Rattle.engine_state.proofs.Uncalled.{all_of}
 use Rattle.engine_state.proofs.Cutting.{cuts_by, later_cuts, full_cuts}
-use Rattle.engine_state.proofs.Joining.{IsQuiet, quiet_here, went_by, halts_on, halts_least}
+use Rattle.engine_state.proofs.Joining.{IsQuiet, quiet_here, column_went, went_by, halts_on, halts_least}
 use Rattle.engine_state.proofs.Storing.{store_join, store_making, store_settled, store_put, sound_still, words_more}
 
 -- a string for which there is no room
@@ -195,6 +195,11 @@ noting_kind_none (Skips c aim line) fed = grown_none (Skips c aim line) fed
 noting_none : (r : Reading) → steps (noting r) ≡ 0
 noting_none r = noting_kind_none r.kind r.fed
 
+-- the innermost frame goes on
+pub noted_frame : (sizes : Sizes) (e e1 : Engine) (w : World) (book : Book) (r : Reading) (rs : List Reading) → Did sizes (state_of e (with_work (r ∷ rs) book)) (state_of e1 (with_work (fed_with Noted (r ∷ rs)) book)) w w (noting r) →
+    Stands sizes e1 (with_work (fed_with Noted (r ∷ rs)) book) → Went sizes (state_of e (with_work (r ∷ rs) book)) e1 w w (noting r) 0
+noted_frame sizes e e1 w book r rs did st = record { book' = with_work (fed_with Noted (r ∷ rs)) book; stands = all_of sizes e1 (with_work (fed_with Noted (r ∷ rs)) book) st; did = did; count = noting_none r }
+
 inserted_none : (o : Option Token) → steps (put_inserted o) ≡ 0
 inserted_none None = refl
 inserted_none (Some t) = refl
@@ -241,30 +246,17 @@ module _ (sizes : Sizes) (e : Engine) (f : FilesTold) (s0 : SinkTold) (book : Bo
     whole_is h = told_is (page_of e book) report inserted back r ∙ ap (λ (x : List Move). fronts inserted back e.last ++ x) h.moves
 
     pub told_went : (e3 : Engine) → Reports sizes (state_of e1 (with_work (r ∷ rs) book)) (state_of e2 (with_work (r ∷ rs) book)) (world_of f s0 e1) (world_of f s2 e2) (page_of e1 book) report (noting r) → e3.in_line ≡ e2.in_line →
-        Did sizes (state_of e2 (with_work (r ∷ rs) book)) (state_of e3 (with_work (fed_with Noted (r ∷ rs)) book)) (world_of f s2 e2) (world_of f s2 e2) (noting r) → Stands sizes e3 (with_work (fed_with Noted (r ∷ rs)) book) →
+        Went sizes (state_of e2 (with_work (r ∷ rs) book)) e3 (world_of f s2 e2) (world_of f s2 e2) (noting r) 0 →
         Went sizes (state_of e (with_work (r ∷ rs) book)) e3 (world_of f s0 e) (world_of f s2 e3) (report_noted (page_of e book) report inserted back r) 0
-    told_went e3 rep column noted stands =
+    told_went e3 rep column noted =
         let h = on_page rep in
-        let noted' : Did sizes (state_of e2 (with_work (r ∷ rs) book)) (state_of e3 (with_work (fed_with Noted (r ∷ rs)) book)) (world_of f s2 e2) (world_of f s2 e3) (noting r) =
-        subst (λ (x : Bool). Did sizes (state_of e2 (with_work (r ∷ rs) book)) (state_of e3 (with_work (fed_with Noted (r ∷ rs)) book)) (world_of f s2 e2) (world f s2 x) (noting r)) (sym column) noted in
+        let noted' : Went sizes (state_of e2 (with_work (r ∷ rs) book)) e3 (world_of f s2 e2) (world_of f s2 e3) (noting r) 0 = column_went sizes _ e3 f s2 e2.in_line (noting r) 0 column noted in
         went_by sizes _ e3 _ _ (fronts inserted back e.last ++ (written ++ noting r)) _ 0 (whole_is h) (record {
-          book' = with_work (fed_with Noted (r ∷ rs)) book;
-          stands = all_of sizes e3 (with_work (fed_with Noted (r ∷ rs)) book) stands;
-          did = did_join sizes _ _ _ _ _ _ (fronts inserted back e.last) (written ++ noting r) front (did_join sizes _ _ _ _ _ _ written (noting r) h.did noted');
+          book' = noted'.book';
+          stands = noted'.stands;
+          did = did_join sizes _ _ _ _ _ _ (fronts inserted back e.last) (written ++ noting r) front (did_join sizes _ _ _ _ _ _ written (noting r) h.did noted'.did);
           count = steps_join (fronts inserted back e.last) (written ++ noting r) ∙ omega (arith, fronts_none inserted back e.last, steps_join written (noting r), noting_none r);
         })
-
-    -- the list has no room for what comes behind the report
-    pub told_full : (e3 : Engine) (b : Broken) → Reports sizes (state_of e1 (with_work (r ∷ rs) book)) (state_of e2 (with_work (r ∷ rs) book)) (world_of f s0 e1) (world_of f s2 e2) (page_of e1 book) report (noting r) → e3 ≡ e2 →
-        Cuts sizes (state_of e2 (with_work (r ∷ rs) book)) e3 (with_work (r ∷ rs) book) (world_of f s2 e2) (world_of f s2 e2) (noting r) b →
-        Cuts sizes (state_of e (with_work (r ∷ rs) book)) e3 (with_work (r ∷ rs) book) (world_of f s0 e) (world_of f s2 e3) (report_noted (page_of e book) report inserted back r) b
-    told_full e3 b rep is cuts =
-        let h = on_page rep in
-        let cuts' : Cuts sizes (state_of e2 (with_work (r ∷ rs) book)) e3 (with_work (r ∷ rs) book) (world_of f s2 e2) (world_of f s2 e3) (noting r) b =
-        subst (λ (x : Bool). Cuts sizes (state_of e2 (with_work (r ∷ rs) book)) e3 (with_work (r ∷ rs) book) (world_of f s2 e2) (world f s2 x) (noting r) b) (sym (ap (λ (y : Engine). y.in_line) is)) cuts in
-        cuts_by sizes _ e3 (with_work (r ∷ rs) book) _ _ _ _ b (whole_is h)
-        (later_cuts sizes _ _ e3 (with_work (r ∷ rs) book) _ _ _ (fronts inserted back e.last) (written ++ noting r) b front
-        (later_cuts sizes _ _ e3 (with_work (r ∷ rs) book) _ _ _ written (noting r) b h.did cuts'))
 
     pub told_halts : (o : Outcome) → e1.reports ≡ e.reports → Halts sizes (state_of e1 (with_work (r ∷ rs) book)) e2 (with_work (r ∷ rs) book) (world_of f s0 e1) (world_of f s2 e2) (reported (page_of e1 book) report (noting r)) o 0 →
         Halts sizes (state_of e (with_work (r ∷ rs) book)) e2 (with_work (r ∷ rs) book) (world_of f s0 e) (world_of f s2 e2) (report_noted (page_of e book) report inserted back r) o 1

@@ -13,14 +13,12 @@ use Rattle.engine_state.specs.declared.broken.Broken.{Broken}
 use Rattle.engine_state.specs.declared.engine.Engine.{Engine}
 use Rattle.engine_state.specs.declared.outcome.Next.{Next}
 use Rattle.engine_state.specs.declared.outcome.Next.TheVariants as next
-use Rattle.engine_state.specs.declared.outcome.Ruled.{Ruled}
-use Rattle.engine_state.specs.declared.outcome.Ruled.TheVariants as ruled
 use Rattle.engine_state.specs.Book.{Book}
 use Rattle.engine_state.specs.Calls.{AllStand}
 use Rattle.engine_state.specs.CutReadings.{FramesAtCut, CutsIn}
 use Rattle.engine_state.specs.Stands.{SameFrames, SameReadings}
-use Rattle.engine_state.specs.Rules.{Takes, CountsReports, Went, Halts, Cuts, Comes, Nexts, DoesRule}
-use Rattle.engine_state.specs.OneRule.{ReadsNext, CutsNext, DoesPlan, CutsPlan}
+use Rattle.engine_state.specs.Rules.{Takes, CountsReports, Went, Halts, Cuts, Comes, Nexts}
+use Rattle.engine_state.specs.OneRule.{ReadsNext, CutsNext}
 use Rattle.engine_state.proofs.CuttingReadings.{near_still}
 use Rattle.engine_state.proofs.CallKept.{all_still}
 use Rattle.engine_state.proofs.Storing.{store_same, sound_still}
@@ -74,11 +72,6 @@ module _ (b : Bool) (sizes : Sizes) (s : State) (e : Engine) (w w' : World) (mov
   noted_nexts want book next.Skipped h = noted_went 0 h
   noted_nexts want book (next.Over o) h = noted_halts book o 1 h
 
-  noted_does : (book : Book) (r : Ruled) → DoesRule sizes s e book w w' moves r → DoesRule sizes s (noted b e) book w w' moves r
-  noted_does book ruled.Step h = noted_went 1 h
-  noted_does book ruled.Free h = noted_went 0 h
-  noted_does book (ruled.Halted o) h = noted_halts book o 1 h
-
 -- ONE RULE
 
 module _ (b : Bool) (e e' : Engine) (before after : SinkTold) where
@@ -87,9 +80,3 @@ module _ (b : Bool) (e e' : Engine) (before after : SinkTold) where
 
   pub cuts_noted : (enters : Bool) (x : Broken) → CutsNext enters e e' before after x → CutsNext enters e (noted b e') before after x
   cuts_noted enters x h = λ sizes f book want is takes. noted_in b sizes _ e' _ _ _ x (h sizes f book want is takes)
-
-  pub does_noted : (r : Ruled) → DoesPlan e e' before after r → DoesPlan e (noted b e') before after r
-  does_noted r h = λ sizes f book st. noted_does b sizes _ e' _ _ _ book r (h sizes f book st)
-
-  pub plan_noted : (x : Broken) → CutsPlan e e' before after x → CutsPlan e (noted b e') before after x
-  plan_noted x h = λ sizes f book st. noted_in b sizes _ e' _ _ _ x (h sizes f book st)

@@ -115,6 +115,11 @@ abbrev pub CutsAtReading : (e e' : Engine) → (Page → Reading → List Move) 
 CutsAtReading e e' moves b = (sizes : Sizes) (w : World) (book : Book) (r : Reading) (rs : List Reading) → Stands sizes e (with_work (r ∷ rs) book) →
     CutsIn sizes (state_of e (with_work (r ∷ rs) book)) e' w w (moves (page_of e book) r) b
 
+-- Where this is so, what the moves do that depend on the innermost reading r, a call's or another, with nothing written, is as said.
+abbrev pub DoesInnermost : {A : Type 0} → (If : Type 0) → (Does : Sizes → State → Engine → World → World → List Move → A → Type 0) → (e e' : Engine) → (Reading → List Move) → A → Type 0
+DoesInnermost If Does e e' moves a = (sizes : Sizes) (w : World) (book : Book) (r : Reading) (rs : List Reading) → If → AllStand sizes e (with_work (r ∷ rs) book) →
+    Does sizes (state_of e (with_work (r ∷ rs) book)) e' w w (moves r) a
+
 -- The innermost reading r is fed with this by these moves, with nothing written, and the engine stands for what comes of them.
 abbrev pub FeedsReading : (e e' : Engine) → Fed → (Reading → List Move) → Type 0
 FeedsReading e e' x moves = (sizes : Sizes) (w : World) (book : Book) (r : Reading) (rs : List Reading) → Stands sizes e (with_work (r ∷ rs) book) →

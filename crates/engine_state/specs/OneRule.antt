@@ -6,12 +6,10 @@ use Rattle.world_io.specs.Contents.{FilesTold, SinkTold}
 use Rattle.engine_state.specs.declared.broken.Broken.{Broken}
 use Rattle.engine_state.specs.declared.engine.Engine.{Engine}
 use Rattle.engine_state.specs.declared.outcome.Next.{Next}
-use Rattle.engine_state.specs.declared.outcome.Ruled.{Ruled}
 use Rattle.engine_state.specs.Book.{Book}
-use Rattle.engine_state.specs.Calls.{AllStand}
 use Rattle.engine_state.specs.CutReadings.{CutsIn}
 use Rattle.engine_state.specs.Stands.{state_of}
-use Rattle.engine_state.specs.Rules.{world_of, plan_of, enters_of, next_moves, Takes, Nexts, DoesRule}
+use Rattle.engine_state.specs.Rules.{world_of, enters_of, next_moves, Takes, Nexts}
 
 -- The next reading does this, over any files and for whatever wants a token, and enters names so.
 abbrev pub ReadsNext : (enters : Bool) → (e e' : Engine) → (before after : SinkTold) → Next → Type 0
@@ -22,13 +20,3 @@ ReadsNext enters e e' before after next = (sizes : Sizes) (f : FilesTold) (book 
 abbrev pub CutsNext : (enters : Bool) → (e e' : Engine) → (before after : SinkTold) → Broken → Type 0
 CutsNext enters e e' before after b = (sizes : Sizes) (f : FilesTold) (book : Book) (want : Option Want) → enters ≡ enters_of want → Takes sizes want e book →
     CutsIn sizes (state_of e book) e' (world_of f before e) (world_of f after e') (next_moves want e book) b
-
--- The rule that comes next does this, over any files.
-abbrev pub DoesPlan : (e e' : Engine) → (before after : SinkTold) → Ruled → Type 0
-DoesPlan e e' before after ruled = (sizes : Sizes) (f : FilesTold) (book : Book) → AllStand sizes e book →
-    DoesRule sizes (state_of e book) e' book (world_of f before e) (world_of f after e') (plan_of e book) ruled
-
--- it is cut off
-abbrev pub CutsPlan : (e e' : Engine) → (before after : SinkTold) → Broken → Type 0
-CutsPlan e e' before after b = (sizes : Sizes) (f : FilesTold) (book : Book) → AllStand sizes e book →
-    CutsIn sizes (state_of e book) e' (world_of f before e) (world_of f after e') (plan_of e book) b

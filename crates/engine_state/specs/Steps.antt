@@ -1,5 +1,5 @@
 -- Whether the next rule needs a step, and how many rules without a step may follow.
-use Rattle.std.specs.Prelude.{◌≡◌, ℕ, ◌+◌, drop, length, sum_by, List, Bool, true, false, ◌&&◌, Option, Some, None}
+use Rattle.std.specs.Prelude.{◌≡◌, ℕ, ◌+◌, [], drop, length, sum_by, List, Bool, true, false, ◌&&◌, Option, Some, None}
 use Rattle.tex_syntax.specs.declared.words.Outcome.TheVariants.{AtFatal}
 use Rattle.tex_defs.specs.declared.Fatal.TheVariants.{HundredErrors}
 use Rattle.tex_defs.specs.declared.Seen.{Seen}
@@ -12,8 +12,6 @@ use Rattle.reading_frames.specs.Weights.{frames_weight, stack_weight}
 use Rattle.input_state.specs.Reads.{gives_step}
 use Rattle.input_state.specs.declared.answer.Call.{Call}
 use Rattle.input_state.specs.Callings.{Calling, call_in}
-use Rattle.macro_call.specs.declared.ask.CallAsk.{CallAsk}
-use Rattle.macro_call.specs.declared.ask.CallAsk.TheVariants as call
 use Rattle.engine_state.specs.declared.engine.Engine.{Engine}
 use Rattle.engine_state.specs.Calls.{asks_of}
 use Rattle.engine_state.specs.declared.outcome.Ruled.{Ruled}
@@ -39,14 +37,14 @@ asked_by (Some c) k a = Some (asks_of c k)
 abbrev pub asks_now : Engine → Option reading.Ask
 asks_now e = asked_by (call_in e.input.call) e.input.call (asked e)
 
+-- over no lists: of a frame what it asks for but for the lists in it
+abbrev pub asks_bare : Engine → Option reading.Ask
+asks_bare e = asked_by (call_in e.input.call) e.input.call (asks_in e.readings.frames [])
+
 -- it asks for a token, or no reading is open
 abbrev pub wants_token : Option reading.Ask → Bool
 wants_token None = true
 wants_token (Some a) = asks_more a
-
-abbrev pub call_asks_more : CallAsk → Bool
-call_asks_more call.More = true
-call_asks_more a = false
 
 -- WHETHER A FILE IS TO BE OPENED
 
@@ -72,7 +70,7 @@ outer_weight outer = sum_by (λ s. length s.line + file_weight s.file) outer
 abbrev pub pending_weight : Pending → ℕ
 pending_weight p = (length p.line + file_weight p.file) + outer_weight p.outer
 
--- the open readings: the frames, and what the innermost asks for; of a call that stands in the input
+-- the open readings: the frames, and what the innermost asks for; of a call, that stands in the input
 abbrev pub readings_weight : Option Call → Engine → ℕ
 readings_weight None e = stack_weight e.readings
 readings_weight (Some c) e = act_frame + frames_weight (drop 1 e.readings.frames) + ask_weight behind_weight (asks_of c e.input.call)

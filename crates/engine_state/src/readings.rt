@@ -1,27 +1,32 @@
 // The open readings: frames, and the lists that they hold.
-ghost use Rattle.std.specs.Prelude.{◌≡◌, ◌<◌, ◌≤◌, ◌+◌, ◌-◌, ◌^◌, List, [], ◌∷◌, length, drop, IfErr, OnOk, OnErr, Some, None, IsSome, MatchBool};
+ghost use Rattle.std.specs.Prelude.{◌≡◌, ◌<◌, ◌≤◌, ◌+◌, ◌-◌, ◌^◌, List, [], ◌∷◌, length, drop, IfErr, OnOk, OnErr, Some, None, IsSome, MatchBool, false};
 ghost use Rattle.equivalents.specs.Groups.{IsLocation};
 ghost use Rattle.equivalents.specs.Locations.{value_seen};
 ghost use Rattle.equivalents.specs.Tables.{get};
-ghost use Rattle.rows.specs.Readings.{Tok, Noted, Fetched, Val, Fetches};
+ghost use Rattle.rows.specs.Readings.{Tok, Noted, Fetched, Val, Fetches, More};
 ghost use Rattle.plain_readings.specs.Readings.{fed_with, opened, opened_with, lists};
 ghost use Rattle.plain_readings.specs.Weights.{value_frame, act_frame, value_weight, act_weight};
 ghost use Rattle.plain_tokens.specs.Tables.{memory, refused};
+ghost use Rattle.tex_syntax.specs.declared.words.Want.{Want};
 ghost use Rattle.reading_frames.specs.Views.{reading_kind, has_no_token, on_top};
 ghost use Rattle.reading_frames.specs.Resumes.{listed_lists, token_count};
 ghost use Rattle.reading_frames.specs.Frames.{opened_lists};
-ghost use Rattle.input_state.specs.Callings.{NotCalling};
+ghost use Rattle.input_state.specs.Callings.{NotCalling, call_in};
+ghost use Rattle.input_state.specs.declared.answer.Call.{Call};
+ghost use Rattle.input_state.specs.Calls.{text_of};
+ghost use Rattle.input_state.specs.CallFeeds.{IsTaking, Feeds as FeedsCall, CutShort, call_work, growth};
 ghost use Rattle.input_state.specs.Stored.{KeepsShared, words as stored_words};
 ghost use Rattle.reading_frames.specs.Weights.{frames_weight, opening_frame, innermost_weight, begun_weight, begun_with_weight, IsReported};
 ghost use Rattle.reading_frames.specs.Stack.{asks_in, innermost_groups};
 ghost use Rattle.plain_machine.specs.States.{Begun, BegunWith, Closed, Ended, Feeds, made};
 ghost use Rattle.plain_machine.specs.Plan.{noting, value_tokens, feeding};
 ghost use Rattle.engine_state.specs.Book.{with_work};
-ghost use Rattle.engine_state.specs.Clauses.{CutsAtReading, FeedsReading, IsMadeBy, RefusedAs, StandsFor, WhereDone, WhereOpen, WhereSound};
-ghost use Rattle.engine_state.specs.CutReadings.{with_token};
+ghost use Rattle.engine_state.specs.Clauses.{CutsAtReading, DoesInnermost, FeedsReading, IsMadeBy, RefusedAs, StandsFor, WhereDone, WhereOpen, WhereSound};
+ghost use Rattle.engine_state.specs.CutReadings.{CutsIn, with_token};
 ghost use Rattle.engine_state.specs.Feeding.{HasTop, IsKept, TokensFit, TokensCut, with_tokens};
-ghost use Rattle.engine_state.specs.Stands.{Stands, SameBut, state_of};
-ghost use Rattle.engine_state.specs.Steps.{asked};
+ghost use Rattle.engine_state.specs.Rules.{Went};
+ghost use Rattle.engine_state.specs.Stands.{Stands, SameBut, SameElse, state_of};
+ghost use Rattle.engine_state.specs.Steps.{asked, asks_bare, asks_now, wants_token, weight};
 ghost use Rattle.engine_state.specs.declared.broken.Broken.TheVariants as broken;
 
 use crate::engine::Engine;
@@ -105,12 +110,56 @@ impl Engine {
         Ok(())
     }
 
+    /// The innermost reading takes a token: a call, where one takes tokens, and else the innermost frame.
+    ///
+    /// # Errors
+    /// The main memory is full before a token that goes into its list, where those in front of it may be there, or before the list of a call's next
+    /// argument; the frames stand as before.
+    #[inline(always)]
+    pub fn feed(&mut self, x: Seen) -> Result<(), Full>
+        ensures ok { OnOk result ((want : Want) → DoesInnermost (asks_now self.old ≡ Some (More want)) Went self.old self.new (λ r. feeding r x) 0) }
+        ensures err { IfErr result (λ full. (want : Want) → DoesInnermost (asks_now self.old ≡ Some (More want)) CutsIn self.old self.new (λ r. feeding r x) (broken.Full full)) }
+        ensures column { self.new.in_line ≡ self.old.in_line }
+        ensures idle { self.new.input.making ≡ self.old.input.making }
+    {
+        if self.input.is_taking() {
+            return self.feed_call(x);
+        }
+        self.feed_frame(x)
+    }
+
+    /// The call takes a token. *TeX: The Program*, part 25 (`macro_call`).
+    ///
+    /// # Errors
+    /// As [`Engine::feed`].
+    fn feed_call(&mut self, x: Seen) -> Result<(), Full>
+        requires { IsTaking self.old.input.call }
+        ensures ok { OnOk result (FeedsCall (text_of self.old.input.lists self.old.input.groups.now.meanings) x.token self.old.input.call self.new.input.call) }
+        ensures fits { OnOk result (stored_words self.old.input + length (growth (text_of self.old.input.lists self.old.input.groups.now.meanings) x.token self.old.input.call) ≤ self.old.input.sizes.main_memory_size) }
+        ensures err { OnErr result (CutShort (text_of self.old.input.lists self.old.input.groups.now.meanings) x.token self.old.input.call self.new.input.call) }
+        ensures full { IfErr result (λ full. refused self.new.input.sizes (memory 1 (stored_words self.new.input) ∷ []) ≡ Some full) }
+        ensures within { stored_words self.new.input ≤ self.new.input.sizes.main_memory_size }
+        ensures last { OnOk result (self.new.last ≡ x) }
+        ensures fed { OnErr result (call_work self.new.input.call ≡ None → self.new.last ≡ x) }
+        ensures unfed { OnErr result ((work : List Token) → call_work self.new.input.call ≡ Some work → self.new.last ≡ self.old.last) }
+        ensures others { self.new ≡ record self.old { last = self.new.last; input = record self.old.input { call = self.new.input.call; lists = self.new.input.lists } } }
+        ensures keeps { KeepsShared self.old.input self.new.input }
+    {
+        let fed = self.input.feed_call(x.token);
+        if fed.is_ok() || self.input.call_list().is_none() {
+            self.last = x;
+        }
+        // What is used of the main memory is at most its size.
+        let _used = self.input.words();
+        fed
+    }
+
     /// The innermost frame takes a token.
     ///
     /// # Errors
     /// The main memory is full before a token that goes into its list; one in front of it may be there, and the frame stands as before.
     #[inline(always)]
-    pub fn feed(&mut self, x: Seen) -> Result<(), Full>
+    fn feed_frame(&mut self, x: Seen) -> Result<(), Full>
         ensures stands { OnOk result (StandsFor self.old self.new (λ _. fed_with (Tok x))) }
         ensures did { OnOk result (FeedsReading self.old self.new (Tok x) (λ r. feeding r x)) }
         ensures refused { IfErr result (λ full. CutsAtReading self.old self.new (λ _ r. feeding r x) (broken.Full full)) }
@@ -135,10 +184,10 @@ impl Engine {
         Ok(())
     }
 
-    /// As [`Engine::feed`], where the main memory may be full: the frame is kept meanwhile.
+    /// As [`Engine::feed_frame`], where the main memory may be full: the frame is kept meanwhile.
     ///
     /// # Errors
-    /// As [`Engine::feed`].
+    /// As [`Engine::feed_frame`].
     #[cold]
     #[inline(never)]
     fn feed_at_risk(&mut self, x: Seen) -> Result<(), Full>
@@ -160,11 +209,33 @@ impl Engine {
         Ok(())
     }
 
-    /// The innermost frame goes on behind its report, a token put back, a name that became `\relax`, or the magnification checked.
+    /// The innermost reading goes on behind its report, a token put back, a name that became `\relax`, or the magnification checked: a call, where one
+    /// takes tokens, and else the innermost frame.
     ///
     /// # Errors
     /// The main memory is full; as [`Engine::feed`].
     pub fn note(&mut self) -> Result<(), Full>
+        ensures ok { OnOk result (DoesInnermost (IsReported (asks_now self.old)) Went self.old self.new (λ r. noting r) 0) }
+        ensures err { IfErr result (λ full. DoesInnermost (IsReported (asks_now self.old)) CutsIn self.old self.new (λ r. noting r) (broken.Full full)) }
+        ensures stands { OnOk result (StandsFor self.old self.new (λ _. fed_with Noted)) }
+        ensures did { OnOk result (FeedsReading self.old self.new Noted noting) }
+        ensures refused { IfErr result (λ full. CutsAtReading self.old self.new (λ _ r. noting r) (broken.Full full)) }
+        ensures light { OnOk result (IsReported (asks_bare self.old) → weight self.new < weight self.old) }
+        ensures column { self.new.in_line ≡ self.old.in_line }
+        ensures idle { self.new.input.making ≡ self.old.input.making }
+    {
+        if self.input.is_taking() {
+            self.input.note_call();
+            return Ok(());
+        }
+        self.note_frame()
+    }
+
+    /// The innermost frame goes on.
+    ///
+    /// # Errors
+    /// The main memory is full; as [`Engine::feed_frame`].
+    fn note_frame(&mut self) -> Result<(), Full>
         ensures stands { OnOk result (StandsFor self.old self.new (λ _. fed_with Noted)) }
         ensures did { OnOk result (FeedsReading self.old self.new Noted noting) }
         ensures refused { IfErr result (λ full. CutsAtReading self.old self.new (λ _ r. noting r) (broken.Full full)) }
@@ -217,11 +288,17 @@ impl Engine {
         }
     }
 
-    /// Ends the innermost reading without a value; its lists go.
+    /// Ends the innermost reading without a value, a call, where one gathers its arguments, and else a frame; its lists go.
     pub fn close_reading(&mut self)
+        ensures ends { DoesInnermost (Unit {0}) Went self.old self.new (λ _. Closed ∷ []) 0 }
+        ensures light { (call : Call) → call_in self.old.input.call ≡ Some call → wants_token (asks_now self.old) ≡ false → weight self.new < weight self.old }
         ensures stands { WhereOpen self.old (λ sizes book _ rs. Stands sizes self.new (with_work rs book)) }
         ensures state { WhereOpen self.old (λ _ book r rs. made Closed (state_of self.old (with_work (r ∷ rs) book)) ≡ state_of self.new (with_work rs book)) }
-        ensures same { SameBut self.old self.new }
+        ensures same { self.old.input.call ≡ NotCalling → SameBut self.old self.new }
+        ensures others { SameElse self.old self.new }
+        ensures pending { self.new.input.pending ≡ self.old.input.pending }
+        ensures column { self.new.in_line ≡ self.old.in_line }
+        ensures idle { self.new.input.making ≡ self.old.input.making }
         ensures weight { innermost_weight self.new.readings.frames < act_frame + act_weight }
         ensures fewer { length self.new.readings.frames ≡ length self.old.readings.frames - 1 }
         ensures frames { frames_weight self.new.readings.frames ≡ frames_weight (drop 1 self.old.readings.frames) }
@@ -229,6 +306,11 @@ impl Engine {
         ensures buffer { self.new.input.buffer ≡ self.old.input.buffer }
         ensures stopped { self.new.stopped ≡ self.old.stopped }
     {
+        if self.input.is_calling() {
+            self.input.drop_call();
+            self.readings.end();
+            return;
+        }
         if self.readings.end() {
             self.drop_top();
         }

@@ -1,6 +1,7 @@
 -- The name of a macro is expanded: its body is put, or its arguments are gathered.
-use Rattle.std.proofs.Common.{◌≡◌, ℕ, List, [], ◌∷◌, ◌++◌, append-nil, refl, sym, ap, subst, ◌∙◌, Bool, true, false}
-use Rattle.std.specs.Prelude.{Option, Some, None, Result, Ok, Err, OnOk, OnErr, IfErr, ◌||◌, ◌&&◌, if◌then◌else◌, take}
+use Rattle.std.proofs.Common.{◌≡◌, ℕ, List, [], ◌∷◌, ◌++◌, append-nil, refl, sym, ap, subst, ◌∙◌, Bool, true, false, arith}
+use Rattle.std.specs.Prelude.{Option, Some, None, Result, Ok, Err, OnOk, OnErr, IfErr, ◌||◌, ◌&&◌, if◌then◌else◌, not, take}
+use Rattle.tex_syntax.specs.declared.words.Want.TheVariants.{Raw}
 use Rattle.tex_defs.specs.declared.Full.{Full}
 use Rattle.tex_defs.specs.declared.Meaning.{Meaning}
 use Rattle.tex_defs.specs.declared.Meaning.TheVariants as means
@@ -8,14 +9,16 @@ use Rattle.tex_defs.specs.declared.Name.{Name}
 use Rattle.tex_defs.specs.declared.Sizes.{Sizes}
 use Rattle.tex_defs.specs.declared.Token.{Token}
 use Rattle.tex_defs.specs.Places.{World}
-use Rattle.plain_tokens.specs.Arguments.{ParMode, arguments_in, work_in, call, start_of, delimiters_of, is_nil, is_some_place, begins_with_place, has_parameters, mode_of}
+use Rattle.plain_tokens.specs.Arguments.{ParMode, call, start_of, delimiters_of, is_nil, is_some_place, begins_with_place, has_parameters, mode_of}
 use Rattle.plain_tokens.specs.Meanings.{is_listed, name_meaning}
 use Rattle.equivalents.specs.Holding.{lists_held}
 use Rattle.plain_tokens.specs.Names.{name_of}
 use Rattle.plain_tokens.specs.Pending.{end_token_lists, all_puts}
 use Rattle.plain_tokens.specs.Puts.{Item, Put, call_put}
 use Rattle.plain_readings.specs.Readings as reading
-use Rattle.plain_readings.specs.Calls.{call_fed}
+use Rattle.rows.specs.Readings as asks
+use Rattle.rows.specs.Readings.{Fed}
+use Rattle.plain_readings.specs.Calls.{arguments, call_ask, call_fed, gathered, call_lists as lists_in}
 use Rattle.plain_readings.specs.Readings.{Reading}
 use Rattle.plain_machine.specs.States.{Begun, made}
 use Rattle.plain_tokens.specs.Tables.{lists_words, memory, refused, is_put}
@@ -25,22 +28,22 @@ use Rattle.plain_machine.specs.Numbers.{IsHeld, meaning_of, put_of as numbered}
 use Rattle.plain_machine.specs.Plan.{Page, body_put, called, called_by, called_meaning}
 use Rattle.plain_machine.proofs.Doing.{did_one}
 use Rattle.plain_machine.proofs.Renumbering.{name_meaning_of}
-use Rattle.macro_call.specs.PlainScans.{Scan, first_by, first_scan, scan_work}
+use Rattle.macro_call.specs.PlainScans.{Scan, first_by, first_scan, resume_scan}
 use Rattle.macro_call.proofs.PlainScans.{scans_gather}
 use Rattle.input_state.specs.declared.answer.CallKind.{CallKind}
 use Rattle.input_state.specs.declared.answer.CallKind.TheVariants as kind
-use Rattle.input_state.specs.declared.answer.Call.{Call}
-use Rattle.input_state.specs.Callings.{Calling, Gathering, call_lists, scan_lists}
-use Rattle.gullet.proofs.CallsIn.{first_asks}
+use Rattle.input_state.specs.Callings.{Calling, Gathering, call_lists, scan_asks, scan_lists}
 use Rattle.input_state.specs.Calls.{after_call, begun_lists, call_kind, called_put, macro_text, text_of}
 use Rattle.input_state.specs.Macros.{list_at}
 use Rattle.input_state.specs.Stored.{KeepsShared, call_refusal, words}
 use Rattle.engine_state.specs.declared.broken.Broken.TheVariants as broken
 use Rattle.engine_state.specs.declared.engine.Engine.{Engine}
 use Rattle.engine_state.specs.Book.{Book, with_work}
-use Rattle.engine_state.specs.Calls.{AllStand, HasWork, open_call}
-use Rattle.engine_state.proofs.CallsKnown.{CallStands, Gathers, ReadingsBy, join, gathers_lists}
+use Rattle.engine_state.specs.Calls.{AllStand, HasRead}
+use Rattle.reading_frames.specs.Frames.{Begins, OpenCall}
 use Rattle.reading_frames.specs.Stack.{call_begun}
+use Rattle.reading_frames.specs.declared.frame.Frame.TheVariants as frame
+use Rattle.reading_frames.proofs.Feeding.{begun}
 use Rattle.engine_state.specs.Stands.{SameFrames, SameStore, Stands, state_of, page_of}
 use Rattle.engine_state.specs.Rules.{Cuts, Went}
 use Rattle.engine_state.proofs.Uncalled.{all_of}
@@ -120,38 +123,35 @@ called_none e book t name is_name is = called_is e book t name is_name ∙ none_
 
 -- A SCANNER THAT BEGINS
 
-first_args : (begins : Bool) (mode : ParMode) → (first_by begins mode).args ≡ []
-first_args true mode = refl
-first_args false mode = refl
+-- it asks for more, and has gathered nothing yet
+first_read : (mode other : ParMode) (start : List Token) (places : List (List Token)) → (not (is_nil start) || is_some_place places) ≡ true →
+    HasRead (scan_asks (first_by (is_nil start && is_some_place places) other)) (first_by (is_nil start && is_some_place places) other) (call mode start (take 9 places) [])
+first_read mode other [] [] some = absurd cc
+first_read mode other [] (ds ∷ places) some = record { says = refl; args = refl; work = refl; bare = λ none. refl }
+first_read mode other (d ∷ ds) places some = record { says = refl; args = refl; work = refl; bare = λ none. refl }
 
-answer_args : (mode : ParMode) (start : List Token) (places : List (List Token)) → arguments_in (call mode start places []) ≡ []
-answer_args mode [] [] = refl
-answer_args mode [] (ds ∷ places) = refl
-answer_args mode (d ∷ ds) places = refl
+-- it asks for what its arguments come to: where nothing was read, for more
+begun_more : (name : Name) (mode : ParMode) (start : List Token) (places : List (List Token)) → (not (is_nil start) || is_some_place places) ≡ true → asks.More Raw ≡ call_ask name (call mode start (take 9 places) [])
+begun_more name mode [] [] some = absurd cc
+begun_more name mode [] (ds ∷ places) some = refl
+begun_more name mode (d ∷ ds) places some = refl
 
-answer_work : (mode other : ParMode) (start : List Token) (places : List (List Token)) → work_in (call mode start (take 9 places) []) ≡ scan_work (first_by (is_nil start && is_some_place places) other)
-answer_work mode other [] [] = refl
-answer_work mode other [] (ds ∷ places) = refl
-answer_work mode other (d ∷ ds) places = refl
-
--- nothing has been gathered yet
-first_gathers : (long : Bool) (text : List Token) → Gathers long text (first_scan text (mode_of long)) []
-first_gathers long text = record {
-  args = answer_args (mode_of long) (start_of text) _ ∙ sym (first_args (begins_with_place text) (mode_of long));
-  work = answer_work (mode_of long) (mode_of long) (start_of text) (delimiters_of text);
-  goes_on = λ more. sym (scans_gather.first text (mode_of long) (call_fed more));
-}
-
-first_has : (begins : Bool) (mode : ParMode) → HasWork (first_by begins mode)
-first_has begins mode none = first_args begins mode
+asks_gathered : (name : Name) (long : Bool) (text : List Token) (fed : List Fed) → has_parameters text ≡ true → arguments name long text fed ≡ call_ask name (gathered long text fed)
+asks_gathered name long text [] places = begun_more name (mode_of long) (start_of text) (delimiters_of text) places
+asks_gathered name long text (y ∷ fed) places = refl
 
 first_lists : (begins : Bool) (mode : ParMode) → scan_lists (first_by begins mode) ≡ (if begins then [] ∷ [] else [])
 first_lists true mode = refl
 first_lists false mode = refl
 
+begins_with : (mode : ParMode) (start : List Token) (places : List (List Token)) → lists_in (call mode start (take 9 places) []) ≡ (if is_nil start && is_some_place places then [] ∷ [] else [])
+begins_with mode [] [] = refl
+begins_with mode [] (ds ∷ places) = refl
+begins_with mode (d ∷ ds) places = refl
+
 -- its list is begun with it, where its first place comes first
 pub begun_are : (name : Name) (long : Bool) (number : ℕ) (text : List Token) → reading.lists (reading.Arguments name long number text) [] ≡ begun_lists text
-begun_are name long number text = gathers_lists long text (first_scan text (mode_of long)) [] (first_gathers long text) ∙ first_lists (begins_with_place text) (mode_of long)
+begun_are name long number text = begins_with (mode_of long) (start_of text) (delimiters_of text)
 
 -- the words that are asked for
 pub begun_words : (e : Engine) (name : Name) (long : Bool) (number : ℕ) (o : Option Full) → refused e.input.sizes (memory (lists_words (begun_lists (text_of e.input.lists e.input.groups.now.meanings name))) (words e.input) ∷ []) ≡ o →
@@ -216,24 +216,36 @@ module _ (sizes : Sizes) (e : Engine) (book : Book) (t : Token) (name : Name) (i
   abbrev calling : Engine
   calling = record e { readings = call_begun name e.readings; input = record e.input { call = Gathering name scan } }
 
-  call_stands : has_parameters ts ≡ true → CallStands calling book.number (open_call name) (fresh K)
-  call_stands places = record {
-    long = h.long;
-    outer = h.outer;
-    id = h.id;
-    meaning = h.meaning;
-    kind = refl;
-    places = places;
-    asked = refl;
-    at = (refl, (first_has (begins_with_place ts) (mode_of h.long), first_gathers h.long ts));
-    holds = gathers_lists h.long ts scan [] (first_gathers h.long ts);
+  abbrev frame_call : OpenCall
+  frame_call = record { name = name; text = ts; answers = resume_scan ts scan }
+
+  -- the scanner gathers what the reading does
+  first : (fed : List Fed) → gathered h.long ts fed ≡ resume_scan ts scan (call_fed fed)
+  first fed = sym (scans_gather.first ts (mode_of h.long) (call_fed fed))
+
+  begins : has_parameters ts ≡ true → Begins (Some frame_call) K (frame.Call name) e.input.builds e.input.builds
+  begins places = record {
+    asks = λ fed. asks_gathered name h.long ts fed places ∙ ap (call_ask name) (first fed);
+    lists_are = λ fed. ap lists_in (first fed);
+    holds = omega arith;
+    beneath = refl;
+    checks = refl;
+    framed = (refl, refl, first);
+    apart = refl;
   }
 
   calling_stands : has_parameters ts ≡ true → AllStand sizes calling (with_work (fresh K ∷ book.work) book)
   calling_stands places = record {
     sound = sound_still sizes e calling book.number book.all_lists refl refl refl refl refl (store_scan e.input calling.input (Gathering name scan) refl) st.sound;
     idle = st.idle;
-    all = join calling book.number (fresh K ∷ book.work) (subst (λ (o : Option Call). ReadingsBy o calling book.number (fresh K ∷ book.work)) (sym (first_asks name ts (mode_of h.long))) (call_stands places, record { innermost = refl; frames = st.readings.frames; shallow = st.readings.shallow }));
+    all = record {
+      readings = record {
+        text = ts;
+        frames = record { frames = begun (Some frame_call) K (frame.Call name) e.readings.frames e.input.builds e.input.builds book.work (begins places) st.readings.frames; shallow = (omega arith, st.readings.shallow) };
+        far = subst (HasRead (scan_asks scan) scan) (first []) (first_read (mode_of h.long) (mode_of h.long) (start_of ts) (delimiters_of ts) places);
+      };
+      macro = record { long = h.long; outer = h.outer; id = h.id; meaning = h.meaning; list = refl; kind = refl; places = places };
+    };
   }
 
   module _ (long : Bool) (e2 : Engine) (same : long ≡ h.long) (after : e2 ≡ record e { readings = call_begun name e.readings; input = record e.input { call = Gathering name (first_scan (text_of e.input.lists e.input.groups.now.meanings name) (mode_of long)); lists = e2.input.lists } }) (all_lists : KeepsShared e.input e2.input) where
@@ -269,7 +281,7 @@ module _ (sizes : Sizes) (e : Engine) (book : Book) (t : Token) (name : Name) (i
     begun_state : made (Begun K) (state_of e book) ≡ state_of e2 (with_work (fresh K ∷ book.work) book)
     begun_state =
         ap (λ (l : List (List Token)). record (state_of e book) { work = fresh K ∷ book.work; gathered = reading.lists K [] ++ l }) (ap (λ (k : Calling). call_lists k ++ e.input.builds) st.uncalled)
-        ∙ ap (λ (l : List (List Token)). record (state_of e book) { work = fresh K ∷ book.work; gathered = l ++ e.input.builds }) (gathers_lists h.long ts scan [] (first_gathers h.long ts))
+        ∙ ap (λ (l : List (List Token)). record (state_of e book) { work = fresh K ∷ book.work; gathered = l ++ e.input.builds }) (begun_are name h.long (book.number h.id) ts ∙ sym (first_lists (begins_with_place ts) (mode_of h.long)))
         ∙ ap (λ (y : Engine). state_of y (with_work (fresh K ∷ book.work) book)) (sym now)
 
     pub begun_went : (w : World) → call_kind e.input.lists (name_meaning e.input.groups.now.meanings name) ≡ kind.Gathers →

@@ -34,11 +34,11 @@ use Rattle.macro_call.specs.declared.ask.CallAsk.TheVariants as asked
 use Rattle.engine_state.specs.declared.engine.Engine.{Engine}
 use Rattle.engine_state.specs.Book.{Book, with_work}
 use Rattle.engine_state.specs.Calls.{args_of, AllStand}
-use Rattle.engine_state.proofs.CallsKnown.{CallStands, IsGathered, ReadingsBy, join}
+use Rattle.engine_state.proofs.CallsKnown.{CallStands, IsGathered, ReadingsBy}
 use Rattle.reading_frames.specs.Stack.{reading_ended}
 use Rattle.engine_state.specs.Stands.{IsSound, SameStore, state_of}
 use Rattle.engine_state.specs.Rules.{world_of, Cuts, Went}
-use Rattle.gullet.proofs.CallEnding.{here, closed_went, lists_gone}
+use Rattle.engine_state.proofs.CallEnding.{here, closed_went, ended_stand, lists_gone}
 use Rattle.engine_state.proofs.CallKept.{meant_by}
 use Rattle.engine_state.proofs.Cutting.{later_cuts, full_cuts, cuts_by}
 use Rattle.engine_state.proofs.Joining.{quiet_here, quiet_wrote, went_by}
@@ -48,14 +48,14 @@ use Rattle.gullet.proofs.Ending.{none_found}
 -- WHAT IS PUT
 
 -- the macro of the call
-pub put_is : (e : Engine) (number : ℕ → ℕ) (c : Call) (r : Reading) (h : CallStands e number c r) → IsGathered c.name h.long (list_at e.input.lists h.id) e.input.call r.fed → put_of e.input.lists e.input.groups.now.meanings e.input.call ≡ call_put h.id (list_at e.input.lists h.id) (args_of e.input.call)
+pub put_is : (e : Engine) (number : ℕ → ℕ) (c : Call) (r : Reading) (h : CallStands e number c r) → IsGathered c.name e.input.call → put_of e.input.lists e.input.groups.now.meanings e.input.call ≡ call_put h.id (list_at e.input.lists h.id) (args_of e.input.call)
 put_is e number c r h at = by_calling e.input.call at where
-  by_calling : (k : Calling) → IsGathered c.name h.long (list_at e.input.lists h.id) k r.fed → put_of e.input.lists e.input.groups.now.meanings k ≡ call_put h.id (list_at e.input.lists h.id) (args_of k)
+  by_calling : (k : Calling) → IsGathered c.name k → put_of e.input.lists e.input.groups.now.meanings k ≡ call_put h.id (list_at e.input.lists h.id) (args_of k)
   by_calling calls.NotCalling where_it = absurd where_it
   by_calling (calls.Gathering n scan) where_it = absurd where_it
   by_calling (calls.Stopped n why scan) where_it = absurd where_it
   by_calling (calls.Gathered n args) where_it =
-      ap (λ (x : Name). macro_put e.input.lists (name_meaning e.input.groups.now.meanings x) args) where_it.0 ∙ ap (λ (m : Meaning (Option ℕ)). macro_put e.input.lists m args) h.meaning
+      ap (λ (x : Name). macro_put e.input.lists (name_meaning e.input.groups.now.meanings x) args) where_it ∙ ap (λ (m : Meaning (Option ℕ)). macro_put e.input.lists m args) h.meaning
 
 pub moves_are : (number : ℕ → ℕ) (name : Name) (long : Bool) (id : ℕ) (ts : List Token) (args : List (List Token)) (k : reading.Kind) → k ≡ reading.Arguments name long (number id) ts →
     called_with k args ≡ arguments_put (numbered number (call_put id ts args)) (call_put id ts args).items
@@ -136,14 +136,14 @@ module _ (sizes : Sizes) (e : Engine) (book : Book) (r : Reading) (rs : List Rea
       put_stands = record {
         sound = sound_still sizes (record e { input = middle }) e2 book.number book.all_lists (ap (λ (y : Engine). y.sizes) now) (ap (λ (y : Engine). y.readings.size) now) (ap (λ (y : Engine). y.conditionals) now) (ap (λ (y : Engine). y.names) now) (ap (λ (y : Engine). y.reports) now) store middle_sound;
         idle = ap (λ (y : Engine). y.input.making) now ∙ st.idle;
-        all = join e2 book.number rs (subst (λ (y : Engine). ReadingsBy (call_in y.input.call) y book.number rs) (sym now) (record { frames = k.1.frames; shallow = k.1.shallow }));
+        all = ended_stand e e2 book.number c r rs is (ap (λ (y : Engine). y.readings) now) (ap (λ (y : Engine). y.input.builds) now) (ap (λ (y : Engine). y.input.call) now) st.all;
       }
 
       put_state : made (CalledWith P) settled_state ≡ state_of e2 (with_work rs book)
       put_state =
           ap (λ (q : Pending). record (state_of e W) { pending = put_front P q; work = rs; gathered = drop (length (lists r.kind r.fed)) (gathered e.input) }) (settle_of book.number e.input.pending)
           ∙ ap (λ (q : Pending). record (state_of e W) { pending = q; work = rs; gathered = drop (length (lists r.kind r.fed)) (gathered e.input) }) (put_front_of book.number p (end_token_lists e.input.pending))
-          ∙ ap (λ (l : List (List Token)). record (state_of e W) { pending = pending_of book.number (put_front p (end_token_lists e.input.pending)); work = rs; gathered = l }) (lists_gone e.input (lists r.kind r.fed) k.0.holds)
+          ∙ ap (λ (l : List (List Token)). record (state_of e W) { pending = pending_of book.number (put_front p (end_token_lists e.input.pending)); work = rs; gathered = l }) (lists_gone e.input (lists r.kind r.fed) k.holds)
           ∙ ap (λ (y : Engine). state_of y (with_work rs book)) (sym now)
 
     -- it is put

@@ -27,7 +27,7 @@ use Rattle.engine_state.specs.declared.outcome.Ruled.{Ruled}
 use Rattle.engine_state.specs.declared.outcome.Ruled.TheVariants as ruled
 use Rattle.engine_state.specs.Book.{Book, with_work}
 use Rattle.engine_state.specs.Stands.{SameFrames, SameReadings, Stands, state_of, page_of}
-use Rattle.engine_state.proofs.Uncalled.{all_of}
+use Rattle.engine_state.proofs.Uncalled.{all_of, no_call}
 use Rattle.world_io.specs.Contents.{FilesTold, SinkTold}
 use Rattle.engine_state.specs.Rules.{world_of, Went, Halts, onward_of, feeds_of, Takes, Comes, DoesOnward}
 use Rattle.engine_state.specs.Steps.{IsHalted}
@@ -38,7 +38,7 @@ use Rattle.gullet.specs.declared.expansion.Stepped.{Stepped}
 use Rattle.gullet.specs.declared.expansion.Stepped.TheVariants.{More, Skipped, Unexpandable, Over}
 use Rattle.gullet.specs.declared.expansion.Expansion.{Expansion}
 use Rattle.gullet.specs.declared.expansion.Once.TheVariants as once
-use Rattle.gullet.specs.Stepping.{EndsRun, Expands, ExpandsOnce, ExpandsTo, IsStayed, Steps, Stays, changes, expands, is_expansion, once_by, wants_raw}
+use Rattle.gullet.specs.Stepping.{EndsRun, Expands, ExpandsOnce, ExpandsTo, IsKept, IsOver, IsStayed, Steps, Stays, changes, expands, is_expansion, once_by, wants_raw}
 use Rattle.gullet.proofs.Stepping.{no}
 use Rattle.input_state.specs.Callings.{NotCalling, call_in}
 
@@ -175,14 +175,14 @@ stays_expands sizes want e e' book f s s' x same silent takes stays =
 
 -- BEHIND A STEP
 
-module _ (sizes : Sizes) (want : Option Want) (s : State) (e1 e2 : Engine) (book : Book) (w v w' : World) (moves : List Move) (x : Seen) (c : Comes sizes want s e1 book w v moves x 1) (none : e1.input.call ≡ NotCalling) where
+module _ (sizes : Sizes) (want : Option Want) (s : State) (e1 e2 : Engine) (book : Book) (w v w' : World) (moves : List Move) (x : Seen) (c : Comes sizes want s e1 book w v moves x 1) where
   abbrev onward : List Move
   onward = onward_of (page_of e1 c.book') want c.book'.work x
 
-  comes_on : (y : Seen) → Comes sizes want (state_of e1 c.book') e2 c.book' v w' onward y 0 → Comes sizes want s e2 book w w' moves y 1
-  comes_on y h = record {
+  comes_on : (y : Seen) → e2 ≡ e1 → Comes sizes want (state_of e1 c.book') e2 c.book' v w' onward y 0 → Comes sizes want s e2 book w w' moves y 1
+  comes_on y same h = record {
     book' = h.book';
-    still = λ gone. h.still gone ∙ c.still none;
+    still = λ gone. h.still gone ∙ c.still (sym (ap (λ (e : Engine). e.input.call) same) ∙ gone);
     takes = h.takes;
     front = c.front ++ h.front;
     did = did_join sizes s (state_of e1 c.book') (state_of e2 h.book') w v w' c.front h.front c.did h.did;
@@ -190,11 +190,12 @@ module _ (sizes : Sizes) (want : Option Want) (s : State) (e1 e2 : Engine) (book
     count = steps_join c.front h.front ∙ omega (arith, c.count, h.count);
   }
 
-  pub steps_on : (n : Stepped) → Expands sizes want (state_of e1 c.book') e2 c.book' v w' onward x n → Steps sizes want s e2 book w w' moves n
-  steps_on More h = comes_went sizes want s e1 e2 book w v w' moves x 1 c 0 h
-  steps_on Skipped h = absurd h
-  steps_on (Unexpandable y) h = (comes_on y h.0, h.1)
-  steps_on (Over o) h = comes_halts sizes want s e1 e2 book w v w' moves x 1 c o 0 none h
+  -- a token that stays changes nothing, and a run ends only where no call gathers its arguments
+  pub steps_on : (n : Stepped) → (IsKept n → e2 ≡ e1) → (IsOver n → e1.input.call ≡ NotCalling) → Expands sizes want (state_of e1 c.book') e2 c.book' v w' onward x n → Steps sizes want s e2 book w w' moves n
+  steps_on More kept over h = comes_went sizes want s e1 e2 book w v w' moves x 1 c 0 h
+  steps_on Skipped kept over h = absurd h
+  steps_on (Unexpandable y) kept over h = (comes_on y (kept tt) h.0, h.1)
+  steps_on (Over o) kept over h = comes_halts sizes want s e1 e2 book w v w' moves x 1 c o 0 (over tt) h
 
 -- whether the run has stopped is noted
 pub noted_steps : (b : Bool) (sizes : Sizes) (want : Option Want) (s : State) (e : Engine) (book : Book) (w w' : World) (moves : List Move) (n : Stepped) → Steps sizes want s e book w w' moves n → Steps sizes want s (noted b e) book w w' moves n
@@ -205,8 +206,12 @@ noted_steps b sizes want s e book w w' moves (Over o) h = noted_halts b sizes s 
 
 -- THE OPEN READINGS
 
-pub halted_readings : (e e1 e2 : Engine) → SameReadings e e1 → SameFrames e1 e2 → SameReadings e e2
-halted_readings e e1 e2 a b = record { readings = b.readings ∙ a.readings; lists = b.lists ∙ a.lists; call = ap call_in b.call ∙ a.call }
+-- where no call gathers its arguments, none does behind what leaves the readings
+pub uncalled_still : (e e1 : Engine) → SameReadings e e1 → e.input.call ≡ NotCalling → e1.input.call ≡ NotCalling
+uncalled_still e e1 same none = no_call e1.input.call (same.call ∙ ap call_in none)
+
+pub halted_frames : (e e1 e2 : Engine) → SameReadings e e1 → e.input.call ≡ NotCalling → SameFrames e1 e2 → SameFrames e e2
+halted_frames e e1 e2 a none b = record { readings = b.readings ∙ a.readings; lists = b.lists ∙ a.lists; call = b.call ∙ uncalled_still e e1 a none ∙ sym none }
 
 pub kept_readings : (e e1 e2 : Engine) → SameReadings e e1 → e2 ≡ e1 → SameReadings e e2
 kept_readings e e1 e2 a is = subst (SameReadings e) (sym is) a

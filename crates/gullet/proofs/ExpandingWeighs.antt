@@ -15,7 +15,7 @@ use Rattle.engine_state.specs.declared.engine.Engine.{Engine}
 use Rattle.engine_state.specs.Calls.{open_call}
 use Rattle.engine_state.specs.Stands.{SameFrames}
 use Rattle.engine_state.specs.Steps.{pending_weight, readings_weight, weight}
-use Rattle.gullet.proofs.CallWeighing.{same_weight}
+use Rattle.engine_state.proofs.CallWeighing.{same_weight}
 use Rattle.engine_state.proofs.AtLocations.{same_engine}
 
 module _ (e : Engine) (none : e.input.call ≡ NotCalling) (light : innermost_weight e.readings.frames ≤ act_weight) where
@@ -32,9 +32,9 @@ module _ (e : Engine) (none : e.input.call ≡ NotCalling) (light : innermost_we
   pub still_light : (e' : Engine) → e' ≡ e → weight e' ≤ most
   still_light e' is = same_light e' (same_engine e e' is) (ap (λ (x : Engine). pending_weight x.input.pending) is)
 
-  pub framed_light : (e' : Engine) → e'.input.call ≡ e.input.call → e'.readings.frames ≡ e.readings.frames → pending_weight e'.input.pending ≡ pending_weight e.input.pending → weight e' ≤ most
+  pub framed_light : (e' : Engine) → e'.input.call ≡ NotCalling → e'.readings.frames ≡ e.readings.frames → pending_weight e'.input.pending ≡ pending_weight e.input.pending → weight e' ≤ most
   framed_light e' call same left =
-      let is : readings_weight (call_in e'.input.call) e' ≡ stack_weight e'.readings = ap (λ (k : Calling). readings_weight (call_in k) e') (call ∙ none) in
+      let is : readings_weight (call_in e'.input.call) e' ≡ stack_weight e'.readings = ap (λ (k : Calling). readings_weight (call_in k) e') call in
       let frames : stack_weight e'.readings ≡ stack_weight e.readings = ap (λ (fs : List Frame). frames_weight fs + innermost_weight fs) same in
       omega (arith, is, frames, left, light)
 

@@ -1,16 +1,7 @@
 pub mod CallAway
 pub mod CallBeginning
-pub mod CallBraces
-pub mod CallEnding
-pub mod CallFeeding
-pub mod CallFeedingAnswers
-pub mod CallFeedingCuts
-pub mod CallFeedingMoves
-pub mod CallFeedingCases
 pub mod CallPutting
 pub mod CallRules
-pub mod CallWeighing
-pub mod CallsIn
 pub mod Choosing
 pub mod Ending
 pub mod Expanding

@@ -2,7 +2,6 @@
 use Rattle.std.specs.Prelude.{◌≡◌, ℕ, List, ◌∷◌, Option, Some}
 use Rattle.tex_defs.specs.Places.{World}
 use Rattle.tex_defs.specs.declared.Full.{Full}
-use Rattle.tex_defs.specs.declared.Name.{Name}
 use Rattle.tex_defs.specs.declared.Seen.{Seen}
 use Rattle.tex_defs.specs.declared.Sizes.{Sizes}
 use Rattle.plain_readings.specs.Readings.{Reading}
@@ -15,7 +14,7 @@ use Rattle.input_state.specs.declared.answer.Call.{Call}
 use Rattle.engine_state.specs.declared.engine.Engine.{Engine}
 use Rattle.engine_state.specs.declared.outcome.Ruled.{Ruled}
 use Rattle.engine_state.specs.Book.{Book, with_work}
-use Rattle.engine_state.specs.Calls.{AllStand, open_call}
+use Rattle.engine_state.specs.Calls.{AllStand}
 use Rattle.engine_state.specs.Rules.{world_of, DoesRule}
 use Rattle.engine_state.specs.Stands.{Counts, Stands, page_of, state_of}
 
@@ -30,12 +29,6 @@ ExpandsSo Does e e' before after x a = (sizes : Sizes) (f : FilesTold) (book : B
 -- Why there is no room for this move, whatever number its list has, or that there is.
 abbrev pub RefusedAsAny : Engine → (ℕ → Move) → Option Full → Type 0
 RefusedAsAny e m o = (sizes : Sizes) (book : Book) (number : ℕ) → Counts sizes e book → refusal sizes (m number) (state_of e book) ≡ o
-
--- Where a call asks for a token, what is done by moves that depend on its reading r, with nothing written, is as said.
-abbrev pub FeedsCall : {A : Type 0} → (Does : Sizes → State → Engine → World → World → List Move → A → Type 0) → (e e' : Engine) → (Reading → List Move) → A → Type 0
-FeedsCall Does e e' moves a = (sizes : Sizes) (w : World) (book : Book) (r : Reading) (rs : List Reading) (name : Name) →
-    call_in e.input.call ≡ Some (open_call name) → AllStand sizes e (with_work (r ∷ rs) book) →
-    Does sizes (state_of e (with_work (r ∷ rs) book)) e' w w (moves r) a
 
 -- Where the innermost reading is a call's arguments, the rule makes these moves, with this written, and ends so.
 abbrev pub DoesRuleAtCall : (e e' : Engine) → (before after : SinkTold) → (Page → List Move) → Ruled → Type 0

@@ -75,6 +75,11 @@ enum Expansion {
     Unexpandable,
 }
 
+/// The first number of the primitives that are expanded, and the last of the conditionals, which come behind them.
+const FIRST_EXPANDABLE: u16 = 54;
+
+const LAST_CONDITIONAL: u16 = 84;
+
 /// The number of `\csname`.
 const CSNAME: u16 = 56;
 
@@ -105,7 +110,7 @@ fn is_raw(want: Option<Want>) -> bool
 fn is_expandable(number: u16) -> bool
     ensures { result ≡ is_expandable_primitive number }
 {
-    (54..=84).contains(&number)
+    (FIRST_EXPANDABLE..=LAST_CONDITIONAL).contains(&number)
 }
 
 /// The command that a token's name means, without prefixes.
@@ -184,7 +189,7 @@ fn put_job(engine: &mut Engine, opening: Opening) -> Result<(), Broken>
     ensures rule { OnOk result (GoesFree engine.old engine.new (λ page. job_moves page (reading_kind opening))) }
     ensures err { IfErr result (λ b. CutsFree engine.old engine.new (λ page. job_moves page (reading_kind opening)) b) }
     ensures frames { OnOk result (engine.new.readings.frames ≡ engine.old.readings.frames) }
-    ensures call { OnOk result (engine.new.input.call ≡ engine.old.input.call) }
+    ensures call { OnOk result (engine.old.input.call ≡ NotCalling → engine.new.input.call ≡ NotCalling) }
     ensures pending { OnOk result (pending_weight engine.new.input.pending ≡ pending_weight engine.old.input.pending) }
     ensures column { engine.new.in_line ≡ engine.old.in_line }
     ensures idle { OnOk result (engine.new.input.making ≡ None) }
@@ -288,11 +293,12 @@ fn expand<S: Sink>(
     seen: Seen,
 ) -> Result<Stepped, Broken>
     requires idle { engine.old.input.making ≡ None }
-    requires uncalled { engine.old.input.call ≡ NotCalling }
+    requires uncalled { wants_raw want ≡ false → engine.old.input.call ≡ NotCalling }
     ensures rule { IfOk result (DoesWhere (Taking want) (λ sizes s e book w v moves stepped. Expands sizes want s e book w v moves seen stepped) engine.old engine.new (S.told out.old) (S.told out.new) (λ book. onward_of (page_of engine.old book) want book.work seen)) }
     ensures err { IfErr result (CutsWhere (Taking want) engine.old engine.new (S.told out.old) (S.told out.new) (λ book. onward_of (page_of engine.old book) want book.work seen)) }
     ensures kept { IfOk result (λ stepped. IsSkipped stepped → ⊥) }
     ensures halts { IfOk result (λ stepped. IsOver stepped → SameFrames engine.old engine.new) }
+    ensures expanded { IfOk result (λ stepped. IsOver stepped → wants_raw want ≡ false) }
     ensures stays { IfOk result (λ stepped. IsKept stepped → engine.new ≡ engine.old) }
     ensures idle { OnOk result (engine.new.input.making ≡ None) }
 {
@@ -317,7 +323,7 @@ fn stops(stepped: &Result<Stepped, Broken>) -> bool
     matches!(stepped, Ok(Stepped::Over(_)) | Err(_))
 }
 
-/// Reads the next token, and expands it if it can be expanded: at most one step. No call gathers its arguments.
+/// Reads the next token, and expands it if it can be expanded and isn't wanted as it stands: at most one step.
 ///
 /// # Errors
 /// There is no room for what comes, or a write failed: the engine stands for the moment before.
@@ -327,13 +333,13 @@ pub fn step<S: Sink>(
     want: Option<Want>,
 ) -> Result<Stepped, Broken>
     requires idle { engine.old.input.making ≡ None }
-    requires uncalled { engine.old.input.call ≡ NotCalling }
+    requires uncalled { wants_raw want ≡ false → engine.old.input.call ≡ NotCalling }
     requires running { engine.old.stopped ≡ false }
     ensures light { IfOk result (λ stepped. IsSkipped stepped → weight engine.new < weight engine.old) }
     ensures step { IfOk result (λ stepped. StepStepsIf stepped (gives_step (pulled engine.old.input.groups.now.categories engine.old.input.pending))) }
     ensures rule { IfOk result (DoesWhere (Taking want) (λ sizes. Steps sizes want) engine.old engine.new (S.told out.old) (S.told out.new) (next_moves want engine.old)) }
     ensures err { IfErr result (CutsWhere (Taking want) engine.old engine.new (S.told out.old) (S.told out.new) (next_moves want engine.old)) }
-    ensures halts { IfOk result (λ stepped. IsOver stepped → SameReadings engine.old engine.new) }
+    ensures halts { IfOk result (λ stepped. IsOver stepped → SameFrames engine.old engine.new) }
     ensures stays { IfOk result (λ stepped. IsKept stepped → SameReadings engine.old engine.new) }
     ensures idle { OnOk result (engine.new.input.making ≡ None) }
     ensures stopped { MatchResult result (λ stepped. engine.new.stopped ≡ ends_run stepped) (λ _. engine.new.stopped ≡ true) }

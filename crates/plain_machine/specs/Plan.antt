@@ -1,5 +1,5 @@
 -- The plain machine: the moves of the rule that comes next, and the next move.
-use Rattle.std.specs.Prelude.{ℕ, zero, suc, ℤ, pos, negsuc, nat_abs, Bool, true, false, ◌==◌, ◌||◌, List, [], ◌∷◌, ◌++◌, length, map, drop, slice_index_or, nat_lt, if◌then◌else◌, Option, Some, None}
+use Rattle.std.specs.Prelude.{ℕ, ◌+◌, zero, suc, ℤ, pos, negsuc, nat_abs, Bool, true, false, ◌==◌, ◌||◌, List, [], ◌∷◌, ◌++◌, length, map, drop, slice_index_or, nat_lt, if◌then◌else◌, Option, Some, None}
 use Rattle.std.specs.Ordering.{int_eq}
 use Rattle.tex_syntax.specs.declared.words.Want.{Want}
 use Rattle.tex_syntax.specs.declared.words.Want.TheVariants.{Raw, Unentered, Expanded, Copied, Nonblank, Command}
@@ -22,7 +22,8 @@ use Rattle.equivalents.specs.declared.values.Loc.{Loc}
 use Rattle.equivalents.specs.declared.values.Loc.TheVariants as loc
 use Rattle.tex_defs.specs.declared.Fatal.TheVariants.{NoEnd, NoFile, HundredErrors}
 use Rattle.tex_defs.specs.Places.{Transcript}
-use Rattle.prim_table.specs.Primitives.{primitive_names}
+use Rattle.prim_table.specs.Primitives.{primitive_names, numbers_before, row_size}
+use Rattle.prim_table.specs.declared.Class.TheVariants as class
 use Rattle.plain_tokens.specs.Categories.{begin_group, end_group, is_between}
 use Rattle.plain_tokens.specs.Names.{name_of, means_relax, relax_primitive, par_primitive, end_primitive}
 use Rattle.plain_tokens.specs.Tokens.{is_space, is_outer, is_undefined, space_token, made_text, character_codes}
@@ -243,9 +244,9 @@ input_primitive = 63
 abbrev pub endinput_primitive : ℕ
 endinput_primitive = 64
 
--- the primitives that are expanded, and the conditionals
+-- the primitives that are expanded, and the conditionals: two rows, one behind the other
 abbrev pub is_expandable_primitive : ℕ → Bool
-is_expandable_primitive number = is_between 54 84 number
+is_expandable_primitive number = is_between (numbers_before class.Expandable + 1) (numbers_before class.Conditional + row_size class.Conditional) number
 
 -- the job's name is the first string that is kept
 abbrev pub job_in : List (List ℕ) → List ℕ

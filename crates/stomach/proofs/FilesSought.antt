@@ -184,4 +184,4 @@ module _ (e2 e3 : Engine) (i : Stored) (same : SameBut e2 e3) (is : i ≡ record
   pub sought_lighter : (e : Engine) (c : Call) (x : Effect) → e.input.call ≡ NotCalling → SameFrames e e2 → pending_weight e2.input.pending ≡ pending_weight e.input.pending → asks_in e.readings.frames [] ≡ Some (ActsOn c x []) →
       frames_weight e3.readings.frames ≡ frames_weight (drop 1 e2.readings.frames) → innermost_weight e3.readings.frames < act_frame + act_weight → weight (record e3 { naming = false; input = i }) < weight e
   sought_lighter e c x none frames left asks count light =
-      omega (arith, settled_weight (same.call ∙ (frames.call ∙ none)), closed_lighter_behind e e2 e3 (ActsOn c x []) none asks tt frames left same count light)
+      omega (arith, settled_weight (same.call ∙ (frames.call ∙ none)), closed_lighter_behind e e2 e3 (ActsOn c x []) none asks tt frames left (λ _. same) count light)

@@ -86,11 +86,11 @@ module _ (sizes : Sizes) (e e1 e2 : Engine) (book : Book) (w v v' : World) (c : 
 
 -- WHAT BECOMES LIGHTER: what comes behind the end weighs no more than the end did
 
-pub gone_on_lighter : (e e1 e2 : Engine) (a : Ask) → e.input.call ≡ NotCalling → asks_in e.readings.frames [] ≡ Some a → IsEnd a → SameBut e e1 → frames_weight e1.readings.frames ≡ frames_weight (drop 1 e.readings.frames) → innermost_weight e1.readings.frames < act_frame + act_weight →
+pub gone_on_lighter : (e e1 e2 : Engine) (a : Ask) → e.input.call ≡ NotCalling → asks_in e.readings.frames [] ≡ Some a → IsEnd a → (e.input.call ≡ NotCalling → SameBut e e1) → frames_weight e1.readings.frames ≡ frames_weight (drop 1 e.readings.frames) → innermost_weight e1.readings.frames < act_frame + act_weight →
     ((most : ℕ) → act_frame ≤ most → innermost_weight e1.readings.frames ≤ most → weight e2 ≤ frames_weight e1.readings.frames + most + pending_weight e1.input.pending) → weight e2 < weight e
 gone_on_lighter e e1 e2 a none asks end but frames light most =
     let small : innermost_weight e1.readings.frames ≤ 98 = omega (arith, light) in
-    omega (arith, most 98 (omega arith) small, frames, weight_none e none, ends_frame e.readings.frames a asks end, ends_heavy e.readings.frames a asks end, ap pending_weight but.pending)
+    omega (arith, most 98 (omega arith) small, frames, weight_none e none, ends_frame e.readings.frames a asks end, ends_heavy e.readings.frames a asks end, ap pending_weight (but none).pending)
 
 -- THE ENDER COMES TO THIS, behind which more is skipped
 

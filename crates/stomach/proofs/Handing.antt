@@ -9,30 +9,33 @@ use Rattle.tex_defs.specs.declared.Seen.{Seen}
 use Rattle.tex_defs.specs.declared.Sizes.{Sizes}
 use Rattle.tex_defs.specs.declared.Token.{Token}
 use Rattle.tex_defs.specs.Places.{World}
-use Rattle.rows.specs.Readings.{Ask, Tok, More}
-use Rattle.plain_readings.specs.Readings.{Reading, fed_with}
+use Rattle.rows.specs.Readings.{Ask, More}
+use Rattle.plain_readings.specs.Readings.{Reading}
 use Rattle.reading_frames.specs.Views.{Lists}
 use Rattle.reading_frames.specs.Stack.{asks_in}
 use Rattle.reading_frames.specs.Frames as frames
+use Rattle.reading_frames.specs.Frames.{OpenCall}
 use Rattle.reading_frames.specs.declared.frame.Frame.{Frame}
 use Rattle.plain_machine.specs.States.{State, Move}
 use Rattle.plain_machine.specs.Plan.{Page, expansion, expanded, expanded_as, command}
-use Rattle.plain_machine.specs.Does.{Did}
 use Rattle.engine_state.specs.declared.broken.Broken.{Broken}
-use Rattle.input_state.specs.Callings.{NotCalling, call_in, Calling}
+use Rattle.input_state.specs.Callings.{Calling, NotCalling, Gathering, Stopped, Gathered, call_in}
+use Rattle.macro_call.specs.PlainScans.{resume_scan}
+use Rattle.plain_tokens.specs.Arguments.{Called}
+use Rattle.engine_state.specs.Calls.{AllStand, ended_answer, open_call_of}
 use Rattle.engine_state.specs.declared.engine.Engine.{Engine}
 use Rattle.gullet.specs.declared.expansion.Stepped.{Stepped}
 use Rattle.gullet.specs.declared.expansion.Stepped.TheVariants.{Unexpandable}
 use Rattle.engine_state.specs.declared.outcome.Ruled.{Ruled}
 use Rattle.engine_state.specs.declared.outcome.Ruled.TheVariants.{Step, Free, Halted}
 use Rattle.engine_state.specs.Book.{Book, with_work}
-use Rattle.engine_state.specs.Stands.{Stands, SameReadings, state_of, page_of}
-use Rattle.engine_state.specs.Steps.{IsFree, StepsIf, asked_by, asked}
+use Rattle.engine_state.specs.Stands.{SameReadings, state_of, page_of}
+use Rattle.engine_state.specs.Steps.{IsFree, IsHalted, StepsIf, asked_by, asks_now}
 use Rattle.gullet.specs.Stepping.{Steps, StepStepsIf, IsKept, Stays, expands}
-use Rattle.engine_state.specs.Rules.{onward_of, feeds_of, Takes, Comes, Went, DoesRule, DoesOnward}
-use Rattle.engine_state.proofs.Uncalled.{all_of, framed, no_call}
+use Rattle.engine_state.specs.Rules.{onward_of, feeds_of, Takes, Comes, DoesRule, DoesOnward}
+use Rattle.engine_state.proofs.Uncalled.{no_call}
 use Rattle.engine_state.proofs.Coming.{comes_went, comes_halts}
-use Rattle.gullet.proofs.Stepping.{feeds_none, free_of, no}
+use Rattle.gullet.proofs.Stepping.{no}
 use Rattle.stomach.specs.Obeying.{is_dropped}
 
 -- A TOKEN THAT STAYS
@@ -67,41 +70,37 @@ module _ (page : Page) (work : List Reading) (x : Seen) where
   fed_moves want.Nonblank is stays = ap (λ (b : Bool). if b then [] else expanded page x feeds) is ∙ unexpanded feeds stays
   fed_moves want.Command is stays = ap (λ (b : Bool). if b then [] else expanded page x feeds) is ∙ unexpanded feeds stays
 
--- A FRAME IS FED
+-- A READING IS FED
 
-no_frame : (fs : List Frame) (held : Lists) (a : Ask) → frames.AreFramesOf None fs held [] → asks_in fs held ≡ Some a → ⊥
-no_frame [] held a st is = cc
-no_frame (f ∷ fs) held a st is = st
+no_call_open : (c : OpenCall) (fs : List Frame) (held : Lists) → frames.AreFramesOf (Some c) fs held [] → ⊥
+no_call_open c [] held st = st
+no_call_open c (f ∷ fs) held st = st
 
-module _ (sizes : Sizes) (e : Engine) (none : e.input.call ≡ NotCalling) where
-  -- the reading that wants a token is the innermost
-  pub feeds_frame : (w : Want) (x : Seen) (P : Book → List Move → Type 0) →
-      ((book : Book) (r : Reading) (rs : List Reading) → Stands sizes e (with_work (r ∷ rs) book) → P (with_work (r ∷ rs) book) (feeds_of (r ∷ rs) x)) →
+-- where none is open, nothing is asked for
+no_reading : (k : Calling) (text : List Token) (fs : List Frame) (held : Lists) (a : Ask) → frames.AreFramesOf (open_call_of text k) fs held [] → asked_by (call_in k) k (asks_in fs held) ≡ Some a → ⊥
+no_reading NotCalling text [] held a st is = cc
+no_reading NotCalling text (f ∷ fs) held a st is = st
+no_reading (Gathering name scan) text fs held a st is = no_call_open (record { name = name; text = text; answers = resume_scan text scan }) fs held st
+no_reading (Stopped name why scan) text fs held a st is = no_call_open (record { name = name; text = text; answers = λ fed. ended_answer why scan }) fs held st
+no_reading (Gathered name args) text fs held a st is = no_call_open (record { name = name; text = text; answers = λ fed. Called args }) fs held st
+
+module _ (sizes : Sizes) (e : Engine) where
+  -- the one that wants a token is the innermost
+  pub feeds_innermost : (w : Want) (x : Seen) (P : Book → List Move → Type 0) →
+      ((book : Book) (r : Reading) (rs : List Reading) → asks_now e ≡ Some (More w) → AllStand sizes e (with_work (r ∷ rs) book) → P (with_work (r ∷ rs) book) (feeds_of (r ∷ rs) x)) →
       (book : Book) → Takes sizes (Some w) e book → P book (feeds_of book.work x)
-  feeds_frame w x P h book t = at book.work (framed sizes e book none t.1) where
-    wants : asked e ≡ Some (More w)
-    wants = subst (λ (k : Calling). asked_by (call_in k) k (asked e) ≡ Some (More w)) none t.0
-
-    at : (work : List Reading) → Stands sizes e (with_work work book) → P (with_work work book) (feeds_of work x)
-    at [] st = absurd (no_frame e.readings.frames e.input.builds (More w) st.readings.frames wants)
-    at (r ∷ rs) st = h book r rs st
-
-pub frame_went : (sizes : Sizes) (e e' : Engine) (x : Seen) (book : Book) (w w' : World) → Stands sizes e' (with_work (fed_with (Tok x) book.work) book) → Did sizes (state_of e book) (state_of e' (with_work (fed_with (Tok x) book.work) book)) w w' (feeds_of book.work x) →
-    Went sizes (state_of e book) e' w w' (feeds_of book.work x) 0
-frame_went sizes e e' x book w w' st did = record {
-  book' = with_work (fed_with (Tok x) book.work) book;
-  stands = all_of sizes e' (with_work (fed_with (Tok x) book.work) book) st;
-  did = did;
-  count = free_of (feeds_of book.work x) (feeds_none book.work x);
-}
+  feeds_innermost w x P h book t = at book.work t.1 where
+    at : (work : List Reading) → AllStand sizes e (with_work work book) → P (with_work work book) (feeds_of work x)
+    at [] st = absurd (no_reading e.input.call st.all.readings.text e.readings.frames e.input.builds (More w) st.all.readings.frames.frames t.0)
+    at (r ∷ rs) st = h book r rs t.0 st
 
 -- BEHIND THE STEP
 
-module _ (sizes : Sizes) (want : Option Want) (s : State) (e1 e2 : Engine) (book : Book) (w v w' : World) (moves : List Move) (x : Seen) (c : Comes sizes want s e1 book w v moves x 1) (none : e1.input.call ≡ NotCalling) where
-  pub rule_on : (ruled : Ruled) → DoesOnward sizes (state_of e1 c.book') e2 c.book' v w' (onward_of (page_of e1 c.book') want c.book'.work x) ruled → DoesRule sizes s e2 book w w' moves ruled
-  rule_on Step h = comes_went sizes want s e1 e2 book w v w' moves x 1 c 0 h
-  rule_on Free h = absurd h
-  rule_on (Halted o) h = comes_halts sizes want s e1 e2 book w v w' moves x 1 c o 0 none h
+module _ (sizes : Sizes) (want : Option Want) (s : State) (e1 e2 : Engine) (book : Book) (w v w' : World) (moves : List Move) (x : Seen) (c : Comes sizes want s e1 book w v moves x 1) where
+  pub rule_on : (ruled : Ruled) → (IsHalted ruled → e1.input.call ≡ NotCalling) → DoesOnward sizes (state_of e1 c.book') e2 c.book' v w' (onward_of (page_of e1 c.book') want c.book'.work x) ruled → DoesRule sizes s e2 book w w' moves ruled
+  rule_on Step none h = comes_went sizes want s e1 e2 book w v w' moves x 1 c 0 h
+  rule_on Free none h = absurd h
+  rule_on (Halted o) none h = comes_halts sizes want s e1 e2 book w v w' moves x 1 c o 0 (none tt) h
 
 -- what a step came to
 pub steps_as : (sizes : Sizes) (want : Option Want) (s : State) (e' : Engine) (book : Book) (w w' : World) (ms : List Move) (n m : Stepped) → n ≡ m → Steps sizes want s e' book w w' ms n → Steps sizes want s e' book w w' ms m

@@ -35,7 +35,7 @@ use Rattle.engine_state.specs.Rules.{Went}
 use Rattle.engine_state.specs.Stands.{Stands, SameFrames, state_of, page_of}
 use Rattle.engine_state.specs.Steps.{weight, asked, pending_weight}
 use Rattle.engine_state.proofs.Uncalled.{all_of}
-use Rattle.gullet.proofs.CallWeighing.{lighter_by}
+use Rattle.engine_state.proofs.CallWeighing.{lighter_by}
 use Rattle.gullet.proofs.JobName.{full_in}
 use Rattle.engine_state.proofs.Joining.{quiet_here, went_by}
 use Rattle.engine_state.proofs.CuttingReadings.{in_by}

@@ -26,17 +26,17 @@ weight_none e none = ap (λ (k : Calling). readings_weight (call_in k) e + pendi
 
 -- behind what leaves the frames as they were, which an engine n tells
 pub closed_lighter_as : (e e1 e' n : Engine) (a : Ask) → e1 ≡ n → e.input.call ≡ NotCalling → asks_in e.readings.frames [] ≡ Some a → IsEnd a → SameFrames e n → pending_weight n.input.pending ≡ pending_weight e.input.pending →
-    SameBut e1 e' → frames_weight e'.readings.frames ≡ frames_weight (drop 1 e1.readings.frames) → innermost_weight e'.readings.frames < act_frame + act_weight → weight e' < weight e
+    (e1.input.call ≡ NotCalling → SameBut e1 e') → frames_weight e'.readings.frames ≡ frames_weight (drop 1 e1.readings.frames) → innermost_weight e'.readings.frames < act_frame + act_weight → weight e' < weight e
 closed_lighter_as e e1 e' n a is none asks end same left but frames light =
     closed_lighter_behind e e1 e' a none asks end (subst (λ (x : Engine). SameFrames e x) (sym is) same) (ap (λ (x : Engine). pending_weight x.input.pending) is ∙ left) but frames light
 
 -- THE READING ENDS, and then a token is obeyed
-module _ (e e1 e2 : Engine) (a : Ask) (none : e.input.call ≡ NotCalling) (asks : asks_in e.readings.frames [] ≡ Some a) (end : IsEnd a) (but : SameBut e e1)
+module _ (e e1 e2 : Engine) (a : Ask) (none : e.input.call ≡ NotCalling) (asks : asks_in e.readings.frames [] ≡ Some a) (end : IsEnd a) (but : e.input.call ≡ NotCalling → SameBut e e1)
     (frames : frames_weight e1.readings.frames ≡ frames_weight (drop 1 e.readings.frames)) (light : innermost_weight e1.readings.frames < act_frame + act_weight)
     (left : pending_weight e2.input.pending ≡ pending_weight e1.input.pending) (call : e2.input.call ≡ e1.input.call) where
   fewer : stack_weight e2.readings < stack_weight e.readings → weight e2 < weight e
   fewer less =
-      omega (arith, less, weight_none e none, weight_none e2 (call ∙ (but.call ∙ none)), left, ap pending_weight but.pending)
+      omega (arith, less, weight_none e none, weight_none e2 (call ∙ ((but none).call ∙ none)), left, ap pending_weight (but none).pending)
 
   pub obeyed_lighter : Obeys e1 e2 → weight e2 < weight e
   obeyed_lighter (obeys.HasBegun more small) = fewer ((falls e.readings e2.readings).begun_by_act a asks end (omega (arith, more, frames)) small)
@@ -47,7 +47,7 @@ pub once_expanded : (n : Once) → n ≡ once.Expanded → IsExpanded n
 once_expanded n is = subst IsExpanded (sym is) tt
 
 -- `\expandafter` ENDS: its token waits, and the one behind it is expanded or put back
-module _ (e e1 e2 : Engine) (c : Read) (x y : Seen) (none : e.input.call ≡ NotCalling) (asks : asks_in e.readings.frames [] ≡ Some (Acts c (ExpandBehind x y))) (but : SameBut e e1)
+module _ (e e1 e2 : Engine) (c : Read) (x y : Seen) (none : e.input.call ≡ NotCalling) (asks : asks_in e.readings.frames [] ≡ Some (Acts c (ExpandBehind x y))) (but : e.input.call ≡ NotCalling → SameBut e e1)
     (frames : frames_weight e1.readings.frames ≡ frames_weight (drop 1 e.readings.frames)) (but2 : SameBut e1 e2)
     (more : frames_weight e2.readings.frames ≡ frames_weight e1.readings.frames + act_frame) (waits : innermost_weight e2.readings.frames ≤ act_weight) where
   asked : innermost_weight e.readings.frames ≡ behind_weight
@@ -57,7 +57,7 @@ module _ (e e1 e2 : Engine) (c : Read) (x y : Seen) (none : e.input.call ≡ Not
   own = ends_frame e.readings.frames (Acts c (ExpandBehind x y)) asks tt
 
   heavy : frames_weight e2.readings.frames + act_weight + pending_weight e2.input.pending < weight e
-  heavy = omega (arith, asked, own, frames, more, weight_none e none, ap pending_weight but.pending, ap pending_weight but2.pending)
+  heavy = omega (arith, asked, own, frames, more, weight_none e none, ap pending_weight (but none).pending, ap pending_weight but2.pending)
 
   pub expanded_lighter : (e3 : Engine) → weight e3 ≤ frames_weight e2.readings.frames + act_weight + pending_weight e2.input.pending → weight e3 < weight e
   expanded_lighter e3 most = omega (arith, most, heavy)
@@ -68,7 +68,7 @@ module _ (e e1 e2 : Engine) (c : Read) (x y : Seen) (none : e.input.call ≡ Not
         arith,
         heavy,
         waits,
-        weight_none e4 (same.call ∙ (ap (λ (z : Engine). z.input.call) is ∙ (but2.call ∙ (but.call ∙ none)))),
+        weight_none e4 (same.call ∙ (ap (λ (z : Engine). z.input.call) is ∙ (but2.call ∙ ((but none).call ∙ none)))),
         left,
         ap (λ (z : Engine). pending_weight z.input.pending) is,
         ap (λ (s : Stack). stack_weight s) same.readings,

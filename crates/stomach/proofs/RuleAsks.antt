@@ -10,8 +10,10 @@ use Rattle.rows.specs.declared.command.Effect.TheVariants as effect
 use Rattle.rows.specs.Readings as reading
 use Rattle.tex_defs.specs.declared.Token.{Token}
 use Rattle.plain_readings.specs.Readings.{Reading, ask}
+use Rattle.plain_readings.specs.Weights.{IsNoted}
 use Rattle.reading_frames.specs.Views.{Lists, ask_of, kept_list_of}
 use Rattle.reading_frames.specs.Stack.{asked_in, asked_of, asks_in}
+use Rattle.reading_frames.specs.Weights.{IsReported}
 use Rattle.reading_frames.specs.declared.ask.Ask.{Ask}
 use Rattle.reading_frames.specs.declared.ask.Ask.TheVariants as asks
 use Rattle.plain_machine.specs.States.{Move, Files}
@@ -28,7 +30,8 @@ use Rattle.engine_state.specs.Book.{Book, with_work}
 use Rattle.engine_state.specs.CutReadings.{CutsIn}
 use Rattle.engine_state.specs.Rules.{WantsHere, Takes, world_of, plan_of, next_moves}
 use Rattle.engine_state.specs.Stands.{Stands, state_of}
-use Rattle.engine_state.specs.Steps.{asked, asks_more, asks_start, stepping, asks_now, asked_by, wants_token}
+use Rattle.engine_state.specs.Steps.{asked, asks_more, asks_start, stepping, asks_bare, asks_now, asked_by, wants_token}
+use Rattle.engine_state.proofs.CallsIn.{uncalled_reported}
 use Rattle.engine_state.proofs.Uncalled.{all_of}
 use Rattle.stomach.specs.declared.innermost.Innermost.{Innermost}
 use Rattle.stomach.specs.declared.innermost.Innermost.TheVariants as innermost
@@ -57,7 +60,7 @@ wants_frame held None = refl
 wants_frame held (Some x) = wants_of held x
 
 pub wants_same : (e : Engine) (i : Innermost) → IsInnermost e i → innermost_wants i ≡ wants_token (asks_now e)
-wants_same e (innermost.Call c) h = sym (call_more c.name c.ask e.input.call) ∙ sym (ap (λ (o : Option Call). wants_token (asked_by o e.input.call (asked e))) h)
+wants_same e (innermost.Call c) h = call_more c.name c.ask NotCalling e.input.call ∙ sym (ap (λ (o : Option Call). wants_token (asked_by o e.input.call (asked e))) h)
 wants_same e (innermost.Frame a) h =
     sym (wants_frame e.input.builds a) ∙ (ap wants_token (h.1.asks e.input.builds) ∙ sym (ap (λ (k : Calling). wants_token (asked_by (call_in k) k (asked e))) h.0))
 
@@ -85,6 +88,13 @@ asked_here e a b is h = sym (asks_as e a b is h e.input.builds)
 -- and over none
 pub asked_bare : (e : Engine) (a b : Ask) → a ≡ b → AsksFor e (Some a) → asks_in e.readings.frames [] ≡ Some (ask_of [] b)
 asked_bare e a b is h = sym (asks_as e a b is h [])
+
+-- a report, over its lists and over none
+pub reports_here : (e : Engine) (a b : Ask) → a ≡ b → AsksFor e (Some a) → e.input.call ≡ NotCalling → IsNoted (ask_of e.input.builds b) → IsReported (asks_now e)
+reports_here e a b is h none noted = uncalled_reported e.input.call (asked e) none (subst IsReported (sym (asked_here e a b is h)) noted)
+
+pub reports_bare : (e : Engine) (a b : Ask) → a ≡ b → AsksFor e (Some a) → e.input.call ≡ NotCalling → IsNoted (ask_of [] b) → IsReported (asks_bare e)
+reports_bare e a b is h none noted = uncalled_reported e.input.call (asks_in e.readings.frames []) none (subst IsReported (sym (asked_bare e a b is h)) noted)
 
 -- no list is kept of none
 pub none_kept : (listed : Bool) → kept_list_of listed [] ≡ []

@@ -19,11 +19,11 @@ use Rattle.rows.specs.declared.command.Effect.TheVariants as effect
 use Rattle.rows.specs.Readings.{Ask}
 use Rattle.reading_frames.specs.Stack.{Stack, asks_in}
 use Rattle.reading_frames.specs.Weights.{frames_weight, innermost_weight, IsEnd}
-use Rattle.plain_machine.specs.States.{State, Move, Assigned, Closed, Spelt, made}
+use Rattle.plain_machine.specs.States.{State, Move, Assigned, Closed, Spelt}
 use Rattle.plain_machine.specs.Plan.{Page, acts_on, entered, name_made, newly_spelt, put_one, relax_if_undefined, reported_as, spelt}
 use Rattle.plain_machine.specs.Runs.{steps}
 use Rattle.plain_machine.specs.Does.{Did}
-use Rattle.plain_machine.proofs.Doing.{did_join, did_none, did_one}
+use Rattle.plain_machine.proofs.Doing.{did_none}
 use Rattle.plain_machine.proofs.Joins.{steps_join}
 use Rattle.world_io.specs.Contents.{FilesTold, SinkTold, world}
 use Rattle.engine_state.specs.declared.engine.Engine.{Engine}
@@ -31,9 +31,9 @@ use Rattle.engine_state.specs.Book.{Book, with_work}
 use Rattle.engine_state.specs.Rules.{world_of, Halts, ReportsAs, Went}
 use Rattle.engine_state.specs.Stands.{Stands, IsSized, SameBut, SameFrames, OnlyColumn, page_of, state_of}
 use Rattle.engine_state.specs.Steps.{pending_weight, weight}
-use Rattle.gullet.proofs.CallWeighing.{lighter_by}
-use Rattle.engine_state.proofs.Uncalled.{all_of}
-use Rattle.engine_state.proofs.Joining.{quiet_wrote, went_by, halts_least}
+use Rattle.engine_state.proofs.CallWeighing.{lighter_by}
+use Rattle.engine_state.proofs.Joining.{went_by, halts_least}
+use Rattle.engine_state.proofs.ReadingCloses.{ClosesStands, ClosesState, closed_here}
 use Rattle.engine_state.proofs.Reporting.{column_sound, input_sound, stands_still}
 use Rattle.engine_state.proofs.AtLocations.{only_frames}
 use Rattle.engine_state.proofs.Weighing.{acted_lighter}
@@ -43,34 +43,23 @@ use Rattle.input_state.specs.Callings.{NotCalling, call_in}
 
 -- THE END
 
--- by what is said of it
-abbrev pub ClosesStands : Engine → Engine → Type 0
-ClosesStands e e' = (sizes : Sizes) (book : Book) (r : Reading) (rs : List Reading) → Stands sizes e (with_work (r ∷ rs) book) → Stands sizes e' (with_work rs book)
-
-abbrev pub ClosesState : Engine → Engine → Type 0
-ClosesState e e' = (sizes : Sizes) (book : Book) (r : Reading) (rs : List Reading) → Stands sizes e (with_work (r ∷ rs) book) → made Closed (state_of e (with_work (r ∷ rs) book)) ≡ state_of e' (with_work rs book)
-
-module _ (e e' : Engine) (stands : ClosesStands e e') (state : ClosesState e e') (same : SameBut e e') where
+module _ (e e' : Engine) (stands : ClosesStands e e') (state : ClosesState e e') (column : e'.in_line ≡ e.in_line) where
   -- behind these moves
   pub closed_behind : (sizes : Sizes) (s : State) (book : Book) (r : Reading) (rs : List Reading) (f : FilesTold) (told : SinkTold) (w : World) (moves : List Move) → Did sizes s (state_of e (with_work (r ∷ rs) book)) w (world_of f told e) moves → steps moves ≡ 0 →
       Stands sizes e (with_work (r ∷ rs) book) → Went sizes s e' w (world_of f told e') (moves ++ Closed ∷ []) 0
-  closed_behind sizes s book r rs f told w moves did none st = record {
-    book' = with_work rs book;
-    stands = all_of sizes e' (with_work rs book) (stands sizes book r rs st);
-    did = did_join sizes _ _ _ w _ _ moves (Closed ∷ []) did (did_one sizes Closed _ _ _ _ refl (state sizes book r rs st) (quiet_wrote Closed f told e.in_line e'.in_line tt same.others.in_line));
-    count = steps_join moves (Closed ∷ []) ∙ omega (arith, none);
-  }
+  closed_behind sizes s book r rs f told w moves did none st =
+      subst (λ (b : Bool). Went sizes s e' w (world f told b) (moves ++ Closed ∷ []) 0) (sym column) (closed_here e e' stands state sizes s book r rs w (world_of f told e) moves did none st)
 
   -- alone
   pub closed_alone : (sizes : Sizes) (book : Book) (r : Reading) (rs : List Reading) (f : FilesTold) (told : SinkTold) → Stands sizes e (with_work (r ∷ rs) book) → Went sizes (state_of e (with_work (r ∷ rs) book)) e' (world_of f told e) (world_of f told e') (Closed ∷ []) 0
   closed_alone sizes book r rs f told st = closed_behind sizes _ book r rs f told _ [] (did_none sizes (state_of e (with_work (r ∷ rs) book)) (world_of f told e)) refl st
 
 -- behind moves that lead to this engine
-pub closed_as : (e1 e2 n : Engine) → e1 ≡ n → ClosesStands e1 e2 → ClosesState e1 e2 → SameBut e1 e2 → (sizes : Sizes) (s : State) (book : Book) (r : Reading) (rs : List Reading) (f : FilesTold) (told : SinkTold) (w : World) (moves all : List Move) → all ≡ moves ++ Closed ∷ [] →
+pub closed_as : (e1 e2 n : Engine) → e1 ≡ n → ClosesStands e1 e2 → ClosesState e1 e2 → e2.in_line ≡ e1.in_line → (sizes : Sizes) (s : State) (book : Book) (r : Reading) (rs : List Reading) (f : FilesTold) (told : SinkTold) (w : World) (moves all : List Move) → all ≡ moves ++ Closed ∷ [] →
     Did sizes s (state_of n (with_work (r ∷ rs) book)) w (world_of f told n) moves → steps moves ≡ 0 → Stands sizes n (with_work (r ∷ rs) book) → Went sizes s e2 w (world_of f told e2) all 0
-closed_as e1 e2 n is stands state same sizes s book r rs f told w moves all whole did none st =
+closed_as e1 e2 n is stands state column sizes s book r rs f told w moves all whole did none st =
     went_by sizes s e2 w _ (moves ++ Closed ∷ []) all 0 whole
-    (closed_behind n e2 (subst (λ (x : Engine). ClosesStands x e2) is stands) (subst (λ (x : Engine). ClosesState x e2) is state) (subst (λ (x : Engine). SameBut x e2) is same) sizes s book r rs f told w moves did none st)
+    (closed_behind n e2 (subst (λ (x : Engine). ClosesStands x e2) is stands) (subst (λ (x : Engine). ClosesState x e2) is state) (column ∙ ap (λ (x : Engine). x.in_line) is) sizes s book r rs f told w moves did none st)
 
 -- the world that is told when the column stays
 pub column_did : (sizes : Sizes) (s t : State) (n : Engine) (f : FilesTold) (told : SinkTold) (b : Bool) (moves : List Move) → n.in_line ≡ b → Did sizes s t (world f told b) (world f told b) moves → Did sizes s t (world f told b) (world_of f told n) moves
@@ -88,13 +77,13 @@ pub reported_stands : (sizes : Sizes) (e e1 : Engine) (book : Book) → SameFram
 reported_stands sizes e e1 book same input sized st =
     stands_still sizes e e1 book same (input_sound sizes e e1 book input sized st.sound) (ap (λ (i : _). i.making) input ∙ st.idle) st
 
-pub reported_closed : (sizes : Sizes) (e e1 e2 : Engine) (book : Book) (r : Reading) (rs : List Reading) (f : FilesTold) (s0 s1 : SinkTold) (ts : List Token) → ClosesStands e1 e2 → ClosesState e1 e2 → SameBut e1 e2 →
+pub reported_closed : (sizes : Sizes) (e e1 e2 : Engine) (book : Book) (r : Reading) (rs : List Reading) (f : FilesTold) (s0 s1 : SinkTold) (ts : List Token) → ClosesStands e1 e2 → ClosesState e1 e2 → e2.in_line ≡ e1.in_line →
     SameFrames e e1 → e1.input ≡ e.input → (IsSized sizes e → IsSized sizes e1) → Stands sizes e (with_work (r ∷ rs) book) →
     ReportsAs sizes (state_of e (with_work (r ∷ rs) book)) (state_of e1 (with_work (r ∷ rs) book)) (world_of f s0 e) (world_of f s1 e1) (page_of e book) ts (Closed ∷ []) →
     Went sizes (state_of e (with_work (r ∷ rs) book)) e2 (world_of f s0 e) (world_of f s1 e2) (reported_as (page_of e book) ts (Closed ∷ [])) 0
-reported_closed sizes e e1 e2 book r rs f s0 s1 ts stands state but same input sized st h =
+reported_closed sizes e e1 e2 book r rs f s0 s1 ts stands state column same input sized st h =
     went_by sizes _ e2 _ _ _ _ 0 h.moves
-    (closed_behind e1 e2 stands state but sizes _ book r rs f s1 _ _ h.did refl (reported_stands sizes e e1 (with_work (r ∷ rs) book) same input sized st))
+    (closed_behind e1 e2 stands state column sizes _ book r rs f s1 _ _ h.did refl (reported_stands sizes e e1 (with_work (r ∷ rs) book) same input sized st))
 
 pub reported_halts : (sizes : Sizes) (e e1 : Engine) (book : Book) (w w' : World) (moves : List Move) (o : Outcome) → SameFrames e e1 → Stands sizes e book → Halts sizes (state_of e book) e1 book w w' moves o 0 → HaltsIn sizes (state_of e book) e1 w w' moves o 1
 reported_halts sizes e e1 book w w' moves o same st h =
@@ -132,11 +121,11 @@ name_free page characters =
 
 -- WHAT BECOMES LIGHTER
 
-pub closed_lighter : (e e' : Engine) (a : Ask) → e.input.call ≡ NotCalling → asks_in e.readings.frames [] ≡ Some a → IsEnd a → SameBut e e' → frames_weight e'.readings.frames ≡ frames_weight (drop 1 e.readings.frames) → innermost_weight e'.readings.frames < act_frame + act_weight → weight e' < weight e
-closed_lighter e e' a none asks end same frames light = acted_lighter e e' none (same.call ∙ none) same.pending a asks end frames light
+pub closed_lighter : (e e' : Engine) (a : Ask) → e.input.call ≡ NotCalling → asks_in e.readings.frames [] ≡ Some a → IsEnd a → (e.input.call ≡ NotCalling → SameBut e e') → frames_weight e'.readings.frames ≡ frames_weight (drop 1 e.readings.frames) → innermost_weight e'.readings.frames < act_frame + act_weight → weight e' < weight e
+closed_lighter e e' a none asks end but frames light = let same : SameBut e e' = but none in acted_lighter e e' none (same.call ∙ none) same.pending a asks end frames light
 
 -- behind what leaves the frames as they were
 pub closed_lighter_behind : (e e1 e' : Engine) (a : Ask) → e.input.call ≡ NotCalling → asks_in e.readings.frames [] ≡ Some a → IsEnd a → SameFrames e e1 → pending_weight e1.input.pending ≡ pending_weight e.input.pending →
-    SameBut e1 e' → frames_weight e'.readings.frames ≡ frames_weight (drop 1 e1.readings.frames) → innermost_weight e'.readings.frames < act_frame + act_weight → weight e' < weight e
+    (e1.input.call ≡ NotCalling → SameBut e1 e') → frames_weight e'.readings.frames ≡ frames_weight (drop 1 e1.readings.frames) → innermost_weight e'.readings.frames < act_frame + act_weight → weight e' < weight e
 closed_lighter_behind e e1 e' a none asks end same left but frames light =
     lighter_by e e1 e' same left (closed_lighter e1 e' a (same.call ∙ none) (ap (λ (s : Stack). asks_in s.frames []) same.readings ∙ asks) end but frames light)

@@ -34,17 +34,11 @@ rules_by sizes s e' w w' ms ns ruled is h = subst (λ (x : List Move). DoesRuleI
 pub halts_in : (sizes : Sizes) (e e' : Engine) (book : Book) (w w' : World) (moves : List Move) (o : Outcome) (k : ℕ) → Stands sizes e book → SameReadings e e' → Halts sizes (state_of e book) e' book w w' moves o k → HaltsIn sizes (state_of e book) e' w w' moves o k
 halts_in sizes e e' book w w' moves o k st same h = record { book' = book; halts = h; frames = bare_frames sizes e e' book st same }
 
--- a rule of the frames
-pub framed_rules : (sizes : Sizes) (e e' : Engine) (book : Book) (w w' : World) (moves : List Move) (ruled : Ruled) → Stands sizes e book → (IsHalted ruled → SameReadings e e') → DoesRule sizes (state_of e book) e' book w w' moves ruled → DoesRuleIn sizes (state_of e book) e' w w' moves ruled
-framed_rules sizes e e' book w w' moves Step st same h = h
-framed_rules sizes e e' book w w' moves Free st same h = h
-framed_rules sizes e e' book w w' moves (Halted o) st same h = halts_in sizes e e' book w w' moves o 1 st (same tt) h
-
--- a rule of a call
-pub called_rules : (sizes : Sizes) (e e' : Engine) (book : Book) (w w' : World) (moves : List Move) (ruled : Ruled) → AllStand sizes e book → (IsHalted ruled → SameFrames e e') → DoesRule sizes (state_of e book) e' book w w' moves ruled → DoesRuleIn sizes (state_of e book) e' w w' moves ruled
-called_rules sizes e e' book w w' moves Step st same h = h
-called_rules sizes e e' book w w' moves Free st same h = h
-called_rules sizes e e' book w w' moves (Halted o) st same h = record { book' = book; halts = h; frames = frames_still e e' book.work (same tt) (frames_all sizes e book st) }
+-- a rule
+pub rules_in : (sizes : Sizes) (e e' : Engine) (book : Book) (w w' : World) (moves : List Move) (ruled : Ruled) → AllStand sizes e book → (IsHalted ruled → SameFrames e e') → DoesRule sizes (state_of e book) e' book w w' moves ruled → DoesRuleIn sizes (state_of e book) e' w w' moves ruled
+rules_in sizes e e' book w w' moves Step st same h = h
+rules_in sizes e e' book w w' moves Free st same h = h
+rules_in sizes e e' book w w' moves (Halted o) st same h = record { book' = book; halts = h; frames = frames_still e e' book.work (same tt) (frames_all sizes e book st) }
 
 -- NOTED, WHETHER IT HAS STOPPED
 

@@ -13,8 +13,8 @@ use Rattle.tex_defs.specs.declared.Token.{Token}
 use Rattle.tex_defs.specs.Places.{World, Transcript}
 use Rattle.plain_state.specs.Reports.{report_bytes}
 use Rattle.plain_readings.specs.Readings.{Reading, fed_with}
-use Rattle.reading_frames.specs.Stack.{Stack, asks_in}
-use Rattle.reading_frames.specs.Weights.{frames_weight, innermost_weight, IsReported}
+use Rattle.reading_frames.specs.Stack.{asks_in}
+use Rattle.reading_frames.specs.Weights.{IsReported}
 use Rattle.plain_machine.specs.States.{State, Move, Assigned, Written, Reported}
 use Rattle.plain_machine.specs.Plan as plan
 use Rattle.plain_machine.specs.Runs.{steps}
@@ -27,25 +27,27 @@ use Rattle.engine_state.specs.declared.broken.Broken.{Broken}
 use Rattle.input_state.specs.Callings.{NotCalling}
 use Rattle.engine_state.specs.declared.engine.Engine.{Engine}
 use Rattle.engine_state.specs.Book.{Book, with_work}
+use Rattle.engine_state.specs.Calls.{AllStand}
 use Rattle.engine_state.specs.CutReadings.{CutsIn}
 use Rattle.engine_state.specs.Rules.{world_of, Halts, Reports, Went}
 use Rattle.engine_state.specs.Stands.{Stands, SameFrames, state_of, page_of, own_style}
-use Rattle.engine_state.specs.Steps.{weight, pending_weight}
-use Rattle.engine_state.proofs.CallKept.{frames_kept}
-use Rattle.engine_state.proofs.Uncalled.{all_of, frames_none}
+use Rattle.engine_state.specs.Steps.{asks_bare, weight, pending_weight}
+use Rattle.engine_state.proofs.CallKept.{frames_still}
+use Rattle.engine_state.proofs.CallsIn.{uncalled_reported}
+use Rattle.engine_state.proofs.CheckingMoves.{bare_kept}
+use Rattle.engine_state.proofs.Uncalled.{all_of, frames_all}
 use Rattle.gullet.proofs.Stepping.{free_of}
-use Rattle.gullet.proofs.CallWeighing.{lighter_by}
+use Rattle.engine_state.proofs.CallWeighing.{lighter_by}
 use Rattle.engine_state.proofs.CuttingReadings.{column_in, in_by, later_in}
 use Rattle.engine_state.proofs.Putting.{fronts}
-use Rattle.engine_state.proofs.Weighing.{noted_lighter}
 use Rattle.stomach.specs.Halting.{HaltsIn}
 
 -- a run that has ended with the readings that were open
-pub frames_halt : (sizes : Sizes) (e e' : Engine) (s : State) (book : Book) (w w' : World) (moves : List Move) (o : Outcome) (k : ℕ) → SameFrames e e' → Stands sizes e book → Halts sizes s e' book w w' moves o k → HaltsIn sizes s e' w w' moves o k
+pub frames_halt : (sizes : Sizes) (e e' : Engine) (s : State) (book : Book) (w w' : World) (moves : List Move) (o : Outcome) (k : ℕ) → SameFrames e e' → AllStand sizes e book → Halts sizes s e' book w w' moves o k → HaltsIn sizes s e' w w' moves o k
 frames_halt sizes e e' s book w w' moves o k same st h = record {
   book' = book;
   halts = h;
-  frames = frames_none e' book.work (same.call ∙ st.uncalled) (frames_kept e e' book.work same st.readings);
+  frames = frames_still e e' book.work same (frames_all sizes e book st);
 }
 
 -- THE NOTE IS CUT OFF
@@ -76,12 +78,13 @@ module _ (sizes : Sizes) (e : Engine) (f : FilesTold) (s0 : SinkTold) (book : Bo
       (later_in sizes _ _ e3 _ _ _ written (noting r) b h.did (column_in sizes _ e3 f s2 e2.in_line (noting r) b column cuts)))
 
 -- WHAT BECOMES LIGHTER
-pub told_light : (e e1 e2 : Engine) → e.input.call ≡ NotCalling → SameFrames e e1 → pending_weight e1.input.pending ≡ pending_weight e.input.pending → e2.input.call ≡ e1.input.call → e2.input.pending ≡ e1.input.pending →
-    (IsReported (asks_in e1.readings.frames []) → innermost_weight e2.readings.frames < innermost_weight e1.readings.frames) → frames_weight e2.readings.frames ≡ frames_weight e1.readings.frames →
+pub noted_light : (e e1 e2 : Engine) → SameFrames e e1 → pending_weight e1.input.pending ≡ pending_weight e.input.pending → (IsReported (asks_bare e1) → weight e2 < weight e1) → IsReported (asks_bare e) → weight e2 < weight e
+noted_light e e1 e2 same left light reported = lighter_by e e1 e2 same left (light (subst IsReported (sym (bare_kept e e1 same)) reported))
+
+-- where no call gathers its arguments
+pub told_light : (e e1 e2 : Engine) → e.input.call ≡ NotCalling → SameFrames e e1 → pending_weight e1.input.pending ≡ pending_weight e.input.pending → (IsReported (asks_bare e1) → weight e2 < weight e1) →
     IsReported (asks_in e.readings.frames []) → weight e2 < weight e
-told_light e e1 e2 none same left call pending light count reported =
-    let none1 : e1.input.call ≡ NotCalling = same.call ∙ none in
-    lighter_by e e1 e2 same left (noted_lighter e1 e2 none1 (call ∙ none1) pending (light (subst (λ (s : Stack). IsReported (asks_in s.frames [])) (sym same.readings) reported)) count)
+told_light e e1 e2 none same left light reported = noted_light e e1 e2 same left light (uncalled_reported e.input.call (asks_in e.readings.frames []) none reported)
 
 -- BEHIND MOVES WITHOUT A REPORT the innermost reading goes on
 

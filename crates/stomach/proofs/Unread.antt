@@ -22,7 +22,7 @@ use Rattle.engine_state.specs.Calls.{asks_by, AllStand, asks_of}
 use Rattle.engine_state.proofs.CallsKnown.{ReadingsBy, split}
 use Rattle.engine_state.specs.Rules.{plan_of}
 use Rattle.engine_state.specs.Stands.{FramesStand, state_of}
-use Rattle.engine_state.specs.Steps.{asked, asks_more, asks_start, call_asks_more, asks_now, asked_by, wants_token}
+use Rattle.engine_state.specs.Steps.{asked, asks_more, asks_start, asks_now, asked_by, wants_token}
 use Rattle.gullet.proofs.Stepping.{asked_same, no}
 
 -- NO FILE IS TO BE OPENED
@@ -42,7 +42,7 @@ frames_start e work h = work_starts work ∙ ap asks_start (asked_same e.reading
 starts_at : (e : Engine) (c : Option Call) (number : ℕ → ℕ) (work : List Reading) → ReadingsBy c e number work → starts_input work ≡ asks_start (asked_by c e.input.call (asked e))
 starts_at e None number work h = frames_start e work h
 starts_at e (Some c) number [] h = absurd h
-starts_at e (Some c) number (r ∷ rs) h = ap starts (sym h.0.asked)
+starts_at e (Some c) number (r ∷ rs) h = ap starts (sym h.asked)
 
 -- the machine begins a file by its name where the engine does
 pub starts_same : (sizes : Sizes) (e : Engine) (book : Book) → AllStand sizes e book → starts_input book.work ≡ asks_start (asks_now e)
@@ -55,17 +55,11 @@ ask_none (More want) h k = no (sym h)
 ask_none (ActsOn c (effect.StartInput back) ts) h k = no (sym k)
 ask_none a h k = tt
 
-pub call_more : (name : Name) (a : CallAsk) (k : Calling) → asks_more (asks_by name a k) ≡ call_asks_more a
-call_more name (call.ParEnded true) k = refl
-call_more name (call.ParEnded false) k = refl
-call_more name call.More k = refl
-call_more name a k = refl
-
-pub call_none : (name : Name) (a : CallAsk) (k : Calling) → call_asks_more a ≡ false → WantsNone (asks_by name a k)
-call_none name call.More k h = no (sym h)
-call_none name (call.ParEnded true) k h = tt
-call_none name (call.ParEnded false) k h = tt
-call_none name a k h = tt
+-- how far the call is doesn't matter
+pub call_more : (name : Name) (a : CallAsk) (k k' : Calling) → asks_more (asks_by name a k) ≡ asks_more (asks_by name a k')
+call_more name (call.ParEnded true) k k' = refl
+call_more name (call.ParEnded false) k k' = refl
+call_more name a k k' = refl
 
 frames_ask : (e : Engine) (work : List Reading) → FramesStand e work → wants_token (asked_in work) ≡ wants_token (asked e)
 frames_ask e work h = ap wants_token (asked_same e.readings.frames e.input.builds work h.frames)
@@ -78,7 +72,7 @@ unread_at : (e : Engine) (c : Option Call) (book : Book) (work : List Reading) �
 unread_at e None book work h none never = work_unread e book work (frames_ask e work h ∙ none) (frames_start e work h ∙ never)
 unread_at e (Some c) book [] h none never = absurd h
 unread_at e (Some c) book (r ∷ rs) h none never =
-    answered_none (state_of e (with_work (r ∷ rs) book)) (r ∷ rs) r (ask r.kind r.fed) (subst WantsNone h.0.asked (ask_none (asks_of c e.input.call) none never))
+    answered_none (state_of e (with_work (r ∷ rs) book)) (r ∷ rs) r (ask r.kind r.fed) (subst WantsNone h.asked (ask_none (asks_of c e.input.call) none never))
 
 pub plan_unread : (sizes : Sizes) (e : Engine) → wants_token (asks_now e) ≡ false → asks_start (asks_now e) ≡ false → (book : Book) → AllStand sizes e book → pulls (plan_of e book) ≡ 0
 plan_unread sizes e none never book h = unread_at e (call_in e.input.call) book book.work (split e book.number book.work h.all) none never
@@ -96,7 +90,7 @@ work_asks (r ∷ rs) h = ask_wants (ask r.kind r.fed) h
 wants_at : (e : Engine) (c : Option Call) (number : ℕ → ℕ) (work : List Reading) → ReadingsBy c e number work → wants_token (asked_by c e.input.call (asked e)) ≡ true → WantsToken work
 wants_at e None number work h wants = work_asks work (frames_ask e work h ∙ wants)
 wants_at e (Some c) number [] h wants = absurd h
-wants_at e (Some c) number (r ∷ rs) h wants = let w = ask_wants (asks_of c e.input.call) wants in (w.0, sym h.0.asked ∙ w.1)
+wants_at e (Some c) number (r ∷ rs) h wants = let w = ask_wants (asks_of c e.input.call) wants in (w.0, sym h.asked ∙ w.1)
 
 pub work_wants : (sizes : Sizes) (e : Engine) → wants_token (asks_now e) ≡ true → (book : Book) → AllStand sizes e book → WantsToken book.work
 work_wants sizes e wants book h = wants_at e (call_in e.input.call) book.number book.work (split e book.number book.work h.all) wants

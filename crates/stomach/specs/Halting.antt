@@ -48,3 +48,13 @@ DoesRuleAtReading e e' before after moves ruled = (sizes : Sizes) (f : FilesTold
 abbrev pub CutsRuleAtReading : (e e' : Engine) → (before after : SinkTold) → (Page → Reading → List Move) → Broken → Type 0
 CutsRuleAtReading e e' before after moves broken = (sizes : Sizes) (f : FilesTold) (book : Book) (r : Reading) (rs : List Reading) → Stands sizes e (with_work (r ∷ rs) book) →
     CutsIn sizes (state_of e (with_work (r ∷ rs) book)) e' (world_of f before e) (world_of f after e') (moves (page_of e book) r) broken
+
+-- Where this is so, the rule makes these moves, which depend on the innermost reading r, a call's or another, over any files, and ends so.
+abbrev pub DoesRuleIf : (If : Type 0) → (e e' : Engine) → (before after : SinkTold) → (Page → Reading → List Move) → Ruled → Type 0
+DoesRuleIf If e e' before after moves ruled = (sizes : Sizes) (f : FilesTold) (book : Book) (r : Reading) (rs : List Reading) → If → AllStand sizes e (with_work (r ∷ rs) book) →
+    DoesRuleIn sizes (state_of e (with_work (r ∷ rs) book)) e' (world_of f before e) (world_of f after e') (moves (page_of e book) r) ruled
+
+-- They are cut off.
+abbrev pub CutsRuleIf : (If : Type 0) → (e e' : Engine) → (before after : SinkTold) → (Page → Reading → List Move) → Broken → Type 0
+CutsRuleIf If e e' before after moves broken = (sizes : Sizes) (f : FilesTold) (book : Book) (r : Reading) (rs : List Reading) → If → AllStand sizes e (with_work (r ∷ rs) book) →
+    CutsIn sizes (state_of e (with_work (r ∷ rs) book)) e' (world_of f before e) (world_of f after e') (moves (page_of e book) r) broken

@@ -8,7 +8,8 @@ use Rattle.reading_frames.specs.Frames as frames
 use Rattle.reading_frames.specs.declared.ask.Ask.{Ask}
 use Rattle.reading_frames.specs.declared.ask.Ask.TheVariants as asks
 use Rattle.engine_state.specs.declared.engine.Engine.{Engine}
-use Rattle.engine_state.specs.Steps.{call_asks_more}
+use Rattle.engine_state.specs.Calls.{asks_of}
+use Rattle.engine_state.specs.Steps.{asks_more}
 use Rattle.stomach.specs.declared.innermost.Innermost.{Innermost}
 use Rattle.stomach.specs.declared.innermost.Innermost.TheVariants as innermost
 use Rattle.input_state.specs.Callings.{NotCalling, call_in}
@@ -42,7 +43,7 @@ frame_wants None = true
 frame_wants (Some a) = ask_wants a
 
 abbrev pub innermost_wants : Innermost → Bool
-innermost_wants (innermost.Call c) = call_asks_more c.ask
+innermost_wants (innermost.Call c) = asks_more (asks_of c NotCalling)
 innermost_wants (innermost.Frame a) = frame_wants a
 
 -- it asks that a file be opened

@@ -35,7 +35,7 @@ fn assign_macro(engine: &mut Engine, call: Call, name: Name) -> Result<(), Full>
     ensures rule { OnOk result (DoesSilentlyIf (innermost_count engine.old.readings.frames ≡ 1) Went engine.old engine.new (λ page _. Defined (plain_global page call) name call.long call.outer (top_list engine.old.input.builds) ∷ []) 0) }
     ensures err { IfErr result (λ full. CutsAtReading engine.old engine.new (λ page _. Defined (plain_global page call) name call.long call.outer (top_list engine.old.input.builds) ∷ []) (broken.Full full)) }
     ensures light { OnOk result (engine.old.input.call ≡ NotCalling → asks_in engine.old.readings.frames [] ≡ Some (Defines call name []) → weight engine.new < weight engine.old) }
-    ensures call { engine.new.input.call ≡ engine.old.input.call }
+    ensures call { engine.old.input.call ≡ NotCalling → engine.new.input.call ≡ NotCalling }
     ensures after { engine.new.after ≡ engine.old.after }
     ensures column { engine.new.in_line ≡ engine.old.in_line }
     ensures idle { engine.new.input.making ≡ engine.old.input.making }

@@ -11,9 +11,9 @@ ghost use Rattle.plain_machine.specs.States.{Assigned, MagnificationSet};
 ghost use Rattle.plain_machine.specs.Plan.{inner_begun, done as plan_done, is_global as plain_global, is_magnification as plain_magnification, magnification_checked, magnification_set, noting, put_one, reported, report_noted};
 ghost use Rattle.engine_state.specs.Clauses.{GoesAtReading, CutsAtReading};
 ghost use Rattle.engine_state.specs.Rules.{Went};
-ghost use Rattle.engine_state.specs.Steps.{asked, weight, IsFree, IsStep};
+ghost use Rattle.engine_state.specs.Steps.{asked, asks_bare, asks_now, weight, IsFree, IsStep};
 ghost use Rattle.stomach.specs.Clauses.{DoesSilentlyIf};
-ghost use Rattle.stomach.specs.Halting.{DoesRuleAtReading, CutsRuleAtReading};
+ghost use Rattle.stomach.specs.Halting.{DoesRuleAtReading, CutsRuleAtReading, DoesRuleIf, CutsRuleIf};
 ghost use Rattle.input_state.specs.Callings.{NotCalling};
 
 use crate::effects::{give_meaning, is_global, set_number};
@@ -38,20 +38,20 @@ const TRUE_SIZE: u16 = 1000;
 ///
 /// # Errors
 /// There is no room for one more reading, or for its list: nothing has changed.
-pub(crate) fn begin_inner(engine: &mut Engine, kind: Phrase, begins: bool) -> Result<(), Broken>
+pub(crate) fn begin_inner(engine: &mut Engine, phrase: Phrase, begins: bool) -> Result<(), Broken>
     requires uncalled { engine.old.input.call ≡ NotCalling }
-    ensures rule { OnOk result (DoesSilentlyIf (asked engine.old ≡ Some (Inner kind begins)) Went engine.old engine.new (λ _ _. inner_begun (Reads kind) begins) 0) }
-    ensures err { IfErr result (λ b. CutsAtReading engine.old engine.new (λ _ _. inner_begun (Reads kind) begins) b) }
-    ensures light { OnOk result (asks_in engine.old.readings.frames [] ≡ Some (Inner kind begins) → weight engine.new < weight engine.old) }
+    ensures rule { OnOk result (DoesSilentlyIf (asked engine.old ≡ Some (Inner phrase begins)) Went engine.old engine.new (λ _ _. inner_begun (Reads phrase) begins) 0) }
+    ensures err { IfErr result (λ b. CutsAtReading engine.old engine.new (λ _ _. inner_begun (Reads phrase) begins) b) }
+    ensures light { OnOk result (asks_in engine.old.readings.frames [] ≡ Some (Inner phrase begins) → weight engine.new < weight engine.old) }
     ensures column { engine.new.in_line ≡ engine.old.in_line }
     ensures idle { engine.new.input.making ≡ engine.old.input.making }
 {
-    if let Phrase::Command(_) = kind {
+    if let Phrase::Command(_) = phrase {
         // What asks for a command within it is the frame of no reading: it ends.
         engine.close_reading();
         return Ok(());
     }
-    let opening = Opening::Reads(kind);
+    let opening = Opening::Reads(phrase);
     if begins {
         engine.begin_with(opening)?;
         return Ok(());
@@ -90,11 +90,10 @@ pub(crate) fn tell<S: Sink>(
     back: bool,
 ) -> Result<Ruled, Broken>
     requires idle { engine.old.input.making ≡ None }
-    requires uncalled { engine.old.input.call ≡ NotCalling }
-    ensures rule { IfOk result (λ ruled. DoesRuleAtReading engine.old engine.new (S.told out.old) (S.told out.new) (λ page r. report_noted page report inserted back r) ruled) }
-    ensures err { IfErr result (λ b. CutsRuleAtReading engine.old engine.new (S.told out.old) (S.told out.new) (λ page r. report_noted page report inserted back r) b) }
+    ensures rule { IfOk result (λ ruled. DoesRuleIf (IsReported (asks_now engine.old)) engine.old engine.new (S.told out.old) (S.told out.new) (λ page r. report_noted page report inserted back r) ruled) }
+    ensures err { IfErr result (λ b. CutsRuleIf (IsReported (asks_now engine.old)) engine.old engine.new (S.told out.old) (S.told out.new) (λ page r. report_noted page report inserted back r) b) }
     ensures step { IfOk result (λ ruled. IsStep ruled → ⊥) }
-    ensures light { IfOk result (λ ruled. IsFree ruled → IsReported (asks_in engine.old.readings.frames []) → weight engine.new < weight engine.old) }
+    ensures light { IfOk result (λ ruled. IsFree ruled → IsReported (asks_bare engine.old) → weight engine.new < weight engine.old) }
     ensures idle { OnOk result (engine.new.input.making ≡ None) }
 {
     engine.put_back(back)?;

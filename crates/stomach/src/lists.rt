@@ -95,7 +95,7 @@ fn assign_list(engine: &mut Engine, call: Call, loc: Loc) -> Result<(), Full>
     ensures rule { OnOk result (TakesList loc → DoesSilentlyIf (innermost_count engine.old.readings.frames ≡ 1) Went engine.old engine.new (λ page _. ListSet (plain_global page call) loc (top_list engine.old.input.builds) ∷ []) 0) }
     ensures err { IfErr result (λ full. CutsAtReading engine.old engine.new (λ page _. ListSet (plain_global page call) loc (top_list engine.old.input.builds) ∷ []) (broken.Full full)) }
     ensures light { OnOk result (engine.old.input.call ≡ NotCalling → (a : Ask) → asks_in engine.old.readings.frames [] ≡ Some a → IsEnd a → weight engine.new < weight engine.old) }
-    ensures call { engine.new.input.call ≡ engine.old.input.call }
+    ensures call { engine.old.input.call ≡ NotCalling → engine.new.input.call ≡ NotCalling }
     ensures after { engine.new.after ≡ engine.old.after }
     ensures column { engine.new.in_line ≡ engine.old.in_line }
     ensures idle { engine.new.input.making ≡ engine.old.input.making }
@@ -118,7 +118,7 @@ fn pass_nothing(engine: &mut Engine, call: Call, loc: Loc) -> Result<(), Full>
     ensures rule { OnOk result (TakesList loc → GoesAtReading engine.old engine.new (λ page _. Closed ∷ Set (plain_global page call) loc (val.Tokens None) ∷ [])) }
     ensures err { IfErr result (λ full. CutsAtReading engine.old engine.new (λ page _. Closed ∷ Set (plain_global page call) loc (val.Tokens None) ∷ []) (broken.Full full)) }
     ensures light { OnOk result (engine.old.input.call ≡ NotCalling → (a : Ask) → asks_in engine.old.readings.frames [] ≡ Some a → IsEnd a → weight engine.new < weight engine.old) }
-    ensures call { engine.new.input.call ≡ engine.old.input.call }
+    ensures call { engine.old.input.call ≡ NotCalling → engine.new.input.call ≡ NotCalling }
     ensures after { engine.new.after ≡ engine.old.after }
     ensures column { engine.new.in_line ≡ engine.old.in_line }
     ensures idle { engine.new.input.making ≡ engine.old.input.making }

@@ -266,10 +266,11 @@ pub(crate) fn hand_on<S: Sink>(
     x: Seen,
 ) -> Result<Ruled, Broken>
     requires idle { engine.old.input.making ≡ None }
-    requires uncalled { engine.old.input.call ≡ NotCalling }
+    requires uncalled { want ≡ None → engine.old.input.call ≡ NotCalling }
     ensures rule { IfOk result (HandsToken DoesOnward engine.old engine.new (S.told out.old) (S.told out.new) want x) }
     ensures err { IfErr result (HandsToken (λ sizes s e _. CutsIn sizes s e) engine.old engine.new (S.told out.old) (S.told out.new) want x) }
     ensures halts { IfOk result (λ ruled. IsHalted ruled → SameFrames engine.old engine.new) }
+    ensures obeyed { IfOk result (λ ruled. IsHalted ruled → want ≡ None) }
     ensures on { IfOk result (λ ruled. IsFree ruled → ⊥) }
     ensures idle { OnOk result (engine.new.input.making ≡ None) }
 {

@@ -9,10 +9,11 @@ ghost use Rattle.reading_frames.specs.Frames as frames;
 ghost use Rattle.plain_machine.specs.Plan.{acts_on, reported_as};
 ghost use Rattle.plain_machine.specs.States.{Closed};
 ghost use Rattle.input_state.specs.Reads.{gives_step};
-ghost use Rattle.input_state.specs.Callings.{NotCalling};
+ghost use Rattle.input_state.specs.Callings.{NotCalling, call_in};
+ghost use Rattle.gullet.specs.Stepping.{wants_raw};
 ghost use Rattle.engine_state.specs.Clauses.{CutsWhere, DoesWhere, Taking};
 ghost use Rattle.engine_state.specs.CutReadings.{CutsIn};
-ghost use Rattle.engine_state.specs.Stands.{Stands, SameReadings};
+ghost use Rattle.engine_state.specs.Stands.{Stands, SameFrames};
 ghost use Rattle.engine_state.specs.Rules.{plan_of, next_moves, DoesRule};
 ghost use Rattle.engine_state.specs.Steps.{asked, stepping, stops_run, IsStep, IsFree, IsHalted, StepsIf, weight, asks_now, asks_start};
 ghost use Rattle.stomach.specs.Clauses.{DoesIf};
@@ -26,28 +27,30 @@ use crate::innermost::Innermost;
 use crate::lists::set_list;
 use crate::naming::make_name;
 use crate::obeying::hand_on;
-use engine_state::{Broken, Engine, Ruled, stops};
-use gullet::{Stepped, gather, step};
+use engine_state::{Broken, Engine, PAR, Ruled, stops};
+use gullet::{Stepped, fail_call, put_call, run_away_call, step};
+use input_state::Call as MacroCall;
+use macro_call::CallAsk;
 use reading_frames::Ask;
 use rows::{Call, Effect};
 use tex_defs::Fatal;
-use tex_syntax::{Outcome, Want};
+use tex_syntax::{Outcome, Report, Want};
 use world_io::Sink;
 
-/// The next token, and what becomes of it where it is wanted; no call gathers its arguments.
+/// The next token, and what becomes of it where it is wanted: by a call, a frame, or, where none is open, the stomach.
 fn token_rule<S: Sink>(
     engine: &mut Engine,
     out: &mut S,
     want: Option<Want>,
 ) -> Result<Ruled, Broken>
     requires idle { engine.old.input.making ≡ None }
-    requires uncalled { engine.old.input.call ≡ NotCalling }
+    requires uncalled { wants_raw want ≡ false → engine.old.input.call ≡ NotCalling }
     requires running { engine.old.stopped ≡ false }
     ensures light { IfOk result (λ ruled. IsFree ruled → weight engine.new < weight engine.old) }
     ensures step { IfOk result (λ ruled. StepsIf ruled (gives_step (pulled engine.old.input.groups.now.categories engine.old.input.pending))) }
     ensures rule { IfOk result (DoesWhere (Taking want) DoesRule engine.old engine.new (S.told out.old) (S.told out.new) (next_moves want engine.old)) }
     ensures err { IfErr result (CutsWhere (Taking want) engine.old engine.new (S.told out.old) (S.told out.new) (next_moves want engine.old)) }
-    ensures halts { IfOk result (λ ruled. IsHalted ruled → SameReadings engine.old engine.new) }
+    ensures halts { IfOk result (λ ruled. IsHalted ruled → SameFrames engine.old engine.new) }
     ensures idle { OnOk result (engine.new.input.making ≡ None) }
 {
     match step(engine, out, want)? {
@@ -187,6 +190,58 @@ fn frame_rule<S: Sink>(engine: &mut Engine, out: &mut S, ask: &Option<Ask>) -> R
     }
 }
 
+/// The rule of the call that gathers its arguments, the innermost reading of all. What it asks for as others do is done by the same rules.
+fn call_rule<S: Sink>(engine: &mut Engine, out: &mut S, call: MacroCall) -> Result<Ruled, Broken>
+    requires idle { engine.old.input.making ≡ None }
+    requires call { call_in engine.old.input.call ≡ Some call }
+    requires running { engine.old.stopped ≡ false }
+    ensures light { IfOk result (λ ruled. IsFree ruled → weight engine.new < weight engine.old) }
+    ensures step { IfOk result (λ ruled. StepsIf ruled (stepping engine.old)) }
+    ensures rule { IfOk result (λ ruled. DoesPlanIn engine.old engine.new (S.told out.old) (S.told out.new) ruled) }
+    ensures err { IfErr result (λ b. CutsPlanIn engine.old engine.new (S.told out.old) (S.told out.new) b) }
+    ensures idle { OnOk result (engine.new.input.making ≡ None) }
+{
+    match call.ask {
+        CallAsk::More => token_rule(engine, out, Some(Want::Raw)),
+        CallAsk::ExtraBrace => {
+            let report = Report::ExtraBrace(call.name);
+            tell(engine, out, report, Some(PAR), true)
+        }
+        CallAsk::ParEnded(true) => {
+            engine.close_reading();
+            Ok(Ruled::Free)
+        }
+        CallAsk::Gathered => {
+            put_call(engine)?;
+            Ok(Ruled::Free)
+        }
+        CallAsk::Mismatch => fail_call(engine, out, Report::UseMismatch(call.name)),
+        CallAsk::ParEnded(false) => run_away_call(engine, out, call.name),
+    }
+}
+
+/// The rule of the innermost reading, by what it asks for; who calls it notes whether the run has stopped.
+fn innermost_rule<S: Sink>(
+    engine: &mut Engine,
+    innermost: &Innermost,
+    out: &mut S,
+) -> Result<Ruled, Broken>
+    requires innermost { IsInnermost engine.old innermost.now }
+    requires idle { engine.old.input.making ≡ None }
+    requires no_start { asks_start (asks_now engine.old) ≡ false }
+    requires running { engine.old.stopped ≡ false }
+    ensures light { IfOk result (λ ruled. IsFree ruled → weight engine.new < weight engine.old) }
+    ensures step { IfOk result (λ ruled. StepsIf ruled (stepping engine.old)) }
+    ensures rule { IfOk result (λ ruled. DoesPlanIn engine.old engine.new (S.told out.old) (S.told out.new) ruled) }
+    ensures err { IfErr result (λ b. CutsPlanIn engine.old engine.new (S.told out.old) (S.told out.new) b) }
+    ensures idle { OnOk result (engine.new.input.making ≡ None) }
+{
+    match innermost {
+        Innermost::Call(call) => call_rule(engine, out, *call),
+        Innermost::Frame(ask) => frame_rule(engine, out, ask),
+    }
+}
+
 /// Does one rule of the machine, with at most one step; it isn't one that opens or begins a file.
 ///
 /// # Errors
@@ -207,12 +262,7 @@ pub(crate) fn rule<S: Sink>(
     ensures idle { OnOk result (engine.new.input.making ≡ None) }
     ensures stopped { MatchResult result (λ ruled. engine.new.stopped ≡ stops_run ruled) (λ _. engine.new.stopped ≡ true) }
 {
-    match innermost {
-        Innermost::Call(call) => gather(engine, out, *call),
-        Innermost::Frame(ask) => {
-            let ruled = frame_rule(engine, out, ask);
-            engine.stopped = stops(&ruled);
-            ruled
-        }
-    }
+    let ruled = innermost_rule(engine, innermost, out);
+    engine.stopped = stops(&ruled);
+    ruled
 }

@@ -19,8 +19,8 @@ use Rattle.engine_state.proofs.Counting.{counts_of}
 use Rattle.engine_state.proofs.Joining.{on_ok, same_err, skip_onward, went_by}
 use Rattle.engine_state.proofs.AtLocations.{same_engine}
 use Rattle.gullet.proofs.CallBeginning.{at_once_has, gathers_has, none_stays, gathers_stays, called_none, called_went, called_cuts, begun_went, begun_cuts, on_both, if_both}
-use Rattle.gullet.proofs.CallWeighing.{on_err, on_err_to}
-use Rattle.gullet.proofs.CallsIn.{first_asks}
+use Rattle.engine_state.proofs.CallWeighing.{on_err, on_err_to}
+use Rattle.engine_state.proofs.CallsIn.{first_asks}
 use Rattle.gullet.proofs.ExpandingWeighs.{put_light, called_light}
 use Rattle.gullet.proofs.call_name.call_name.Goals as goal
 

@@ -55,7 +55,7 @@ returns-in-Some-clause-rule c = let e = c.args.engine.now in let e1 = c.begin.ne
     let opens = n.stands sizes inner now in
     let r : Reading = record { kind = k; fed = [] } in
     constant_went sizes e e1 book w c.args.call c.args.number (ap (λ (p : Pending). p.number) b.same.pending) (b.fits sizes book (counts_of sizes e book st)) (b.state sizes book st) e2 (n.did sizes w inner now.sound.sized) opens
-    e3 (constant_test c.args.number) c.in-Some.truth (sym c.constant_test.ensures ∙ c.in-Some.is) (l.state sizes book r book.work opens) (ap (λ (p : Pending). p.number) (l.same.pending ∙ ap (λ (x : Engine). x.input.pending) n.only ∙ b.same.pending))
+    e3 (constant_test c.args.number) c.in-Some.truth (sym c.constant_test.ensures ∙ c.in-Some.is) (l.state sizes book r book.work opens) (ap (λ (p : Pending). p.number) ((l.same opens.uncalled).pending ∙ ap (λ (x : Engine). x.input.pending) n.only ∙ b.same.pending))
     c.choose.new.engine
     (h sizes w (with_work book.work book) (l.stands sizes book r book.work opens)))
     c.choose.ensures.rule
@@ -69,7 +69,7 @@ returns-in-Some-clause-err c = let e = c.args.engine.now in let e1 = c.begin.new
     let opens = n.stands sizes inner now in
     let r : Reading = record { kind = k; fed = [] } in
     constant_cuts sizes e e1 book w c.args.call c.args.number (ap (λ (p : Pending). p.number) b.same.pending) (b.fits sizes book (counts_of sizes e book st)) (b.state sizes book st) e2 (n.did sizes w inner now.sound.sized) opens
-    e3 (constant_test c.args.number) c.in-Some.truth (sym c.constant_test.ensures ∙ c.in-Some.is) (l.state sizes book r book.work opens) (ap (λ (p : Pending). p.number) (l.same.pending ∙ ap (λ (x : Engine). x.input.pending) n.only ∙ b.same.pending))
+    e3 (constant_test c.args.number) c.in-Some.truth (sym c.constant_test.ensures ∙ c.in-Some.is) (l.state sizes book r book.work opens) (ap (λ (p : Pending). p.number) ((l.same opens.uncalled).pending ∙ ap (λ (x : Engine). x.input.pending) n.only ∙ b.same.pending))
     c.choose.new.engine broken
     (h sizes w (with_work book.work book) (l.stands sizes book r book.work opens)))
     c.choose.ensures.err
@@ -87,7 +87,8 @@ returns-in-Some-clause-light c = let e = c.args.engine.now in let e3 = c.close_r
     on_ok c.choose.result
     (λ h none light.
     let frames : e3.readings.frames ≡ e.readings.frames = l.beneath ∙ ap (λ (s : Stack). drop 1 s.frames) n.frames.readings ∙ b.beneath in
+    let same = l.same (n.frames.call ∙ b.same.call ∙ none) in
     let asks : innermost_weight e3.readings.frames ≡ innermost_weight e.readings.frames = ap innermost_weight frames in
-    from_same e none act_weight e3 c.choose.new.engine frames (l.same.pending ∙ ap (λ (x : Engine). x.input.pending) n.only ∙ b.same.pending)
-    (h act_weight (l.same.call ∙ n.frames.call ∙ b.same.call ∙ none) (omega arith) (omega (arith, asks, light))))
+    from_same e none act_weight e3 c.choose.new.engine frames (same.pending ∙ ap (λ (x : Engine). x.input.pending) n.only ∙ b.same.pending)
+    (h act_weight (same.call ∙ n.frames.call ∙ b.same.call ∙ none) (omega arith) (omega (arith, asks, light))))
     c.choose.ensures.light

@@ -186,7 +186,7 @@ returns-in_ok-begin-in-Begin-clause-light g c expanded light = let e = c.args.en
 
 pub returns-in_ok-put_job-in-JobName-clause-light : goal.returns-in_ok-put_job-in-JobName-clause-light
 returns-in_ok-put_job-in-JobName-clause-light g c expanded light = let e = c.args.engine.now in let n = c.in_ok-put_job-in-JobName.ensures in
-    framed_light e c.requires.uncalled light c.put_job.new.engine n.call n.frames n.pending
+    framed_light e c.requires.uncalled light c.put_job.new.engine (n.call c.requires.uncalled) n.frames n.pending
 
 pub returns-in_ok-begin_conditional-in-Conditional-clause-light : goal.returns-in_ok-begin_conditional-in-Conditional-clause-light
 returns-in_ok-begin_conditional-in-Conditional-clause-light g c expanded light = c.in_ok-begin_conditional-in-Conditional.ensures.light c.requires.uncalled light

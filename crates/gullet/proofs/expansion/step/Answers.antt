@@ -1,15 +1,13 @@
 use Rattle.std.proofs.Common.{sym, ap, subst, ◌∙◌}
-use Rattle.input_state.specs.Callings.{call_in}
-use Rattle.engine_state.proofs.Uncalled.{no_call}
 use Rattle.engine_state.specs.declared.outcome.Next.TheVariants as next
 use Rattle.engine_state.specs.Stands.{state_of}
 use Rattle.engine_state.specs.Rules.{world_of, next_moves, Comes}
-use Rattle.engine_state.specs.Steps.{IsSkipped, ends_run}
+use Rattle.engine_state.specs.Steps.{IsSkipped, IsOver as IsNextOver, ends_run}
 use Rattle.engine_state.proofs.Coming.{next_as, comes_cuts}
-use Rattle.engine_state.proofs.Joining.{same_err, ok_to, err_to}
-use Rattle.engine_state.proofs.Stopping.{noted_in, noted_readings}
+use Rattle.engine_state.proofs.Joining.{same_err, ok_to, ok_both, ok_three, err_to}
+use Rattle.engine_state.proofs.Stopping.{noted_in, noted_frames, noted_readings}
 use Rattle.gullet.proofs.Ending.{no_ok, no_on, on_end, next_counts, token_counts}
-use Rattle.gullet.proofs.Expanding.{steps_on, noted_steps, halted_readings, kept_readings}
+use Rattle.gullet.proofs.Expanding.{steps_on, noted_steps, halted_frames, kept_readings, uncalled_still}
 use Rattle.gullet.proofs.expansion.step.Goals as goal
 
 pub returns-in_err-seen-clause-err : goal.returns-in_err-seen-clause-err
@@ -18,11 +16,11 @@ returns-in_err-seen-clause-err g c = let n = c.in_err-seen in
 
 pub returns-in-Token-clause-rule : goal.returns-in-Token-clause-rule
 returns-in-Token-clause-rule g c = let e = c.args.engine.now in let e1 = c.next_token.new.self in let e2 = c.expand-stepped.new.engine in let x = c.in-Token.seen in let n = c.in_ok-seen in let s = g.S.Sink.told c.next_token.new.out in
-    ok_to c.expand-stepped.result (λ stepped h sizes f book t.
+    ok_three c.expand-stepped.result (λ stepped h kept raw sizes f book t.
     let w = world_of f (g.S.Sink.told c.args.out.now) e in let w1 = world_of f s e1 in let w2 = world_of f (g.S.Sink.told c.expand-stepped.new.out) e2 in let moves = next_moves c.args.want e book in
     let comes : Comes sizes c.args.want (state_of e book) e1 book w w1 moves x 1 = next_as sizes c.args.want (state_of e book) e1 book w w1 moves n.field-0 (next.Token x) (sym c.in-Token.is) (n.ensures.rule sizes f book c.args.want c.enters_names.ensures t) in
     noted_steps c.stops-engine.result sizes c.args.want (state_of e book) e2 book w w2 moves stepped
-    (steps_on sizes c.args.want (state_of e book) e1 e2 book w w1 w2 moves x comes (no_call c.next_token.new.self.input.call (c.next_token.ensures.readings.call ∙ ap call_in c.requires.uncalled)) stepped (h sizes f comes.book' comes.takes))) c.expand-stepped.ensures.rule
+    (steps_on sizes c.args.want (state_of e book) e1 e2 book w w1 w2 moves x comes stepped kept (λ over. uncalled_still e e1 c.next_token.ensures.readings (c.requires.uncalled (raw over))) (h sizes f comes.book' comes.takes))) c.expand-stepped.ensures.rule c.expand-stepped.ensures.stays c.expand-stepped.ensures.expanded
 
 pub returns-in-Token-clause-err : goal.returns-in-Token-clause-err
 returns-in-Token-clause-err g c = let e = c.args.engine.now in let e1 = c.next_token.new.self in let e2 = c.expand-stepped.new.engine in let x = c.in-Token.seen in let n = c.in_ok-seen in let s = g.S.Sink.told c.next_token.new.out in
@@ -45,7 +43,7 @@ returns-in-Over-clause-rule g c = let e = c.args.engine.now in let n = c.in_ok-s
 
 pub returns-in-Token-clause-halts : goal.returns-in-Token-clause-halts
 returns-in-Token-clause-halts g c = let r = c.next_token.ensures.readings in
-    ok_to c.expand-stepped.result (λ stepped h over. noted_readings c.stops-engine.result c.args.engine.now c.expand-stepped.new.engine (halted_readings c.args.engine.now c.next_token.new.self c.expand-stepped.new.engine r (h over))) c.expand-stepped.ensures.halts
+    ok_both c.expand-stepped.result (λ stepped h raw over. noted_frames c.stops-engine.result c.args.engine.now c.expand-stepped.new.engine (halted_frames c.args.engine.now c.next_token.new.self c.expand-stepped.new.engine r (c.requires.uncalled (raw over)) (h over))) c.expand-stepped.ensures.halts c.expand-stepped.ensures.expanded
 
 pub returns-in-Token-clause-stays : goal.returns-in-Token-clause-stays
 returns-in-Token-clause-stays g c = let r = c.next_token.ensures.readings in
@@ -144,7 +142,7 @@ pub returns-in-Over-clause-err : goal.returns-in-Over-clause-err
 returns-in-Over-clause-err g c = tt
 
 pub returns-in-Over-clause-halts : goal.returns-in-Over-clause-halts
-returns-in-Over-clause-halts g c over = c.next_token.ensures.readings
+returns-in-Over-clause-halts g c over = c.in_ok-seen.ensures.halts (subst IsNextOver (sym c.in-Over.is) tt)
 
 pub returns-in-Over-clause-stays : goal.returns-in-Over-clause-stays
 returns-in-Over-clause-stays g c kept = absurd kept
@@ -159,4 +157,4 @@ pub expand-stepped-requires-clause-idle : goal.expand-stepped-requires-clause-id
 expand-stepped-requires-clause-idle g c = c.in_ok-seen.ensures.idle
 
 pub expand-stepped-requires-clause-uncalled : goal.expand-stepped-requires-clause-uncalled
-expand-stepped-requires-clause-uncalled g c = no_call c.next_token.new.self.input.call (c.next_token.ensures.readings.call ∙ ap call_in c.requires.uncalled)
+expand-stepped-requires-clause-uncalled g c = λ raw. uncalled_still c.args.engine.now c.next_token.new.self c.next_token.ensures.readings (c.requires.uncalled raw)

@@ -1,13 +1,15 @@
-use Rattle.std.proofs.Common.{◌≡◌, ◌∷◌, [], refl, ap, arith, false, true}
+use Rattle.std.proofs.Common.{◌≡◌, ◌∷◌, [], ap, ◌∙◌, arith, false, true}
 use Rattle.std.proofs.lemmas.Grind.{common_steps}
 use Rattle.tex_syntax.specs.declared.words.Outcome.TheVariants.{AtFatal}
 use Rattle.plain_machine.specs.States.{Closed}
 use Rattle.tex_defs.specs.declared.Fatal.TheVariants as fatal
 use Rattle.input_state.specs.Stored.{Stored}
-use Rattle.engine_state.specs.Steps.{pending_weight}
+use Rattle.input_state.specs.Callings.{call_in}
+use Rattle.engine_state.specs.Steps.{pending_weight, wants_token}
 use Rattle.engine_state.specs.Book.{with_work}
-use Rattle.gullet.proofs.CallEnding.{failed_went, failed_halts}
-use Rattle.gullet.proofs.CallWeighing.{closed_lighter}
+use Rattle.engine_state.proofs.CallEnding.{failed_went, failed_halts}
+use Rattle.engine_state.proofs.CallWeighing.{lighter_by}
+use Rattle.engine_state.proofs.CheckingMoves.{asks_kept}
 use Rattle.engine_state.proofs.Joining.{same_err}
 use Rattle.gullet.proofs.gathering.fail_call.Goals as goal
 
@@ -23,9 +25,10 @@ returns-then-not-branch-clause-rule g c =
 pub returns-clause-rule : goal.returns-clause-rule
 returns-clause-rule g c =
     let yes : c.in_ok-report.field-0 ≡ true = grind (arith, common_steps, c.if-not-branch.false) in let e = c.args.engine.now in let e1 = c.report.new.self in
-    λ sizes f book r rs call is st. failed_went sizes e e1 c.close_call.new.engine book r rs call f _ _ c.args.report is st c.report.ensures.frames c.report.ensures.input (c.in_ok-report.ensures.sized yes sizes) c.close_call.ensures.after c.close_call.ensures.keeps
+    let l = c.close_reading.ensures in
+    λ sizes f book r rs call is st. failed_went sizes e e1 c.close_reading.new.self book r rs f _ _ c.args.report st c.report.ensures.frames c.report.ensures.input (c.in_ok-report.ensures.sized yes sizes) l.ends l.column
     (c.in_ok-report.ensures.on yes sizes f (with_work (r ∷ rs) book) (Closed ∷ []))
 
 pub returns-clause-light : goal.returns-clause-light
-returns-clause-light g c free call is asks =
-    closed_lighter c.args.engine.now c.report.new.self c.close_call.new.engine _ call c.report.ensures.frames (ap (λ (x : Stored). pending_weight x.pending) c.report.ensures.input) refl refl c.close_call.ensures.after is asks
+returns-clause-light g c free call is asks = let n = c.report.ensures in
+    lighter_by c.args.engine.now c.report.new.self c.close_reading.new.self n.frames (ap (λ (x : Stored). pending_weight x.pending) n.input) (c.close_reading.ensures.light call (ap call_in n.frames.call ∙ is) (ap wants_token (asks_kept c.args.engine.now c.report.new.self n.frames) ∙ asks))

@@ -4,15 +4,16 @@ use Rattle.input_state.specs.Stored.{Stored}
 use Rattle.input_state.specs.Callings.{call_in}
 use Rattle.engine_state.specs.declared.engine.Engine.{Engine}
 use Rattle.engine_state.specs.Book.{with_work}
-use Rattle.engine_state.specs.Steps.{pending_weight}
+use Rattle.engine_state.specs.Steps.{pending_weight, wants_token}
 use Rattle.engine_state.specs.Calls.{argument_bytes}
 use Rattle.gullet.proofs.CallAway.{call_away_full, call_away_rule, call_away_cuts}
-use Rattle.gullet.proofs.CallEnding.{written_stands, put_stands}
+use Rattle.engine_state.proofs.CallEnding.{written_stands, put_stands}
 use Rattle.engine_state.proofs.Counting.{call_counts}
 use Rattle.engine_state.proofs.Joining.{same_err, ok_to, err_to, ok_both}
-use Rattle.engine_state.proofs.AtLocations.{only_frames, only_input}
+use Rattle.engine_state.proofs.AtLocations.{frames_join, only_frames, only_input}
 use Rattle.gullet.proofs.Ending.{no_ok, no_on}
-use Rattle.gullet.proofs.CallWeighing.{on_err, on_err_to, frames_join, lighter_by}
+use Rattle.engine_state.proofs.CallWeighing.{on_err, on_err_to, lighter_by}
+use Rattle.engine_state.proofs.CheckingMoves.{asks_kept}
 use Rattle.gullet.proofs.gathering.run_away_call.Goals as goal
 
 pub returns-in_err-write_argument-clause-err : goal.returns-in_err-write_argument-clause-err
@@ -90,7 +91,10 @@ returns-clause-step g c = c.fail_call.ensures.step
 
 pub returns-clause-light : goal.returns-clause-light
 returns-clause-light g c =
-    ok_to c.fail_call.result (λ ruled h free call is asks. lighter_by c.args.engine.now c.put_one.new.self c.fail_call.new.engine (frames_join c.args.engine.now c.write_argument.new.self c.put_one.new.self (only_frames c.args.engine.now c.write_argument.new.self c.write_argument.ensures.only) c.put_one.ensures.frames) (c.put_one.ensures.light ∙ ap (λ (x : Stored). pending_weight x.pending) (only_input c.args.engine.now c.write_argument.new.self c.write_argument.ensures.only)) (h free call (ap call_in (c.put_one.ensures.frames.call ∙ ap (λ (y : Engine). y.input.call) c.write_argument.ensures.only.same) ∙ is) asks)) c.fail_call.ensures.light
+    let e = c.args.engine.now in let e2 = c.put_one.new.self in
+    let same = frames_join e c.write_argument.new.self e2 (only_frames e c.write_argument.new.self c.write_argument.ensures.only) c.put_one.ensures.frames in
+    ok_to c.fail_call.result (λ ruled h free call is none. lighter_by e e2 c.fail_call.new.engine same (c.put_one.ensures.light ∙ ap (λ (x : Stored). pending_weight x.pending) (only_input e c.write_argument.new.self c.write_argument.ensures.only))
+    (h free call (ap call_in same.call ∙ is) (ap wants_token (asks_kept e e2 same) ∙ none))) c.fail_call.ensures.light
 
 pub returns-clause-frames : goal.returns-clause-frames
 returns-clause-frames g c =

@@ -17,4 +17,4 @@ returns-clause-err c = let n = c.choose in let e = c.args.engine.now in let e1 =
 
 pub returns-clause-light : goal.returns-clause-light
 returns-clause-light c = let n = c.choose in let e = c.args.engine.now in let e1 = c.close_reading.new.self in let l = c.close_reading.ensures in
-    on_ok n.result (λ most a asks end. gone_on_lighter e e1 n.new.engine a c.requires.uncalled asks end l.same l.frames l.weight (λ k. most k (l.same.call ∙ c.requires.uncalled))) n.ensures.light
+    on_ok n.result (λ most a asks end. gone_on_lighter e e1 n.new.engine a c.requires.uncalled asks end l.same l.frames l.weight (λ k. most k ((l.same c.requires.uncalled).call ∙ c.requires.uncalled))) n.ensures.light

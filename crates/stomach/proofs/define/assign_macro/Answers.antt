@@ -15,7 +15,7 @@ pub returns-then-is_calling-clause-rule : goal.returns-then-is_calling-clause-ru
 returns-then-is_calling-clause-rule c = let e = c.args.engine.now in let e1 = c.close_reading.new.self in let l = c.close_reading.ensures in
     λ sizes w book r rs st own. elim c.then-is_calling.branch [
       | then-is_calling-via-then-is_calling b ↦ absurd (b.if-is_calling.ensures st.uncalled)
-      | then-is_calling-via-else-is_calling+then-not-is_placed b ↦ lost_went sizes e e1 book w r rs c.args.call c.args.name (l.stands sizes book r rs st) (l.state sizes book r rs st) (top_list e.input.builds) c.requires.token b.if-not-is_placed.ensures l.same.store.groups
+      | then-is_calling-via-else-is_calling+then-not-is_placed b ↦ lost_went sizes e e1 book w r rs c.args.call c.args.name (l.stands sizes book r rs st) (l.state sizes book r rs st) (top_list e.input.builds) c.requires.token b.if-not-is_placed.ensures (l.same st.uncalled).store.groups
     ]
 
 pub returns-then-is_calling-clause-light : goal.returns-then-is_calling-clause-light

@@ -34,7 +34,7 @@ returns-in_ok-assign_macro-clause-rule c = let e = c.args.engine.now in let e1 =
     let own : innermost_count e.readings.frames ≡ 1 = innermost_own e.readings.frames e.input.builds (Defines c.args.call c.args.name ts) ts asks refl some in
     let moves : List Move = Defined (is_global (page_of e book) c.args.call) c.args.name c.args.call.long c.args.call.outer (top_list e.input.builds) ∷ [] in
     went_by sizes s e2 w w _ _ 0 (defines_are (page_of e book) c.args.call c.args.name (top_list e.input.builds) ts top (λ none. some (top ∙ none)))
-    (behind_went sizes s e e1 e2 w moves (p.call ∙ st.uncalled) p.after n.frames (p.rule sizes w book r rs st own) n.others n.store idle did)) n.did n.idle
+    (behind_went sizes s e e1 e2 w moves (p.call st.uncalled) p.after n.frames (p.rule sizes w book r rs st own) n.others n.store idle did)) n.did n.idle
 
 pub returns-in_ok-assign_macro-clause-err : goal.returns-in_ok-assign_macro-clause-err
 returns-in_ok-assign_macro-clause-err c = let e = c.args.engine.now in let e1 = c.assign_macro.new.engine in let e2 = c.put_after.new.self in let n = c.put_after.ensures in let p = c.in_ok-assign_macro.ensures in
@@ -45,7 +45,7 @@ returns-in_ok-assign_macro-clause-err c = let e = c.args.engine.now in let e1 = 
     let own : innermost_count e.readings.frames ≡ 1 = innermost_own e.readings.frames e.input.builds (Defines c.args.call c.args.name ts) ts asks refl some in
     let moves : List Move = Defined (is_global (page_of e book) c.args.call) c.args.name c.args.call.long c.args.call.outer (top_list e.input.builds) ∷ [] in
     in_by sizes s e2 w w _ _ b (defines_are (page_of e book) c.args.call c.args.name (top_list e.input.builds) ts top (λ none. some (top ∙ none)))
-    (unput_in sizes s e e1 e2 w moves (p.call ∙ st.uncalled) p.after n.frames (p.rule sizes w book r rs st own) b cuts)) n.err
+    (unput_in sizes s e e1 e2 w moves (p.call st.uncalled) p.after n.frames (p.rule sizes w book r rs st own) b cuts)) n.err
 
 -- NO TOKEN
 

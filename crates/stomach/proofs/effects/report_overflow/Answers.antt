@@ -10,7 +10,7 @@ use Rattle.engine_state.specs.Stands.{page_of}
 use Rattle.engine_state.specs.Steps.{pending_weight}
 use Rattle.engine_state.proofs.Joining.{same_err}
 use Rattle.engine_state.proofs.CuttingReadings.{stands_in}
-use Rattle.gullet.proofs.CallWeighing.{lighter_by}
+use Rattle.engine_state.proofs.CallWeighing.{lighter_by}
 use Rattle.stomach.proofs.ActsEnding.{overflow_went, overflow_cut}
 use Rattle.stomach.proofs.RuleCloses.{reported_stands, reported_halts}
 use Rattle.stomach.proofs.effects.report_overflow.Goals as goal

@@ -77,4 +77,4 @@ pub returns-then-branch-clause-light : goal.returns-then-branch-clause-light
 returns-then-branch-clause-light g c = let e = c.args.engine.now in let e1 = c.report.new.self in let e2 = c.set_number.new.engine in let m = c.args.mag in let n = c.report.ensures in let i = c.in_ok-note.ensures in
     let left : pending_weight e2.input.pending ≡ pending_weight e1.input.pending = search (rules, c.set_number.ensures.only) in
     λ free reported. told_light e (record e2 { mag_set = m }) c.note.new.self c.requires.uncalled (mag_frames e e2 m (frames_join e e1 e2 n.frames c.set_number.ensures.frames))
-    (left ∙ ap (λ (x : Stored). pending_weight x.pending) n.input) c.note.ensures.call i.same.pending i.weight i.frames reported
+    (left ∙ ap (λ (x : Stored). pending_weight x.pending) n.input) i.light reported

@@ -21,4 +21,4 @@ returns-clause-rule c = let e = c.args.engine.now in let n = c.in_ok-note.ensure
 
 pub returns-clause-light : goal.returns-clause-light
 returns-clause-light c = let n = c.in_ok-note.ensures in let e = c.args.engine.now in
-    λ reported. told_light e e c.note.new.self c.requires.uncalled (same_engine e e refl) refl c.note.ensures.call n.same.pending n.weight n.frames reported
+    λ reported. told_light e e c.note.new.self c.requires.uncalled (same_engine e e refl) refl n.light reported

@@ -31,4 +31,4 @@ returns-clause-rule c = let e = c.args.engine.now in let e1 = c.put_one.new.self
 
 pub returns-clause-light : goal.returns-clause-light
 returns-clause-light c = let n = c.in_ok-note.ensures in
-    λ reported. told_light c.args.engine.now c.put_one.new.self c.note.new.self c.requires.uncalled c.put_one.ensures.frames c.put_one.ensures.light c.note.ensures.call n.same.pending n.weight n.frames reported
+    λ reported. told_light c.args.engine.now c.put_one.new.self c.note.new.self c.requires.uncalled c.put_one.ensures.frames c.put_one.ensures.light n.light reported

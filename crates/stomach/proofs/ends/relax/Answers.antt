@@ -39,4 +39,4 @@ returns-clause-rule c = let e = c.args.engine.now in let e1 = c.give_meaning.new
 pub returns-clause-light : goal.returns-clause-light
 returns-clause-light c = let n = c.in_ok-note.ensures in let e = c.args.engine.now in let e1 = c.give_meaning.new.engine in
     let left : pending_weight e1.input.pending ≡ pending_weight e.input.pending = search (rules, c.give_meaning.ensures.only) in
-    λ reported. told_light e e1 c.note.new.self c.requires.uncalled c.give_meaning.ensures.frames left c.note.ensures.call n.same.pending n.weight n.frames reported
+    λ reported. told_light e e1 c.note.new.self c.requires.uncalled c.give_meaning.ensures.frames left n.light reported

@@ -23,4 +23,4 @@ returns-clause-rule c = let e = c.args.engine.now in let m = c.args.mag in let n
 
 pub returns-clause-light : goal.returns-clause-light
 returns-clause-light c = let n = c.in_ok-note.ensures in let e = c.args.engine.now in let m = c.args.mag in
-    λ reported. told_light e (record e { mag_set = m }) c.note.new.self c.requires.uncalled (mag_frames e e m (same_engine e e refl)) refl c.note.ensures.call n.same.pending n.weight n.frames reported
+    λ reported. told_light e (record e { mag_set = m }) c.note.new.self c.requires.uncalled (mag_frames e e m (same_engine e e refl)) refl n.light reported

@@ -57,23 +57,25 @@ returns-clause-rule c =
     subst (λ (bs : List (List Token)). Did sizes (state_of e1 at) (state_of e2 at) w w (Spelt (file_name (character_codes (kept_list_of c.args.listed bs))) ∷ [])) p.frames.lists (n.ensures.did sizes w at st1.sound) in
     sought sizes e e1 e2 book w r rs c.args.back name (k.did sizes w at (counts_of sizes e at st) st.idle) e3 i n.count spells (l.state sizes book r rs st2) (l.stands sizes book r rs st2)
     c.end_token_lists.ensures.after c.end_token_lists.ensures.keeps
-    (sought_name e2 e3 i l.same c.end_token_lists.ensures.after n.count l.buffer ∙ (n.ensures.name ∙ ap (λ (bs : List (List Token)). file_name (character_codes (kept_list_of c.args.listed bs))) p.frames.lists))
-    (sought_room e2 e3 i l.same c.end_token_lists.ensures.after e1 n.count only n.ensures.room)
+    (sought_name e2 e3 i (l.same st2.uncalled) c.end_token_lists.ensures.after n.count l.buffer ∙ (n.ensures.name ∙ ap (λ (bs : List (List Token)). file_name (character_codes (kept_list_of c.args.listed bs))) p.frames.lists))
+    (sought_room e2 e3 i (l.same st2.uncalled) c.end_token_lists.ensures.after e1 n.count only n.ensures.room)
 
 pub returns-clause-light : goal.returns-clause-light
 returns-clause-light c =
     let e = c.args.engine.now in let e1 = c.put_back.new.self in let e2 = c.spell_file.new.engine in let only = c.spell_file.ensures.only in let p = c.put_back.ensures in let l = c.close_reading.ensures in
-    λ call effect asks. sought_lighter e2 c.close_reading.new.self c.end_token_lists.new.self l.same c.end_token_lists.ensures.after e call effect c.requires.uncalled
-    (frames_join e e1 e2 p.frames (spelt_frames e1 e2 only)) (ap (λ (x : Engine). pending_weight x.input.pending) only ∙ p.light) asks l.frames l.weight
+    let frames = frames_join e e1 e2 p.frames (spelt_frames e1 e2 only) in
+    λ call effect asks. sought_lighter e2 c.close_reading.new.self c.end_token_lists.new.self (l.same (frames.call ∙ c.requires.uncalled)) c.end_token_lists.ensures.after e call effect c.requires.uncalled
+    frames (ap (λ (x : Engine). pending_weight x.input.pending) only ∙ p.light) asks l.frames l.weight
 
 pub returns-clause-files : goal.returns-clause-files
 returns-clause-files c =
-    sought_next c.spell_file.new.engine c.close_reading.new.self c.end_token_lists.new.self c.close_reading.ensures.same c.end_token_lists.ensures.after
+    let uncalled = ap (λ (x : Engine). x.input.call) c.spell_file.ensures.only ∙ (c.put_back.ensures.frames.call ∙ c.requires.uncalled) in
+    sought_next c.spell_file.new.engine c.close_reading.new.self c.end_token_lists.new.self (c.close_reading.ensures.same uncalled) c.end_token_lists.ensures.after
     ∙ (ap (λ (x : Engine). x.input.pending.next) c.spell_file.ensures.only ∙ c.put_back.ensures.next)
 
 pub returns-clause-column : goal.returns-clause-column
-returns-clause-column c = c.close_reading.ensures.same.others.in_line ∙ (ap (λ (x : Engine). x.in_line) c.spell_file.ensures.only ∙ c.put_back.ensures.others.in_line)
+returns-clause-column c = c.close_reading.ensures.column ∙ (ap (λ (x : Engine). x.in_line) c.spell_file.ensures.only ∙ c.put_back.ensures.others.in_line)
 
 pub returns-clause-idle : goal.returns-clause-idle
 returns-clause-idle c =
-    ap (λ (x : Stored). x.making) c.end_token_lists.ensures.after ∙ (c.close_reading.ensures.same.making ∙ (ap (λ (x : Engine). x.input.making) c.spell_file.ensures.only ∙ c.in_ok-put_back.ensures.idle))
+    ap (λ (x : Stored). x.making) c.end_token_lists.ensures.after ∙ (c.close_reading.ensures.idle ∙ (ap (λ (x : Engine). x.input.making) c.spell_file.ensures.only ∙ c.in_ok-put_back.ensures.idle))

@@ -45,7 +45,7 @@ returns-then-copies-clause-rule c = let i = c.in_ok-copy_list.ensures in let e =
 
 pub returns-then-copies-clause-light : goal.returns-then-copies-clause-light
 returns-then-copies-clause-light c = let e = c.args.engine.now in let e1 = c.close_reading.new.self in let l = c.close_reading.ensures in let only = c.copy_list.ensures.only in
-    λ a asks end. given_lighter e e1 c.copy_list.new.self (closed_lighter e e1 a c.requires.uncalled asks end l.same l.frames l.weight) (l.same.call ∙ c.requires.uncalled)
+    λ a asks end. given_lighter e e1 c.copy_list.new.self (closed_lighter e e1 a c.requires.uncalled asks end l.same l.frames l.weight) ((l.same c.requires.uncalled).call ∙ c.requires.uncalled)
     (ap (λ (x : Engine). x.input.call) only) (ap (λ (x : Engine). x.readings) only) (ap (λ (x : Engine). pending_weight x.input.pending) only)
 
 -- IT IS PUT IN FRONT
@@ -69,5 +69,5 @@ returns-clause-err c = let n = c.put_list in let e = c.args.engine.now in let e1
 
 pub returns-clause-light : goal.returns-clause-light
 returns-clause-light c = let n = c.put_list in let e = c.args.engine.now in let e1 = c.close_reading.new.self in let l = c.close_reading.ensures in let only = n.ensures.only in
-    on_ok n.result (λ stands a asks end. given_lighter e e1 n.new.self (closed_lighter e e1 a c.requires.uncalled asks end l.same l.frames l.weight) (l.same.call ∙ c.requires.uncalled)
+    on_ok n.result (λ stands a asks end. given_lighter e e1 n.new.self (closed_lighter e e1 a c.requires.uncalled asks end l.same l.frames l.weight) ((l.same c.requires.uncalled).call ∙ c.requires.uncalled)
     (ap (λ (x : Engine). x.input.call) only) (ap (λ (x : Engine). x.readings) only) n.ensures.light) n.ensures.stands

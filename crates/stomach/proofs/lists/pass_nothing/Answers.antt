@@ -38,7 +38,7 @@ returns-in_ok-set_no_list-clause-rule c = let i = c.in_ok-set_no_list.ensures in
 
 pub returns-in_ok-set_no_list-clause-light : goal.returns-in_ok-set_no_list-clause-light
 returns-in_ok-set_no_list-clause-light c = let e = c.args.engine.now in let e1 = c.close_reading.new.self in let l = c.close_reading.ensures in let i = c.in_ok-set_no_list.ensures in
-    λ none a asks end. given_lighter e e1 (record e1 { input = c.set_no_list.new.self }) (closed_lighter e e1 a none asks end l.same l.frames l.weight) (l.same.call ∙ none) (ap (λ (x : Stored). x.call) i.ok) refl (ap (λ (x : Stored). pending_weight x.pending) i.ok)
+    λ none a asks end. given_lighter e e1 (record e1 { input = c.set_no_list.new.self }) (closed_lighter e e1 a none asks end l.same l.frames l.weight) ((l.same none).call ∙ none) (ap (λ (x : Stored). x.call) i.ok) refl (ap (λ (x : Stored). pending_weight x.pending) i.ok)
 
 -- NO LIST STANDS THERE
 

@@ -37,7 +37,7 @@ returns-in_ok-assign_list-clause-rule c = let e = c.args.engine.now in let e1 = 
     let own : innermost_count e.readings.frames ≡ 1 = innermost_own e.readings.frames e.input.builds (ActsOn c.args.call (SetList c.args.loc) ts) ts asks refl some in
     let moves : List Move = ListSet (is_global (page_of e book) c.args.call) c.args.loc (top_list e.input.builds) ∷ [] in
     went_by sizes s e2 w w _ _ 0 (sets_some (page_of e book) c.args.call c.args.loc (top_list e.input.builds) ts top (λ none. some (top ∙ none)))
-    (behind_went sizes s e e1 e2 w moves (p.call ∙ st.uncalled) p.after n.frames (p.rule takes sizes w book r rs st own) n.others n.store idle did)) n.did n.idle
+    (behind_went sizes s e e1 e2 w moves (p.call st.uncalled) p.after n.frames (p.rule takes sizes w book r rs st own) n.others n.store idle did)) n.did n.idle
 
 pub returns-in_ok-assign_list-clause-err : goal.returns-in_ok-assign_list-clause-err
 returns-in_ok-assign_list-clause-err c = let e = c.args.engine.now in let e1 = c.assign_list.new.engine in let e2 = c.put_after.new.self in let n = c.put_after.ensures in let p = c.in_ok-assign_list.ensures in
@@ -48,7 +48,7 @@ returns-in_ok-assign_list-clause-err c = let e = c.args.engine.now in let e1 = c
     let own : innermost_count e.readings.frames ≡ 1 = innermost_own e.readings.frames e.input.builds (ActsOn c.args.call (SetList c.args.loc) ts) ts asks refl some in
     let moves : List Move = ListSet (is_global (page_of e book) c.args.call) c.args.loc (top_list e.input.builds) ∷ [] in
     in_by sizes s e2 w w _ _ b (sets_some (page_of e book) c.args.call c.args.loc (top_list e.input.builds) ts top (λ none. some (top ∙ none)))
-    (unput_in sizes s e e1 e2 w moves (p.call ∙ st.uncalled) p.after n.frames (p.rule takes sizes w book r rs st own) b cuts)) n.err
+    (unput_in sizes s e e1 e2 w moves (p.call st.uncalled) p.after n.frames (p.rule takes sizes w book r rs st own) b cuts)) n.err
 
 -- ONE WITHOUT A TOKEN
 
@@ -65,7 +65,7 @@ returns-in_ok-pass_nothing-clause-rule c = let e = c.args.engine.now in let e1 =
     on_both p.result (λ did idle takes sizes w book r rs st asks. let s = state_of e (with_work (r ∷ rs) book) in
     let moves : List Move = Closed ∷ Set (is_global (page_of e book) c.args.call) c.args.loc (val.Tokens None) ∷ [] in
     went_by sizes s e2 w w _ _ 0 (sets_none (page_of e book) c.args.call c.args.loc ts c.if-has_token.ensures)
-    (behind_went sizes s e e1 e2 w moves (i.call ∙ st.uncalled) i.after n.frames (i.rule takes sizes w book r rs st) n.others n.store idle did)) n.did n.idle
+    (behind_went sizes s e e1 e2 w moves (i.call st.uncalled) i.after n.frames (i.rule takes sizes w book r rs st) n.others n.store idle did)) n.did n.idle
 
 pub returns-in_ok-pass_nothing-clause-err : goal.returns-in_ok-pass_nothing-clause-err
 returns-in_ok-pass_nothing-clause-err c = let e = c.args.engine.now in let e1 = c.pass_nothing.new.engine in let p = c.put_after-else-has_token in let e2 = p.new.self in let n = p.ensures in let i = c.in_ok-pass_nothing.ensures in
@@ -73,4 +73,4 @@ returns-in_ok-pass_nothing-clause-err c = let e = c.args.engine.now in let e1 = 
     err_to p.result (λ b cuts takes sizes w book r rs st asks. let s = state_of e (with_work (r ∷ rs) book) in
     let moves : List Move = Closed ∷ Set (is_global (page_of e book) c.args.call) c.args.loc (val.Tokens None) ∷ [] in
     in_by sizes s e2 w w _ _ b (sets_none (page_of e book) c.args.call c.args.loc ts c.if-has_token.ensures)
-    (unput_in sizes s e e1 e2 w moves (i.call ∙ st.uncalled) i.after n.frames (i.rule takes sizes w book r rs st) b cuts)) n.err
+    (unput_in sizes s e e1 e2 w moves (i.call st.uncalled) i.after n.frames (i.rule takes sizes w book r rs st) b cuts)) n.err

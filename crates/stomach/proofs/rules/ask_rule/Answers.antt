@@ -9,16 +9,17 @@ use Rattle.plain_machine.specs.States.{no_files}
 use Rattle.engine_state.specs.Book.{with_work}
 use Rattle.engine_state.specs.Stands.{page_of}
 use Rattle.engine_state.specs.declared.outcome.Ruled.TheVariants.{Free}
-use Rattle.gullet.proofs.CallWeighing.{steps_as_one, free_steps}
+use Rattle.engine_state.proofs.CallWeighing.{steps_as_one, free_steps}
 use Rattle.gullet.proofs.Ending.{no_ok, no_on}
 use Rattle.engine_state.proofs.Joining.{same_err, ok_to, ok_both, err_to, column_went}
 use Rattle.engine_state.proofs.CuttingReadings.{column_in, in_by}
+use Rattle.engine_state.proofs.Uncalled.{all_of}
 use Rattle.engine_state.proofs.Weighing.{noted_lighter}
-use Rattle.stomach.proofs.RuleAsks.{acts_as, asked_bare, asked_cuts, asked_here, asked_rules, asked_steps, more_taken, none_kept, not_started}
+use Rattle.stomach.proofs.RuleAsks.{acts_as, asked_bare, asked_cuts, asked_here, asked_rules, asked_steps, more_taken, none_kept, not_started, reports_bare, reports_here}
 use Rattle.engine_state.proofs.ValueTexts.{fetchable}
 use Rattle.stomach.proofs.Fetching.{fetched_alone}
 use Rattle.stomach.proofs.RuleCloses.{closed_alone, closed_lighter}
-use Rattle.stomach.proofs.RuleHalts.{framed_rules, rules_by}
+use Rattle.stomach.proofs.RuleHalts.{rules_in, rules_by}
 use Rattle.stomach.proofs.rules.ask_rule.Goals as goal
 
 -- A TOKEN IS WANTED
@@ -26,7 +27,7 @@ use Rattle.stomach.proofs.rules.ask_rule.Goals as goal
 pub returns-in-More-clause-rule : goal.returns-in-More-clause-rule
 returns-in-More-clause-rule g c = let e = c.args.engine.now in let n = c.token_rule in let i = c.in-More in
     ok_both n.result (λ ruled h same sizes f book. asked_rules e n.new.engine _ _ c.args.ask (More i.want) ruled i.is c.requires.stands sizes f
-    (λ b r rs st. framed_rules sizes e n.new.engine (with_work (r ∷ rs) b) _ _ _ ruled st same
+    (λ b r rs st. rules_in sizes e n.new.engine (with_work (r ∷ rs) b) _ _ _ ruled (all_of sizes e (with_work (r ∷ rs) b) st) same
     (h sizes f (with_work (r ∷ rs) b) (more_taken sizes e i.want (with_work (r ∷ rs) b) c.requires.uncalled (asked_here e c.args.ask (More i.want) i.is c.requires.asks) st))) book) n.ensures.rule n.ensures.halts
 
 pub returns-in-More-clause-err : goal.returns-in-More-clause-err
@@ -127,7 +128,7 @@ returns-in_ok-define-in-Defines-clause-step g c = let e = c.args.engine.now in l
 
 pub returns-in-Ends-clause-rule : goal.returns-in-Ends-clause-rule
 returns-in-Ends-clause-rule g c = let e = c.args.engine.now in let e' = c.close_reading.new.self in let i = c.in-Ends in let n = c.close_reading.ensures in let s = g.S.Sink.told c.args.out.now in
-    λ sizes f book. asked_rules e e' s s c.args.ask Ends Free i.is c.requires.stands sizes f (λ b r rs st. closed_alone e e' n.stands n.state n.same sizes b r rs f s st) book
+    λ sizes f book. asked_rules e e' s s c.args.ask Ends Free i.is c.requires.stands sizes f (λ b r rs st. closed_alone e e' n.stands n.state n.column sizes b r rs f s st) book
 
 pub returns-in-Ends-clause-light : goal.returns-in-Ends-clause-light
 returns-in-Ends-clause-light g c free = let e = c.args.engine.now in let i = c.in-Ends in let n = c.close_reading.ensures in
@@ -197,15 +198,15 @@ returns-in_ok-relax-in-Relaxes-clause-idle g c = c.relax.ensures.idle ∙ c.requ
 
 pub returns-in-Tells-clause-rule : goal.returns-in-Tells-clause-rule
 returns-in-Tells-clause-rule g c = let e = c.args.engine.now in let n = c.tell in let i = c.in-Tells in
-    ok_to n.result (λ ruled h sizes f book. asked_rules e n.new.engine _ _ c.args.ask (Tells i.report i.back) ruled i.is c.requires.stands sizes f (λ b r rs st. h sizes f b r rs st) book) n.ensures.rule
+    ok_to n.result (λ ruled h sizes f book. asked_rules e n.new.engine _ _ c.args.ask (Tells i.report i.back) ruled i.is c.requires.stands sizes f (λ b r rs st. h sizes f b r rs (reports_here e c.args.ask (Tells i.report i.back) i.is c.requires.asks c.requires.uncalled tt) (all_of sizes e (with_work (r ∷ rs) b) st)) book) n.ensures.rule
 
 pub returns-in-Tells-clause-err : goal.returns-in-Tells-clause-err
 returns-in-Tells-clause-err g c = let e = c.args.engine.now in let n = c.tell in let i = c.in-Tells in
-    err_to n.result (λ why h sizes f book. asked_cuts e n.new.engine _ _ c.args.ask (Tells i.report i.back) why i.is c.requires.stands sizes f (λ b r rs st. h sizes f b r rs st) book) n.ensures.err
+    err_to n.result (λ why h sizes f book. asked_cuts e n.new.engine _ _ c.args.ask (Tells i.report i.back) why i.is c.requires.stands sizes f (λ b r rs st. h sizes f b r rs (reports_here e c.args.ask (Tells i.report i.back) i.is c.requires.asks c.requires.uncalled tt) (all_of sizes e (with_work (r ∷ rs) b) st)) book) n.ensures.err
 
 pub returns-in-Tells-clause-light : goal.returns-in-Tells-clause-light
 returns-in-Tells-clause-light g c = let e = c.args.engine.now in let n = c.tell in let i = c.in-Tells in
-    ok_to n.result (λ ruled h free. h free (subst IsReported (sym (asked_bare e c.args.ask (Tells i.report i.back) i.is c.requires.asks)) tt)) n.ensures.light
+    ok_to n.result (λ ruled h free. h free (reports_bare e c.args.ask (Tells i.report i.back) i.is c.requires.asks c.requires.uncalled tt)) n.ensures.light
 
 pub returns-in-Tells-clause-step : goal.returns-in-Tells-clause-step
 returns-in-Tells-clause-step g c = let e = c.args.engine.now in let n = c.tell in let i = c.in-Tells in
@@ -213,15 +214,15 @@ returns-in-Tells-clause-step g c = let e = c.args.engine.now in let n = c.tell i
 
 pub returns-in-Inserts-clause-rule : goal.returns-in-Inserts-clause-rule
 returns-in-Inserts-clause-rule g c = let e = c.args.engine.now in let n = c.tell-in-Inserts in let i = c.in-Inserts in
-    ok_to n.result (λ ruled h sizes f book. asked_rules e n.new.engine _ _ c.args.ask (Inserts i.token i.report i.back) ruled i.is c.requires.stands sizes f (λ b r rs st. h sizes f b r rs st) book) n.ensures.rule
+    ok_to n.result (λ ruled h sizes f book. asked_rules e n.new.engine _ _ c.args.ask (Inserts i.token i.report i.back) ruled i.is c.requires.stands sizes f (λ b r rs st. h sizes f b r rs (reports_here e c.args.ask (Inserts i.token i.report i.back) i.is c.requires.asks c.requires.uncalled tt) (all_of sizes e (with_work (r ∷ rs) b) st)) book) n.ensures.rule
 
 pub returns-in-Inserts-clause-err : goal.returns-in-Inserts-clause-err
 returns-in-Inserts-clause-err g c = let e = c.args.engine.now in let n = c.tell-in-Inserts in let i = c.in-Inserts in
-    err_to n.result (λ why h sizes f book. asked_cuts e n.new.engine _ _ c.args.ask (Inserts i.token i.report i.back) why i.is c.requires.stands sizes f (λ b r rs st. h sizes f b r rs st) book) n.ensures.err
+    err_to n.result (λ why h sizes f book. asked_cuts e n.new.engine _ _ c.args.ask (Inserts i.token i.report i.back) why i.is c.requires.stands sizes f (λ b r rs st. h sizes f b r rs (reports_here e c.args.ask (Inserts i.token i.report i.back) i.is c.requires.asks c.requires.uncalled tt) (all_of sizes e (with_work (r ∷ rs) b) st)) book) n.ensures.err
 
 pub returns-in-Inserts-clause-light : goal.returns-in-Inserts-clause-light
 returns-in-Inserts-clause-light g c = let e = c.args.engine.now in let n = c.tell-in-Inserts in let i = c.in-Inserts in
-    ok_to n.result (λ ruled h free. h free (subst IsReported (sym (asked_bare e c.args.ask (Inserts i.token i.report i.back) i.is c.requires.asks)) tt)) n.ensures.light
+    ok_to n.result (λ ruled h free. h free (reports_bare e c.args.ask (Inserts i.token i.report i.back) i.is c.requires.asks c.requires.uncalled tt)) n.ensures.light
 
 pub returns-in-Inserts-clause-step : goal.returns-in-Inserts-clause-step
 returns-in-Inserts-clause-step g c = let e = c.args.engine.now in let n = c.tell-in-Inserts in let i = c.in-Inserts in
@@ -308,4 +309,4 @@ pub returns-in-Ends-clause-err : goal.returns-in-Ends-clause-err
 returns-in-Ends-clause-err g c = tt
 
 pub returns-in-Ends-clause-idle : goal.returns-in-Ends-clause-idle
-returns-in-Ends-clause-idle g c = c.close_reading.ensures.same.making ∙ c.requires.idle
+returns-in-Ends-clause-idle g c = c.close_reading.ensures.idle ∙ c.requires.idle

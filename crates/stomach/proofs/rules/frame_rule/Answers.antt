@@ -6,18 +6,18 @@ use Rattle.engine_state.specs.Book.{with_work}
 use Rattle.engine_state.specs.CutReadings.{CutsIn}
 use Rattle.engine_state.specs.Rules.{world_of}
 use Rattle.engine_state.specs.Stands.{state_of}
-use Rattle.engine_state.proofs.Uncalled.{framed}
-use Rattle.gullet.proofs.CallWeighing.{steps_as_one}
+use Rattle.engine_state.proofs.Uncalled.{all_of}
+use Rattle.engine_state.proofs.CallWeighing.{steps_as_one}
 use Rattle.engine_state.proofs.Joining.{err_to, ok_both}
 use Rattle.stomach.specs.Halting.{DoesRuleIn}
 use Rattle.stomach.proofs.RuleAsks.{asked_cuts, asked_here, asked_is, asked_rules, asked_steps, by_none, more_taken}
-use Rattle.stomach.proofs.RuleHalts.{framed_rules}
+use Rattle.stomach.proofs.RuleHalts.{rules_in}
 use Rattle.stomach.proofs.rules.frame_rule.Goals as goal
 
 pub returns-in-None-clause-rule : goal.returns-in-None-clause-rule
 returns-in-None-clause-rule g c = let e = c.args.engine.now in let n = c.token_rule in let k = asked_is e c.args.ask.now None c.in-None.is c.requires.asked in
     ok_both n.result (λ ruled h same sizes f. λ book. by_none sizes e (λ b plan. DoesRuleIn sizes (state_of e b) n.new.engine (world_of f (g.S.Sink.told c.args.out.now) e) (world_of f (g.S.Sink.told n.new.out) n.new.engine) plan ruled) k.asks k.stands c.requires.uncalled
-    (λ b t. framed_rules sizes e n.new.engine b _ _ _ ruled (framed sizes e b c.requires.uncalled t.1) same (h sizes f b t)) book) n.ensures.rule n.ensures.halts
+    (λ b t. rules_in sizes e n.new.engine b _ _ _ ruled t.1 same (h sizes f b t)) book) n.ensures.rule n.ensures.halts
 
 pub returns-in-None-clause-err : goal.returns-in-None-clause-err
 returns-in-None-clause-err g c = let e = c.args.engine.now in let n = c.token_rule in let k = asked_is e c.args.ask.now None c.in-None.is c.requires.asked in
@@ -39,7 +39,7 @@ returns-in-None-clause-idle g c = c.token_rule.ensures.idle
 pub returns-in-More-clause-rule : goal.returns-in-More-clause-rule
 returns-in-More-clause-rule g c = let e = c.args.engine.now in let n = c.token_rule-in-More in let i = c.in-More in let k = asked_is e c.args.ask.now (Some c.in-Some.ask) c.in-Some.is c.requires.asked in
     ok_both n.result (λ ruled h same sizes f book. asked_rules e n.new.engine _ _ c.in-Some.ask (More i.want) ruled i.is k.stands sizes f
-    (λ b r rs st. framed_rules sizes e n.new.engine (with_work (r ∷ rs) b) _ _ _ ruled st same
+    (λ b r rs st. rules_in sizes e n.new.engine (with_work (r ∷ rs) b) _ _ _ ruled (all_of sizes e (with_work (r ∷ rs) b) st) same
     (h sizes f (with_work (r ∷ rs) b) (more_taken sizes e i.want (with_work (r ∷ rs) b) c.requires.uncalled (asked_here e c.in-Some.ask (More i.want) i.is k.asks) st))) book) n.ensures.rule n.ensures.halts
 
 pub returns-in-More-clause-err : goal.returns-in-More-clause-err

@@ -18,14 +18,14 @@ returns-in_err-report_as-clause-err g c = let i = c.in_err-report_as in let e = 
 
 pub returns-then-branch-clause-rule : goal.returns-then-branch-clause-rule
 returns-then-branch-clause-rule g c = let e = c.args.engine.now in let n = c.report_as.ensures in let k = c.close_reading.ensures in let i = c.in_ok-report_as.ensures in
-    λ sizes f book r rs st. reported_closed sizes e c.report_as.new.self c.close_reading.new.self book r rs f _ _ _ k.stands k.state k.same n.frames n.input (i.sized c.if-branch.true sizes) st (i.on c.if-branch.true sizes f (with_work (r ∷ rs) book) (Closed ∷ []))
+    λ sizes f book r rs st. reported_closed sizes e c.report_as.new.self c.close_reading.new.self book r rs f _ _ _ k.stands k.state k.column n.frames n.input (i.sized c.if-branch.true sizes) st (i.on c.if-branch.true sizes f (with_work (r ∷ rs) book) (Closed ∷ []))
 
 pub returns-then-branch-clause-light : goal.returns-then-branch-clause-light
 returns-then-branch-clause-light g c = let n = c.report_as.ensures in let k = c.close_reading.ensures in
     λ free call effect asks. closed_lighter_behind c.args.engine.now c.report_as.new.self c.close_reading.new.self (ActsOn call effect []) c.requires.uncalled asks tt n.frames (ap (λ (i : Stored). pending_weight i.pending) n.input) k.same k.frames k.weight
 
 pub returns-then-branch-clause-idle : goal.returns-then-branch-clause-idle
-returns-then-branch-clause-idle g c = c.close_reading.ensures.same.making ∙ ap (λ (i : Stored). i.making) c.report_as.ensures.input ∙ c.requires.idle
+returns-then-branch-clause-idle g c = c.close_reading.ensures.idle ∙ ap (λ (i : Stored). i.making) c.report_as.ensures.input ∙ c.requires.idle
 
 pub returns-clause-rule : goal.returns-clause-rule
 returns-clause-rule g c =

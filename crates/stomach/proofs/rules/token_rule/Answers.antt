@@ -1,11 +1,11 @@
-use Rattle.std.proofs.Common.{sym, subst}
+use Rattle.std.proofs.Common.{sym, subst, ap}
 use Rattle.engine_state.specs.Stands.{state_of}
 use Rattle.engine_state.specs.Rules.{world_of, next_moves}
 use Rattle.engine_state.proofs.Coming.{comes_cuts}
-use Rattle.engine_state.proofs.Joining.{ok_to, err_to, same_err}
+use Rattle.engine_state.proofs.Joining.{ok_to, ok_both, err_to, same_err}
 use Rattle.gullet.specs.declared.expansion.Stepped.TheVariants as stepped
-use Rattle.gullet.specs.Stepping.{Steps, IsSkipped, IsOver, IsKept}
-use Rattle.gullet.proofs.Expanding.{halted_readings}
+use Rattle.gullet.specs.Stepping.{Steps, IsSkipped, IsOver, IsKept, wants_raw}
+use Rattle.gullet.proofs.Expanding.{halted_frames}
 use Rattle.stomach.proofs.Handing.{rule_on, steps_as, kept_uncalled, steps_stepped, stepped_steps}
 use Rattle.gullet.proofs.Ending.{no_ok, no_on}
 use Rattle.stomach.proofs.rules.token_rule.Goals as goal
@@ -20,9 +20,9 @@ returns-in-Over-clause-rule g c = let e = c.args.engine.now in let n = c.in_ok-s
 
 pub returns-in-Unexpandable-clause-rule : goal.returns-in-Unexpandable-clause-rule
 returns-in-Unexpandable-clause-rule g c = let e = c.args.engine.now in let e1 = c.step.new.engine in let e2 = c.hand_on.new.engine in let x = c.in-Unexpandable.x in let n = c.in_ok-step in
-    ok_to c.hand_on.result (λ ruled h sizes f book t.
+    ok_both c.hand_on.result (λ ruled h none sizes f book t.
     let came : Steps sizes c.args.want (state_of e book) e1 book (world_of f (g.S.Sink.told c.args.out.now) e) (world_of f (g.S.Sink.told c.step.new.out) e1) (next_moves c.args.want e book) (stepped.Unexpandable x) = steps_as sizes c.args.want (state_of e book) e1 book _ _ _ n.field-0 (stepped.Unexpandable x) c.in-Unexpandable.is (n.ensures.rule sizes f book t) in
-    rule_on sizes c.args.want (state_of e book) e1 e2 book _ _ _ _ x came.0 (kept_uncalled e e1 n.field-0 x c.in-Unexpandable.is n.ensures.stays c.requires.uncalled) ruled (h sizes f came.0.book' came.1 came.0.takes)) c.hand_on.ensures.rule
+    rule_on sizes c.args.want (state_of e book) e1 e2 book _ _ _ _ x came.0 ruled (λ halted. kept_uncalled e e1 n.field-0 x c.in-Unexpandable.is n.ensures.stays (c.requires.uncalled (ap wants_raw (none halted)))) (h sizes f came.0.book' came.1 came.0.takes)) c.hand_on.ensures.rule c.hand_on.ensures.obeyed
 
 pub returns-in-Unexpandable-clause-err : goal.returns-in-Unexpandable-clause-err
 returns-in-Unexpandable-clause-err g c = let e = c.args.engine.now in let e1 = c.step.new.engine in let e2 = c.hand_on.new.engine in let x = c.in-Unexpandable.x in let n = c.in_ok-step in
@@ -114,11 +114,11 @@ returns-in-Unexpandable-clause-step g c =
 
 pub returns-in-Unexpandable-clause-halts : goal.returns-in-Unexpandable-clause-halts
 returns-in-Unexpandable-clause-halts g c =
-    ok_to c.hand_on.result (λ ruled h halted. halted_readings c.args.engine.now c.step.new.engine c.hand_on.new.engine (c.in_ok-step.ensures.stays (subst IsKept (sym c.in-Unexpandable.is) tt)) (h halted)) c.hand_on.ensures.halts
+    ok_both c.hand_on.result (λ ruled h none halted. halted_frames c.args.engine.now c.step.new.engine c.hand_on.new.engine (c.in_ok-step.ensures.stays (subst IsKept (sym c.in-Unexpandable.is) tt)) (c.requires.uncalled (ap wants_raw (none halted))) (h halted)) c.hand_on.ensures.halts c.hand_on.ensures.obeyed
 
 pub returns-in-Unexpandable-clause-idle : goal.returns-in-Unexpandable-clause-idle
 returns-in-Unexpandable-clause-idle g c = c.hand_on.ensures.idle
 
 pub hand_on-requires-clause-uncalled : goal.hand_on-requires-clause-uncalled
-hand_on-requires-clause-uncalled g c =
-    kept_uncalled c.args.engine.now c.step.new.engine c.in_ok-step.field-0 c.in-Unexpandable.x c.in-Unexpandable.is c.in_ok-step.ensures.stays c.requires.uncalled
+hand_on-requires-clause-uncalled g c none =
+    kept_uncalled c.args.engine.now c.step.new.engine c.in_ok-step.field-0 c.in-Unexpandable.x c.in-Unexpandable.is c.in_ok-step.ensures.stays (c.requires.uncalled (ap wants_raw none))

@@ -1,25 +1,38 @@
-use Rattle.std.proofs.Common.{◌∷◌, sym, subst}
-use Rattle.rows.specs.Readings.{Noted}
-use Rattle.reading_frames.specs.Stack.{Stack}
-use Rattle.plain_machine.specs.Plan.{noting}
+use Rattle.std.proofs.Common.{◌<◌, [], ◌∷◌, ap, subst, ◌∙◌}
+use Rattle.reading_frames.specs.Stack.{asks_in}
+use Rattle.reading_frames.specs.Weights.{IsReported}
+use Rattle.input_state.specs.Callings.{Calling, call_in}
+use Rattle.input_state.specs.Stored.{Stored}
 use Rattle.engine_state.specs.Book.{with_work}
-use Rattle.engine_state.specs.CutReadings.{CutsIn}
-use Rattle.engine_state.specs.Stands.{state_of}
-use Rattle.engine_state.specs.declared.broken.Broken.TheVariants as broken
-use Rattle.engine_state.proofs.ReadingsFed.{feeds_stands, feeds_did, feeds_cut, noting_moves, moves_did, moves_in}
+use Rattle.engine_state.specs.Stands.{SameBut}
+use Rattle.engine_state.specs.Steps.{asked, asked_by, asks_bare, weight}
+use Rattle.engine_state.proofs.CallBraces.{note_went}
+use Rattle.engine_state.proofs.CallsIn.{brace_reported, frame_reported}
+use Rattle.engine_state.proofs.Joining.{err_to, on_both, when_false, when_true}
+use Rattle.engine_state.proofs.Putting.{noted_frame}
+use Rattle.engine_state.proofs.Uncalled.{framed}
+use Rattle.engine_state.proofs.Weighing.{noted_lighter}
 use Rattle.engine_state.proofs.engine.Engine.note.Goals as goal
 
-pub returns-clause-stands : goal.returns-clause-stands
-returns-clause-stands c = λ sizes book st. let e = c.args.self.now in let t = c.noted-grown.ensures in
-    feeds_stands sizes e c.noted-grown.new.self c.noted-grown.result Noted t.stands t.shallow t.beneath t.listed t.size c.take.new.self book c.in_default.ensures.ok c.take.ensures.keeps st
+pub returns-then-is_taking-clause-ok : goal.returns-then-is_taking-clause-ok
+returns-then-is_taking-clause-ok c sizes w book r rs reported st = let e = c.args.self.now in let taking = when_true _ _ c.is_taking.result c.if-is_taking.true c.is_taking.ensures in
+    let k = brace_reported e.input.call (asked e) taking reported in
+    note_went sizes e (record e { input = c.note_call.new.self }) k.name w book r rs k.is st (ap (λ (i : Stored). record e { input = i }) c.note_call.ensures.after)
 
-pub returns-clause-did : goal.returns-clause-did
-returns-clause-did c = λ sizes w book r rs st. let e = c.args.self.now in let t = c.noted-grown.ensures in
-    moves_did sizes _ _ w _ _ (noting_moves e.readings.frames e.input.builds r rs st.readings.frames)
-    (feeds_did sizes e c.noted-grown.new.self c.noted-grown.result Noted t.stands t.shallow t.beneath t.listed t.size book r rs st c.take.new.self w c.in_default.ensures.ok c.in_default.ensures.fits)
+pub returns-clause-ok : goal.returns-clause-ok
+returns-clause-ok c = let e = c.args.self.now in let none = when_false _ _ c.is_taking.result c.if-is_taking.false c.is_taking.ensures in let n = c.note_frame.ensures in
+    on_both c.note_frame.result (λ stands did sizes w book r rs reported st. let at = with_work (r ∷ rs) book in
+    let st0 = framed sizes e at (frame_reported e.input.call (asked e) none reported) st in
+    noted_frame sizes e c.note_frame.new.self w book r rs (did sizes w book r rs st0) (stands sizes at st0)) n.stands n.did
 
-pub returns-in-Err-clause-refused : goal.returns-in-Err-clause-refused
-returns-in-Err-clause-refused c = λ sizes w book r rs st. let e = c.args.self.now in let t = c.noted-grown.ensures in
-    subst (λ (x : Stack). CutsIn sizes (state_of e (with_work (r ∷ rs) book)) (record c.take.new.self { readings = x }) w w (noting r) (broken.Full c.in-Err.full)) (sym c.restore.ensures)
-    (moves_in sizes _ _ w _ _ _ (noting_moves e.readings.frames e.input.builds r rs st.readings.frames)
-    (feeds_cut sizes e c.noted-grown.new.self c.noted-grown.result Noted t.stands t.shallow t.beneath t.listed t.size book r rs st c.frame_at_risk-kept.result c.take.new.self c.in-Err.full w c.frame_at_risk-kept.ensures t.rest t.count c.take.ensures.keeps c.in-Err.ensures.err))
+pub returns-clause-err : goal.returns-clause-err
+returns-clause-err c = let e = c.args.self.now in let none = when_false _ _ c.is_taking.result c.if-is_taking.false c.is_taking.ensures in
+    err_to c.note_frame.result (λ full h sizes w book r rs reported st.
+    h sizes w book r rs (framed sizes e (with_work (r ∷ rs) book) (frame_reported e.input.call (asked e) none reported) st)) c.note_frame.ensures.refused
+
+pub returns-clause-light : goal.returns-clause-light
+returns-clause-light c = let e = c.args.self.now in let e1 = c.note_frame.new.self in let none = when_false _ _ c.is_taking.result c.if-is_taking.false c.is_taking.ensures in let n = c.note_frame.ensures in
+    let asks = asks_in e.readings.frames [] in
+    on_both c.note_frame.result (λ same (h : SameBut e e1 → IsReported (asks_bare e) → weight e1 < weight e). h same) n.same
+    (on_both c.note_frame.result (λ light frames (same : SameBut e e1) reported. let uncalled = frame_reported e.input.call asks none reported in
+    noted_lighter e e1 uncalled (n.call ∙ uncalled) same.pending (light (subst (λ (k : Calling). IsReported (asked_by (call_in k) k asks)) uncalled reported)) frames) n.weight n.frames)

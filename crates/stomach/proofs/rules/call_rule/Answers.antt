@@ -1,61 +1,62 @@
 use Rattle.std.proofs.lemmas.Grind.{common_steps}
-use Rattle.std.proofs.Common.{arith, true, false, ◌∷◌, [], refl, ap, sym, subst, ◌∙◌, List}
-use Rattle.std.specs.Prelude.{is_some}
+use Rattle.std.proofs.Common.{arith, true, false, ◌∷◌, [], ap, sym, subst, ◌∙◌}
+use Rattle.std.specs.Prelude.{Option}
 use Rattle.plain_tokens.specs.Pending.{end_token_lists}
-use Rattle.plain_machine.specs.States.{Move}
-use Rattle.plain_machine.proofs.Doing.{did_none}
+use Rattle.plain_machine.specs.States.{Closed}
+use Rattle.reading_frames.specs.Stack.{asks_in}
+use Rattle.reading_frames.specs.Weights.{IsReported}
+use Rattle.input_state.specs.declared.answer.Call.{Call}
 use Rattle.engine_state.specs.declared.broken.Broken.TheVariants as broken
 use Rattle.macro_call.specs.declared.ask.CallAsk.TheVariants as asked
 use Rattle.engine_state.specs.Book.{with_work}
-use Rattle.engine_state.specs.Calls.{brace_call}
-use Rattle.engine_state.specs.declared.engine.Engine.{Engine}
 use Rattle.engine_state.specs.CutReadings.{CutsIn}
-use Rattle.engine_state.specs.Steps.{call_asks_more}
-use Rattle.engine_state.specs.Stands.{state_of, page_of}
-use Rattle.engine_state.specs.Rules.{world_of, DoesRule, Cuts, Went}
-use Rattle.gullet.proofs.CallBraces.{brace_moves}
-use Rattle.gullet.proofs.CallEnding.{by_call, closed_went}
+use Rattle.engine_state.specs.Steps.{asked_by, wants_token}
+use Rattle.engine_state.specs.Steps as steps
+use Rattle.engine_state.specs.Stands.{state_of}
+use Rattle.engine_state.specs.Rules.{world_of, Cuts, Went}
+use Rattle.engine_state.proofs.CallEnding.{by_call}
+use Rattle.engine_state.proofs.CallWeighing.{call_steps, steps_as_one, free_steps}
+use Rattle.engine_state.proofs.CallsIn.{complete_at}
+use Rattle.engine_state.proofs.Cutting.{cuts_by}
+use Rattle.engine_state.proofs.Joining.{column_went, err_both, err_to, ok_both, ok_to, same_err}
+use Rattle.engine_state.proofs.CuttingReadings.{cuts_in, column_in}
+use Rattle.engine_state.proofs.AtLocations.{list_frames}
 use Rattle.gullet.proofs.CallPutting.{put_rule, put_cut}
 use Rattle.gullet.proofs.CallRules.{asks_this, away_is, call_wants}
-use Rattle.gullet.proofs.CallsIn.{complete_at}
-use Rattle.engine_state.proofs.Cutting.{cuts_by}
-use Rattle.engine_state.proofs.Joining.{ok_to, err_to, err_both, same_err}
-use Rattle.engine_state.proofs.CuttingReadings.{cuts_in, column_in}
-use Rattle.engine_state.proofs.AtLocations.{list_frames, same_engine}
 use Rattle.gullet.proofs.Ending.{no_ok, no_on}
-use Rattle.gullet.proofs.CallWeighing.{call_steps, steps_as_one, free_steps, closed_lighter}
-use Rattle.gullet.proofs.gathering.call_rule.Goals as goal
+use Rattle.stomach.specs.Halting.{DoesRuleIn}
+use Rattle.stomach.proofs.RuleHalts.{rules_by, rules_in}
+use Rattle.stomach.proofs.rules.call_rule.Goals as goal
 
 pub returns-in-More-clause-rule : goal.returns-in-More-clause-rule
-returns-in-More-clause-rule g c = let e = c.args.engine.now in let n = c.take in
+returns-in-More-clause-rule g c = let e = c.args.engine.now in let n = c.token_rule in
     let is = asks_this e c.args.call asked.More c.requires.call c.in-More.is in
-    ok_to n.result (λ ruled h sizes f. by_call sizes e _ (λ book plan. DoesRule sizes (state_of e book) n.new.engine book (world_of f (g.S.Sink.told c.args.out.now) e) (world_of f (g.S.Sink.told n.new.out) n.new.engine) plan ruled) is
-    (λ book r rs st k. h sizes f (with_work (r ∷ rs) book) (call_wants e c.args.call.name is, st))) n.ensures.rule
+    ok_both n.result (λ ruled h same sizes f. by_call sizes e _ (λ book plan. DoesRuleIn sizes (state_of e book) n.new.engine (world_of f (g.S.Sink.told c.args.out.now) e) (world_of f (g.S.Sink.told n.new.out) n.new.engine) plan ruled) is
+    (λ book r rs st k. rules_in sizes e n.new.engine (with_work (r ∷ rs) book) _ _ _ ruled st same (h sizes f (with_work (r ∷ rs) book) (call_wants e c.args.call.name is, st)))) n.ensures.rule n.ensures.halts
 
 pub returns-in-More-clause-err : goal.returns-in-More-clause-err
-returns-in-More-clause-err g c = let e = c.args.engine.now in let n = c.take in
+returns-in-More-clause-err g c = let e = c.args.engine.now in let n = c.token_rule in
     let is = asks_this e c.args.call asked.More c.requires.call c.in-More.is in
     err_to n.result (λ b h sizes f. by_call sizes e _ (λ book plan. CutsIn sizes (state_of e book) n.new.engine (world_of f (g.S.Sink.told c.args.out.now) e) (world_of f (g.S.Sink.told n.new.out) n.new.engine) plan b) is
     (λ book r rs st k. h sizes f (with_work (r ∷ rs) book) (call_wants e c.args.call.name is, st))) n.ensures.err
 
 pub returns-in-ExtraBrace-clause-rule : goal.returns-in-ExtraBrace-clause-rule
-returns-in-ExtraBrace-clause-rule g c = let e = c.args.engine.now in let n = c.settle_brace in let name = c.args.call.name in
+returns-in-ExtraBrace-clause-rule g c = let e = c.args.engine.now in let n = c.tell in
     let is = asks_this e c.args.call asked.ExtraBrace c.requires.call c.in-ExtraBrace.is in
-    ok_to n.result (λ ruled h sizes f. by_call sizes e (brace_call name) (λ book plan. DoesRule sizes (state_of e book) n.new.engine book (world_of f (g.S.Sink.told c.args.out.now) e) (world_of f (g.S.Sink.told n.new.out) n.new.engine) plan ruled) is
-    (λ book r rs st k. subst (λ (ms : List Move). DoesRule sizes (state_of e (with_work (r ∷ rs) book)) n.new.engine (with_work (r ∷ rs) book) (world_of f (g.S.Sink.told c.args.out.now) e) (world_of f (g.S.Sink.told n.new.out) n.new.engine) ms ruled) (sym (brace_moves e book.number name r (page_of e book) k))
-    (h sizes f book r rs st))) n.ensures.rule
+    ok_to n.result (λ ruled h sizes f. by_call sizes e _ (λ book plan. DoesRuleIn sizes (state_of e book) n.new.engine (world_of f (g.S.Sink.told c.args.out.now) e) (world_of f (g.S.Sink.told n.new.out) n.new.engine) plan ruled) is
+    (λ book r rs st k. h sizes f book r rs (subst (λ (o : Option Call). IsReported (asked_by o e.input.call (steps.asked e))) (sym is) tt) st)) n.ensures.rule
 
 pub returns-in-ExtraBrace-clause-err : goal.returns-in-ExtraBrace-clause-err
-returns-in-ExtraBrace-clause-err g c = let e = c.args.engine.now in let n = c.settle_brace in let name = c.args.call.name in
+returns-in-ExtraBrace-clause-err g c = let e = c.args.engine.now in let n = c.tell in
     let is = asks_this e c.args.call asked.ExtraBrace c.requires.call c.in-ExtraBrace.is in
-    err_both n.result (λ b h same sizes f book st. cuts_in sizes e n.new.engine book _ _ _ b (by_call sizes e (brace_call name) (λ book plan. Cuts sizes (state_of e book) n.new.engine book (world_of f (g.S.Sink.told c.args.out.now) e) (world_of f (g.S.Sink.told n.new.out) n.new.engine) plan b) is
-    (λ book r rs st k. cuts_by sizes _ n.new.engine (with_work (r ∷ rs) book) _ _ _ _ b (brace_moves e book.number name r (page_of e book) k) (h sizes f book r rs st)) book st) same st) n.ensures.err n.ensures.frames
+    err_to n.result (λ b h sizes f. by_call sizes e _ (λ book plan. CutsIn sizes (state_of e book) n.new.engine (world_of f (g.S.Sink.told c.args.out.now) e) (world_of f (g.S.Sink.told n.new.out) n.new.engine) plan b) is
+    (λ book r rs st k. h sizes f book r rs (subst (λ (o : Option Call). IsReported (asked_by o e.input.call (steps.asked e))) (sym is) tt) st)) n.ensures.err
 
 pub returns-in-Mismatch-clause-rule : goal.returns-in-Mismatch-clause-rule
 returns-in-Mismatch-clause-rule g c = let e = c.args.engine.now in let n = c.fail_call in
     let is = asks_this e c.args.call asked.Mismatch c.requires.call c.in-Mismatch.is in
-    ok_to n.result (λ ruled h sizes f. by_call sizes e _ (λ book plan. DoesRule sizes (state_of e book) n.new.engine book (world_of f (g.S.Sink.told c.args.out.now) e) (world_of f (g.S.Sink.told n.new.out) n.new.engine) plan ruled) is
-    (λ book r rs st k. h sizes f book r rs _ is st)) n.ensures.rule
+    ok_both n.result (λ ruled h same sizes f. by_call sizes e _ (λ book plan. DoesRuleIn sizes (state_of e book) n.new.engine (world_of f (g.S.Sink.told c.args.out.now) e) (world_of f (g.S.Sink.told n.new.out) n.new.engine) plan ruled) is
+    (λ book r rs st k. rules_in sizes e n.new.engine (with_work (r ∷ rs) book) _ _ _ ruled st same (h sizes f book r rs _ is st))) n.ensures.rule n.ensures.halts
 
 pub returns-in-Mismatch-clause-err : goal.returns-in-Mismatch-clause-err
 returns-in-Mismatch-clause-err g c = let e = c.args.engine.now in let n = c.fail_call in
@@ -66,9 +67,8 @@ returns-in-Mismatch-clause-err g c = let e = c.args.engine.now in let n = c.fail
 pub returns-in-ParEnded-false-clause-rule : goal.returns-in-ParEnded-false-clause-rule
 returns-in-ParEnded-false-clause-rule g c = let e = c.args.engine.now in let n = c.run_away_call in let name = c.args.call.name in
     let is = asks_this e c.args.call (asked.ParEnded false) c.requires.call (c.in-ParEnded-false.is ∙ ap asked.ParEnded (grind (arith, common_steps, c.in-ParEnded-false.field-0-test, c.in-ParEnded-false.field-0-is, c.in-ParEnded-false.is))) in
-    ok_to n.result (λ ruled h sizes f. by_call sizes e _ (λ book plan. DoesRule sizes (state_of e book) n.new.engine book (world_of f (g.S.Sink.told c.args.out.now) e) (world_of f (g.S.Sink.told n.new.out) n.new.engine) plan ruled) is
-    (λ book r rs st k. subst (λ (ms : List Move). DoesRule sizes (state_of e (with_work (r ∷ rs) book)) n.new.engine (with_work (r ∷ rs) book) (world_of f (g.S.Sink.told c.args.out.now) e) (world_of f (g.S.Sink.told n.new.out) n.new.engine) ms ruled) (sym (away_is e book book.number name r rs k))
-    (h sizes f book r rs _ is st))) n.ensures.rule
+    ok_both n.result (λ ruled h same sizes f. by_call sizes e _ (λ book plan. DoesRuleIn sizes (state_of e book) n.new.engine (world_of f (g.S.Sink.told c.args.out.now) e) (world_of f (g.S.Sink.told n.new.out) n.new.engine) plan ruled) is
+    (λ book r rs st k. rules_by sizes _ n.new.engine _ _ _ _ ruled (away_is e book book.number name r rs k) (rules_in sizes e n.new.engine (with_work (r ∷ rs) book) _ _ _ ruled st same (h sizes f book r rs _ is st)))) n.ensures.rule n.ensures.halts
 
 pub returns-in-ParEnded-false-clause-err : goal.returns-in-ParEnded-false-clause-err
 returns-in-ParEnded-false-clause-err g c = let e = c.args.engine.now in let n = c.run_away_call in let name = c.args.call.name in
@@ -77,10 +77,10 @@ returns-in-ParEnded-false-clause-err g c = let e = c.args.engine.now in let n = 
     (λ book r rs st k. cuts_by sizes _ n.new.engine (with_work (r ∷ rs) book) _ _ _ _ b (away_is e book book.number name r rs k) (h sizes f book r rs st)) book st) same st) n.ensures.err n.ensures.frames
 
 pub returns-in-ParEnded-true-clause-rule : goal.returns-in-ParEnded-true-clause-rule
-returns-in-ParEnded-true-clause-rule g c = let e = c.args.engine.now in let n = c.close_call in let told = g.S.Sink.told c.args.out.now in
+returns-in-ParEnded-true-clause-rule g c = let e = c.args.engine.now in let n = c.close_reading in let told = g.S.Sink.told c.args.out.now in
     let is = asks_this e c.args.call (asked.ParEnded true) c.requires.call (c.in-ParEnded-true.is ∙ ap asked.ParEnded (grind (arith, common_steps, c.in-ParEnded-true.field-0-test, c.in-ParEnded-true.field-0-is, c.in-ParEnded-true.is))) in
-    λ sizes f. by_call sizes e _ (λ book plan. Went sizes (state_of e book) n.new.engine (world_of f told e) (world_of f told n.new.engine) plan 0) is
-    (λ book r rs st k. closed_went sizes e n.new.engine book r rs _ is st n.ensures.after n.ensures.keeps (state_of e (with_work (r ∷ rs) book)) f told (world_of f told e) [] (did_none sizes (state_of e (with_work (r ∷ rs) book)) (world_of f told e)) refl)
+    λ sizes f. by_call sizes e _ (λ book plan. Went sizes (state_of e book) n.new.self (world_of f told e) (world_of f told n.new.self) plan 0) is
+    (λ book r rs st k. column_went sizes _ n.new.self f told e.in_line (Closed ∷ []) 0 n.ensures.column (n.ensures.ends sizes (world_of f told e) book r rs tt st))
 
 pub returns-in_ok-put_call-in-Gathered-clause-rule : goal.returns-in_ok-put_call-in-Gathered-clause-rule
 returns-in_ok-put_call-in-Gathered-clause-rule g c = let e = c.args.engine.now in let n = c.put_call in let i = c.in_ok-put_call-in-Gathered.ensures in let told = g.S.Sink.told c.args.out.now in
@@ -98,59 +98,47 @@ returns-in_err-put_call-in-Gathered-clause-err g c = let e = c.args.engine.now i
     (λ book r rs st k. put_cut sizes e n.new.engine book r rs c.args.call.name is st k i.ensures.err i.field-0.0 i.ensures.refused (world_of f told e)) book st)
     (list_frames e n.new.engine (end_token_lists e.input.pending) i.ensures.err) st))
 
--- WHAT BECOMES LIGHTER, WHETHER THERE IS A STEP, AND WHAT STAYS
+-- WHAT BECOMES LIGHTER, AND WHETHER THERE IS A STEP
 
 pub returns-in-More-clause-light : goal.returns-in-More-clause-light
-returns-in-More-clause-light g c = c.take.ensures.light
+returns-in-More-clause-light g c = c.token_rule.ensures.light
 
 pub returns-in-More-clause-step : goal.returns-in-More-clause-step
 returns-in-More-clause-step g c =
-    steps_as_one c.take.result _ _ (sym (call_steps c.args.engine.now _ (asks_this c.args.engine.now c.args.call asked.More c.requires.call c.in-More.is))) c.take.ensures.step
-
-pub returns-in-More-clause-halts : goal.returns-in-More-clause-halts
-returns-in-More-clause-halts g c = c.take.ensures.halts
+    steps_as_one c.token_rule.result _ _ (sym (call_steps c.args.engine.now _ (asks_this c.args.engine.now c.args.call asked.More c.requires.call c.in-More.is))) c.token_rule.ensures.step
 
 pub returns-in-More-clause-idle : goal.returns-in-More-clause-idle
-returns-in-More-clause-idle g c = c.take.ensures.idle
+returns-in-More-clause-idle g c = c.token_rule.ensures.idle
 
 pub returns-in-ExtraBrace-clause-light : goal.returns-in-ExtraBrace-clause-light
 returns-in-ExtraBrace-clause-light g c =
-    c.settle_brace.ensures.light
+    ok_to c.tell.result (λ ruled h free. h free (subst (λ (o : Option Call). IsReported (asked_by o c.args.engine.now.input.call (asks_in c.args.engine.now.readings.frames []))) (sym (asks_this c.args.engine.now c.args.call asked.ExtraBrace c.requires.call c.in-ExtraBrace.is)) tt)) c.tell.ensures.light
 
 pub returns-in-ExtraBrace-clause-step : goal.returns-in-ExtraBrace-clause-step
 returns-in-ExtraBrace-clause-step g c =
-    free_steps c.settle_brace.result _ (call_steps c.args.engine.now _ (asks_this c.args.engine.now c.args.call asked.ExtraBrace c.requires.call c.in-ExtraBrace.is)) c.settle_brace.ensures.step
-
-pub returns-in-ExtraBrace-clause-halts : goal.returns-in-ExtraBrace-clause-halts
-returns-in-ExtraBrace-clause-halts g c = c.settle_brace.ensures.halts
+    free_steps c.tell.result _ (call_steps c.args.engine.now _ (asks_this c.args.engine.now c.args.call asked.ExtraBrace c.requires.call c.in-ExtraBrace.is)) c.tell.ensures.step
 
 pub returns-in-ExtraBrace-clause-idle : goal.returns-in-ExtraBrace-clause-idle
-returns-in-ExtraBrace-clause-idle g c = c.settle_brace.ensures.idle
+returns-in-ExtraBrace-clause-idle g c = c.tell.ensures.idle
 
 pub returns-in-Mismatch-clause-light : goal.returns-in-Mismatch-clause-light
 returns-in-Mismatch-clause-light g c =
-    ok_to c.fail_call.result (λ ruled h free. h free c.args.call c.requires.call (ap call_asks_more c.in-Mismatch.is)) c.fail_call.ensures.light
+    ok_to c.fail_call.result (λ ruled h free. h free c.args.call c.requires.call (ap (λ (o : Option Call). wants_token (asked_by o c.args.engine.now.input.call (steps.asked c.args.engine.now))) (asks_this c.args.engine.now c.args.call asked.Mismatch c.requires.call c.in-Mismatch.is))) c.fail_call.ensures.light
 
 pub returns-in-Mismatch-clause-step : goal.returns-in-Mismatch-clause-step
 returns-in-Mismatch-clause-step g c =
     free_steps c.fail_call.result _ (call_steps c.args.engine.now _ (asks_this c.args.engine.now c.args.call asked.Mismatch c.requires.call c.in-Mismatch.is)) c.fail_call.ensures.step
-
-pub returns-in-Mismatch-clause-halts : goal.returns-in-Mismatch-clause-halts
-returns-in-Mismatch-clause-halts g c = c.fail_call.ensures.halts
 
 pub returns-in-Mismatch-clause-idle : goal.returns-in-Mismatch-clause-idle
 returns-in-Mismatch-clause-idle g c = c.fail_call.ensures.idle
 
 pub returns-in-ParEnded-false-clause-light : goal.returns-in-ParEnded-false-clause-light
 returns-in-ParEnded-false-clause-light g c =
-    ok_to c.run_away_call.result (λ ruled h free. h free c.args.call c.requires.call (ap call_asks_more c.in-ParEnded-false.is)) c.run_away_call.ensures.light
+    ok_to c.run_away_call.result (λ ruled h free. h free c.args.call c.requires.call (ap (λ (o : Option Call). wants_token (asked_by o c.args.engine.now.input.call (steps.asked c.args.engine.now))) (asks_this c.args.engine.now c.args.call (asked.ParEnded false) c.requires.call (c.in-ParEnded-false.is ∙ ap asked.ParEnded (grind (arith, common_steps, c.in-ParEnded-false.field-0-test, c.in-ParEnded-false.field-0-is, c.in-ParEnded-false.is)))))) c.run_away_call.ensures.light
 
 pub returns-in-ParEnded-false-clause-step : goal.returns-in-ParEnded-false-clause-step
 returns-in-ParEnded-false-clause-step g c =
     free_steps c.run_away_call.result _ (call_steps c.args.engine.now _ (asks_this c.args.engine.now c.args.call (asked.ParEnded false) c.requires.call (c.in-ParEnded-false.is ∙ ap asked.ParEnded (grind (arith, common_steps, c.in-ParEnded-false.field-0-test, c.in-ParEnded-false.field-0-is, c.in-ParEnded-false.is))))) c.run_away_call.ensures.step
-
-pub returns-in-ParEnded-false-clause-halts : goal.returns-in-ParEnded-false-clause-halts
-returns-in-ParEnded-false-clause-halts g c = c.run_away_call.ensures.halts
 
 pub returns-in-ParEnded-false-clause-idle : goal.returns-in-ParEnded-false-clause-idle
 returns-in-ParEnded-false-clause-idle g c = c.run_away_call.ensures.idle
@@ -164,15 +152,12 @@ returns-in_err-put_call-in-Gathered-clause-step g c = no_ok _ _ c.from_residual.
 pub returns-in_err-put_call-in-Gathered-clause-rule : goal.returns-in_err-put_call-in-Gathered-clause-rule
 returns-in_err-put_call-in-Gathered-clause-rule g c = no_ok _ _ c.from_residual.result c.from_residual.ensures.1
 
-pub returns-in_err-put_call-in-Gathered-clause-halts : goal.returns-in_err-put_call-in-Gathered-clause-halts
-returns-in_err-put_call-in-Gathered-clause-halts g c = no_ok _ _ c.from_residual.result c.from_residual.ensures.1
-
 pub returns-in_err-put_call-in-Gathered-clause-idle : goal.returns-in_err-put_call-in-Gathered-clause-idle
 returns-in_err-put_call-in-Gathered-clause-idle g c = no_on _ _ c.from_residual.result c.from_residual.ensures.1
 
 pub returns-in_ok-put_call-in-Gathered-clause-light : goal.returns-in_ok-put_call-in-Gathered-clause-light
 returns-in_ok-put_call-in-Gathered-clause-light g c free =
-    c.in_ok-put_call-in-Gathered.ensures.light c.args.call c.requires.call (ap call_asks_more c.in-Gathered.is)
+    c.in_ok-put_call-in-Gathered.ensures.light c.args.call c.requires.call (ap (λ (o : Option Call). wants_token (asked_by o c.args.engine.now.input.call (steps.asked c.args.engine.now))) (asks_this c.args.engine.now c.args.call asked.Gathered c.requires.call c.in-Gathered.is))
 
 pub returns-in_ok-put_call-in-Gathered-clause-step : goal.returns-in_ok-put_call-in-Gathered-clause-step
 returns-in_ok-put_call-in-Gathered-clause-step g c =
@@ -181,15 +166,11 @@ returns-in_ok-put_call-in-Gathered-clause-step g c =
 pub returns-in_ok-put_call-in-Gathered-clause-err : goal.returns-in_ok-put_call-in-Gathered-clause-err
 returns-in_ok-put_call-in-Gathered-clause-err g c = tt
 
-pub returns-in_ok-put_call-in-Gathered-clause-halts : goal.returns-in_ok-put_call-in-Gathered-clause-halts
-returns-in_ok-put_call-in-Gathered-clause-halts g c halted = absurd halted
-
 pub returns-in_ok-put_call-in-Gathered-clause-idle : goal.returns-in_ok-put_call-in-Gathered-clause-idle
 returns-in_ok-put_call-in-Gathered-clause-idle g c = c.put_call.ensures.idle ∙ c.requires.idle
 
 pub returns-in-ParEnded-true-clause-light : goal.returns-in-ParEnded-true-clause-light
-returns-in-ParEnded-true-clause-light g c free =
-    closed_lighter c.args.engine.now c.args.engine.now c.close_call.new.engine _ c.args.call (same_engine c.args.engine.now c.args.engine.now refl) refl refl refl c.close_call.ensures.after c.requires.call (ap call_asks_more c.in-ParEnded-true.is)
+returns-in-ParEnded-true-clause-light g c free = c.close_reading.ensures.light c.args.call c.requires.call (ap (λ (o : Option Call). wants_token (asked_by o c.args.engine.now.input.call (steps.asked c.args.engine.now))) (asks_this c.args.engine.now c.args.call (asked.ParEnded true) c.requires.call (c.in-ParEnded-true.is ∙ ap asked.ParEnded (grind (arith, common_steps, c.in-ParEnded-true.field-0-test, c.in-ParEnded-true.field-0-is, c.in-ParEnded-true.is)))))
 
 pub returns-in-ParEnded-true-clause-step : goal.returns-in-ParEnded-true-clause-step
 returns-in-ParEnded-true-clause-step g c =
@@ -198,20 +179,8 @@ returns-in-ParEnded-true-clause-step g c =
 pub returns-in-ParEnded-true-clause-err : goal.returns-in-ParEnded-true-clause-err
 returns-in-ParEnded-true-clause-err g c = tt
 
-pub returns-in-ParEnded-true-clause-halts : goal.returns-in-ParEnded-true-clause-halts
-returns-in-ParEnded-true-clause-halts g c halted = absurd halted
-
 pub returns-in-ParEnded-true-clause-idle : goal.returns-in-ParEnded-true-clause-idle
-returns-in-ParEnded-true-clause-idle g c =
-    ap (λ (y : Engine). y.input.making) c.close_call.ensures.after ∙ c.requires.idle
-
--- WHAT IS ASKED OF THE CALL
-
-pub take-requires-clause-call : goal.take-requires-clause-call
-take-requires-clause-call g c = ap is_some c.requires.call
-
-pub settle_brace-requires-clause-call : goal.settle_brace-requires-clause-call
-settle_brace-requires-clause-call g c = asks_this c.args.engine.now c.args.call asked.ExtraBrace c.requires.call c.in-ExtraBrace.is
+returns-in-ParEnded-true-clause-idle g c = c.close_reading.ensures.idle ∙ c.requires.idle
 
 pub put_call-requires : goal.put_call-requires
 put_call-requires g c = complete_at c.args.engine.now.input.call c.args.call.name (asks_this c.args.engine.now c.args.call asked.Gathered c.requires.call c.in-Gathered.is)

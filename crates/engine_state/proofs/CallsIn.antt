@@ -1,10 +1,12 @@
 -- How a call stands, by what it asks for.
-use Rattle.std.proofs.Common.{◌≡◌, refl, ap, List, Bool, true, false}
-use Rattle.std.specs.Prelude.{Some}
+use Rattle.std.proofs.Common.{◌≡◌, refl, sym, ap, subst, List, Bool, true, false}
+use Rattle.std.specs.Prelude.{Option, Some}
 use Rattle.std.proofs.lemmas.Option.{same_Some}
 use Rattle.tex_defs.specs.declared.Name.{Name}
 use Rattle.tex_defs.specs.declared.Token.{Token}
 use Rattle.plain_tokens.specs.Arguments.{ParMode, begins_with_place}
+use Rattle.rows.specs.Readings as reading
+use Rattle.reading_frames.specs.Weights.{IsReported}
 use Rattle.macro_call.specs.declared.ask.CallAsk.TheVariants as ask
 use Rattle.input_state.specs.declared.answer.Call.{Call}
 use Rattle.input_state.specs.declared.answer.CallEnd.{CallEnd}
@@ -12,7 +14,8 @@ use Rattle.input_state.specs.declared.answer.CallEnd.TheVariants as end
 use Rattle.input_state.specs.CallFeeds.{IsTaking, with_scan}
 use Rattle.input_state.specs.Callings.{Calling, NotCalling, Gathering, Stopped, Gathered, IsComplete, asks_where, asks_as, scan_asks, ended_asks, call_in}
 use Rattle.macro_call.specs.PlainScans.{first_by, first_scan, noted_scan}
-use Rattle.engine_state.specs.Calls.{brace_call, open_call}
+use Rattle.engine_state.specs.Calls.{asks_by, brace_call, open_call}
+use Rattle.engine_state.specs.Steps.{asked_by}
 
 -- one that begins asks for a token
 first_settled : (b : Bool) (mode : ParMode) → (first_by b mode).braced ≡ false
@@ -38,7 +41,7 @@ complete_at (Stopped n why scan) name is = ended_so why (ap (λ (c : Call). c.as
 complete_at (Gathered n args) name is = tt
 
 -- it takes tokens
-pub braced_at : (k : Calling) (name : Name) → call_in k ≡ Some (brace_call name) → IsTaking k
+braced_at : (k : Calling) (name : Name) → call_in k ≡ Some (brace_call name) → IsTaking k
 braced_at NotCalling name is = absurd cc
 braced_at (Gathering n scan) name is = tt
 braced_at (Stopped n why scan) name is = ended_so why (ap (λ (c : Call). c.ask) (same_Some (record { name = n; ask = ended_asks why }) (brace_call name) is)) where
@@ -54,3 +57,37 @@ noted_asks name NotCalling is = absurd cc
 noted_asks name (Gathering n scan) is = ap (λ (c : Call). Some (open_call c.name)) (same_Some (record { name = n; ask = scan_asks scan }) (brace_call name) is)
 noted_asks name (Stopped n why scan) is = absurd (braced_at (Stopped n why scan) name is)
 noted_asks name (Gathered n args) is = absurd (let no : ask.Gathered ≡ ask.ExtraBrace = ap (λ (c : Call). c.ask) (same_Some (record { name = n; ask = ask.Gathered }) (brace_call name) is) in cc)
+
+-- WHERE A REPORT IS ASKED FOR
+
+pub record AsksBrace (k : Calling) : Type 0 where
+  pub name : Name
+  pub is : call_in k ≡ Some (brace_call name)
+
+brace_asked : (name : Name) (b : Bool) (k : Calling) → IsReported (Some (asks_by name (asks_where b) k)) → asks_as name (asks_where b) ≡ Some (brace_call name)
+brace_asked name true k h = refl
+brace_asked name false k h = absurd h
+
+-- a call that takes tokens asks for that of an extra brace
+pub brace_reported : (k : Calling) (frames : Option reading.Ask) → IsTaking k → IsReported (asked_by (call_in k) k frames) → AsksBrace k
+brace_reported NotCalling frames taking h = absurd taking
+brace_reported (Gathering n scan) frames taking h = record { name = n; is = brace_asked n scan.braced (Gathering n scan) h }
+brace_reported (Stopped n why scan) frames taking h = absurd taking
+brace_reported (Gathered n args) frames taking h = absurd taking
+
+none_ended : (name : Name) (why : CallEnd) (k : Calling) → IsReported (Some (asks_by name (ended_asks why) k)) → ⊥
+none_ended name end.Mismatch k h = h
+none_ended name (end.ParEnded true) k h = h
+none_ended name (end.ParEnded false) k h = h
+none_ended name end.Full k h = h
+
+-- and one that takes none asks for no report
+pub frame_reported : (k : Calling) (frames : Option reading.Ask) → (IsTaking k → ⊥) → IsReported (asked_by (call_in k) k frames) → k ≡ NotCalling
+frame_reported NotCalling frames none h = refl
+frame_reported (Gathering n scan) frames none h = absurd (none tt)
+frame_reported (Stopped n why scan) frames none h = absurd (none_ended n why (Stopped n why scan) h)
+frame_reported (Gathered n args) frames none h = absurd h
+
+-- where there is none, the frame does
+pub uncalled_reported : (k : Calling) (frames : Option reading.Ask) → k ≡ NotCalling → IsReported frames → IsReported (asked_by (call_in k) k frames)
+uncalled_reported k frames none h = subst (λ (x : Calling). IsReported (asked_by (call_in x) x frames)) (sym none) h

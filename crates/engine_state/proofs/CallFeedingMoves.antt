@@ -24,7 +24,7 @@ use Rattle.plain_machine.proofs.Doing.{did_none, did_join, did_one}
 use Rattle.macro_call.specs.Growths.{target_by}
 use Rattle.input_state.specs.Callings.{last_first}
 use Rattle.engine_state.proofs.CallsKnown.{lists_of}
-use Rattle.gullet.proofs.CallFeedingCases.{FedCase, Waits, Enters, Grown, Last, Next}
+use Rattle.engine_state.proofs.CallFeedingCases.{FedCase, Waits, Enters, Grown, Last, Next}
 use Rattle.engine_state.proofs.Joining.{quiet_here}
 
 -- an argument more comes first

@@ -1,6 +1,6 @@
 -- What a rule of a call makes lighter, and whether it has a step.
-use Rattle.std.proofs.Common.{◌≡◌, ◌+◌, ◌<◌, ◌≤◌, ap, ◌∙◌, subst, arith, Bool, true, false, List, drop}
-use Rattle.std.specs.Prelude.{Option, Some, None, Result, Ok, Err, IfOk, OnOk, OnErr, ◌&&◌}
+use Rattle.std.proofs.Common.{◌≡◌, sym, ◌+◌, ◌<◌, ◌≤◌, ap, ◌∙◌, subst, arith, Bool, true, false, List, drop}
+use Rattle.std.specs.Prelude.{Option, Some, None, Result, Ok, Err, IfOk, OnErr, ◌&&◌}
 use Rattle.tex_defs.specs.declared.Name.{Name}
 use Rattle.plain_tokens.specs.Pending.{pulled}
 use Rattle.plain_readings.specs.Weights.{act_frame, act_weight, ask_weight, behind_weight}
@@ -11,24 +11,16 @@ use Rattle.input_state.specs.Reads.{gives_step}
 use Rattle.input_state.specs.Stored.{Stored}
 use Rattle.engine_state.specs.declared.broken.Broken.{Broken}
 use Rattle.input_state.specs.declared.answer.Call.{Call}
-use Rattle.macro_call.specs.PlainScans.{noted_scan}
-use Rattle.input_state.specs.CallFeeds.{with_scan}
 use Rattle.input_state.specs.Callings.{Calling, NotCalling, call_in}
 use Rattle.macro_call.specs.declared.ask.CallAsk.{CallAsk}
 use Rattle.macro_call.specs.declared.ask.CallAsk.TheVariants as call
 use Rattle.engine_state.specs.declared.engine.Engine.{Engine}
 use Rattle.engine_state.specs.declared.outcome.Ruled.{Ruled}
 use Rattle.engine_state.specs.declared.outcome.Ruled.TheVariants.{Step, Free, Halted}
-use Rattle.engine_state.specs.Calls.{asks_by, asks_of, brace_call, open_call}
-use Rattle.gullet.proofs.CallsIn.{noted_asks}
+use Rattle.engine_state.specs.Calls.{asks_by, asks_of}
 use Rattle.engine_state.specs.Stands.{SameFrames}
-use Rattle.engine_state.specs.Steps.{stepping, asked, call_asks_more, pending_weight, readings_weight, weight, IsStep, StepsIf, asked_by, wants_token}
+use Rattle.engine_state.specs.Steps.{stepping, asked, asks_more, asks_now, pending_weight, readings_weight, weight, IsStep, StepsIf, asked_by, wants_token}
 use Rattle.reading_frames.specs.declared.frame.Frame.{Frame}
-
--- where there is none
-pub on_ok : {T E : Type 0} {P Q : Type 0} → (r : Result T E) → (P → Q) → OnOk r P → OnOk r Q
-on_ok (Ok x) f h = f h
-on_ok (Err e) f h = tt
 
 -- at an error
 pub on_err : {T E : Type 0} {P : Type 0} → (r : Result T E) → P → OnErr r P
@@ -38,9 +30,6 @@ on_err (Err e) h = h
 pub on_err_to : {T E : Type 0} {P Q : Type 0} → (r : Result T E) → (P → Q) → OnErr r P → OnErr r Q
 on_err_to (Ok x) f h = tt
 on_err_to (Err e) f h = f h
-
-pub frames_join : (e e1 e2 : Engine) → SameFrames e e1 → SameFrames e1 e2 → SameFrames e e2
-frames_join e e1 e2 a b = record { readings = b.readings ∙ a.readings; lists = b.lists ∙ a.lists; call = b.call ∙ a.call }
 
 -- WHAT THE ENGINE WEIGHS
 
@@ -59,7 +48,7 @@ pub lighter_by : (e e1 e2 : Engine) → SameFrames e e1 → pending_weight e1.in
 lighter_by e e1 e2 same left h = omega (arith, h, same_weight e e1 same left)
 
 -- one that asks for no token
-heavy : (name : Name) (a : CallAsk) (k : Calling) → call_asks_more a ≡ false → act_weight ≤ ask_weight behind_weight (asks_by name a k)
+heavy : (name : Name) (a : CallAsk) (k : Calling) → asks_more (asks_by name a k) ≡ false → act_weight ≤ ask_weight behind_weight (asks_by name a k)
 heavy name call.More k is = cc
 heavy name call.ExtraBrace k is = omega arith
 heavy name call.Gathered k is = omega arith
@@ -72,34 +61,18 @@ frames_left : (fs : List Frame) → frames_weight (drop 1 fs) + innermost_weight
 frames_left fs = omega (arith, weights_small (drop 1 fs))
 
 -- the engine without its call
-pub closed_light : (e : Engine) (i : Stored) (c : Call) → call_in e.input.call ≡ Some c → call_asks_more c.ask ≡ false → pending_weight i.pending ≡ pending_weight e.input.pending → i.call ≡ NotCalling → weight (record e { readings = reading_ended e.readings; input = i }) < weight e
+pub closed_light : (e : Engine) (i : Stored) (c : Call) → call_in e.input.call ≡ Some c → wants_token (asks_now e) ≡ false → pending_weight i.pending ≡ pending_weight e.input.pending → i.call ≡ NotCalling → weight (record e { readings = reading_ended e.readings; input = i }) < weight e
 closed_light e i c is none left gone =
     let had : readings_weight (call_in e.input.call) e ≡ readings_weight (Some c) e = ap (λ (c : Option Call). readings_weight c e) is in
     let has : readings_weight (call_in i.call) (record e { readings = reading_ended e.readings; input = i }) ≡ stack_weight (reading_ended e.readings) = ap (λ (k : Calling). readings_weight (call_in k) (record e { readings = reading_ended e.readings; input = i })) gone in
-    omega (arith, had, has, left, heavy c.name c.ask e.input.call none, frames_left e.readings.frames)
+    let takes_none : asks_more (asks_of c e.input.call) ≡ false = sym (ap (λ (o : Option Call). wants_token (asked_by o e.input.call (asked e))) is) ∙ none in
+    omega (arith, had, has, left, heavy c.name c.ask e.input.call takes_none, frames_left e.readings.frames)
 
 -- the same, where other lists may stand in front
-pub closed_within : (e x : Engine) (c : Call) → x ≡ record e { readings = reading_ended e.readings; input = x.input } → x.input.call ≡ NotCalling → pending_weight x.input.pending ≡ pending_weight e.input.pending → call_in e.input.call ≡ Some c → call_asks_more c.ask ≡ false → weight x < weight e
+pub closed_within : (e x : Engine) (c : Call) → x ≡ record e { readings = reading_ended e.readings; input = x.input } → x.input.call ≡ NotCalling → pending_weight x.input.pending ≡ pending_weight e.input.pending → call_in e.input.call ≡ Some c → wants_token (asks_now e) ≡ false → weight x < weight e
 closed_within e x c now gone left is none =
     let light : weight (record e { readings = reading_ended e.readings; input = x.input }) < weight e = closed_light e x.input c is none left gone in
     omega (arith, light, ap weight now)
-
--- its call ends
-pub closed_lighter : (e e1 e2 : Engine) (i : Stored) (c : Call) → SameFrames e e1 → pending_weight e1.input.pending ≡ pending_weight e.input.pending → pending_weight i.pending ≡ pending_weight e1.input.pending → i.call ≡ NotCalling → e2 ≡ record e1 { readings = reading_ended e1.readings; input = i } → call_in e.input.call ≡ Some c → call_asks_more c.ask ≡ false → weight e2 < weight e
-closed_lighter e e1 e2 i c same before left gone after is none =
-    let light : weight (record e1 { readings = reading_ended e1.readings; input = i }) < weight e1 = closed_light e1 i c (ap call_in same.call ∙ is) none left gone in
-    let now : weight e2 ≡ weight (record e1 { readings = reading_ended e1.readings; input = i }) = ap weight after in
-    omega (arith, light, now, same_weight e e1 same before)
-
--- it goes on behind its extra brace
-pub brace_lighter : (e e1 e2 : Engine) (name : Name) → SameFrames e e1 → pending_weight e1.input.pending ≡ pending_weight e.input.pending → e2 ≡ record e1 { input = record e1.input { call = with_scan noted_scan e1.input.call } } → call_in e.input.call ≡ Some (brace_call name) → weight e2 < weight e
-brace_lighter e e1 e2 name same before after is =
-    let was : call_in e1.input.call ≡ Some (brace_call name) = ap call_in same.call ∙ is in
-    let i : Stored = record e1.input { call = with_scan noted_scan e1.input.call } in
-    let now : weight e2 ≡ weight (record e1 { input = i }) = ap weight after in
-    let has : readings_weight (call_in i.call) (record e1 { input = i }) ≡ readings_weight (Some (open_call name)) e1 = ap (λ (c : Option Call). readings_weight c (record e1 { input = i })) (noted_asks name e1.input.call was) in
-    let had : readings_weight (call_in e1.input.call) e1 ≡ readings_weight (Some (brace_call name)) e1 = ap (λ (c : Option Call). readings_weight c e1) was in
-    omega (arith, now, has, had, same_weight e e1 same before)
 
 -- WHETHER IT HAS A STEP
 

@@ -1,10 +1,9 @@
 -- A call that is fed with a token for which the main memory has no room.
-use Rattle.std.proofs.Common.{Result, Ok, Err, ◌≡◌, ℕ, zero, suc, ◌+◌, ◌<◌, ◌≤◌, List, [], ◌∷◌, ◌++◌, length, drop, map, false, refl, sym, ap, subst, ◌∙◌, append_assoc, length-append, arith}
+use Rattle.std.proofs.Common.{Result, Ok, Err, ◌≡◌, ℕ, zero, suc, ◌+◌, ◌<◌, ◌≤◌, List, [], ◌∷◌, ◌++◌, length, drop, map, refl, sym, ap, subst, ◌∙◌, append_assoc, length-append, arith}
 use Rattle.std.proofs.lemmas.List.{length-drop}
 use Rattle.std.proofs.lemmas.List.Sums.{sum_by-cons, sum_by-append}
 use Rattle.std.proofs.Math.Seq.{drop-append_seam}
 use Rattle.std.specs.Prelude.{Option, Some, None, IfErr, OnErr, option_map, option_to_list, unwrap_or}
-use Rattle.tex_syntax.specs.declared.words.Want.TheVariants.{Raw}
 use Rattle.tex_defs.specs.declared.Full.{Full}
 use Rattle.tex_defs.specs.declared.Name.{Name}
 use Rattle.tex_defs.specs.declared.Seen.{Seen}
@@ -13,11 +12,9 @@ use Rattle.tex_defs.specs.declared.Token.{Token}
 use Rattle.tex_defs.specs.Places.{World}
 use Rattle.plain_tokens.specs.Arguments as call
 use Rattle.plain_tokens.specs.Arguments.{Answer, arguments_in, work_in}
-use Rattle.rows.specs.Readings as asks
 use Rattle.plain_readings.specs.Readings as reading
 use Rattle.plain_tokens.specs.Puts.{list_of_tokens}
-use Rattle.rows.specs.Readings.{Fed, Tok}
-use Rattle.plain_readings.specs.Calls.{gathered, call_ask, call_fed}
+use Rattle.rows.specs.Readings.{Tok}
 use Rattle.plain_readings.specs.Readings.{Reading}
 use Rattle.plain_machine.specs.States.{State, Move, Grows, Feeds, Completed, Opened}
 use Rattle.plain_tokens.specs.Tables.{list_words, lists_words, memory, refused}
@@ -30,12 +27,14 @@ use Rattle.macro_call.specs.Growths.{target_by, target_of}
 use Rattle.macro_call.specs.PlainScans.{Scan, resume_scan, scan_work, with_work as with_list}
 use Rattle.macro_call.specs.Scans.{args_with}
 use Rattle.macro_call.specs.Stages.{Stage}
+use Rattle.macro_call.specs.declared.ask.CallAsk.{CallAsk}
 use Rattle.macro_call.specs.declared.ask.CallAsk.TheVariants as ask
+use Rattle.input_state.specs.declared.answer.Call.{Call}
+use Rattle.std.proofs.lemmas.Option.{same_Some}
 use Rattle.reading_frames.specs.Frames.{OpenCall, AreFramesOf, IsGathered}
-use Rattle.reading_frames.specs.declared.frame.Frame.TheVariants as frame
 use Rattle.input_state.specs.CallFeeds.{call_work, CutTo, CutShort, IsCut, InGrowth, Between, IsCutInGrowth, IsCutBetween}
 use Rattle.input_state.specs.Callings as calls
-use Rattle.input_state.specs.Callings.{Calling, call_lists, last_first, call_in}
+use Rattle.input_state.specs.Callings.{Calling, call_lists, last_first, call_in, scan_asks}
 use Rattle.input_state.specs.Calls.{text_of}
 use Rattle.input_state.specs.Macros.{list_at}
 use Rattle.input_state.specs.Stored.{KeepsShared, words as stored_words}
@@ -43,13 +42,13 @@ use Rattle.engine_state.specs.declared.broken.Broken.TheVariants as broken
 use Rattle.engine_state.specs.declared.engine.Engine.{Engine}
 use Rattle.engine_state.specs.Book.{Book, with_work}
 use Rattle.engine_state.specs.Calls.{AllStand, HasRead, open_call}
-use Rattle.engine_state.proofs.CallsKnown.{CallStands, Beneath, Gathers, ReadingsBy, asks_gathered, frame_of, lists_of, open_frames, says_by}
+use Rattle.engine_state.proofs.CallsKnown.{CallStands, Gathers, Taking, lists_of}
+use Rattle.engine_state.proofs.CallsFed.{ScanStands, frames_fed}
 use Rattle.engine_state.specs.CutReadings.{Within, Behind, CutOff, CutScan, FramesAtCut, CutsIn}
-use Rattle.engine_state.specs.Stands.{IsSound, SameStore, state_of}
-use Rattle.gullet.proofs.CallEnding.{here as here_call}
-use Rattle.gullet.proofs.CallFeeding.{scanner, text_is, answer_to, feeding_is, growth_is, lists_before}
-use Rattle.gullet.proofs.CallFeedingAnswers.{Taking, in_front}
-use Rattle.gullet.proofs.CallFeedingMoves.{fed_reading, state_at, other_words, words_at, last_more, grows_did, feeds_did, whole_did}
+use Rattle.engine_state.specs.Stands.{IsSound, OpenFrames, SameStore, state_of}
+use Rattle.engine_state.proofs.CallEnding.{here as here_call}
+use Rattle.engine_state.proofs.CallFeeding.{scanner, scanner_stands, text_is, answer_to, feeding_is, growth_is, lists_before}
+use Rattle.engine_state.proofs.CallFeedingMoves.{fed_reading, state_at, other_words, words_at, last_more, grows_did, feeds_did, whole_did}
 use Rattle.engine_state.proofs.Cutting.{later_cuts, full_cuts, cuts_by}
 use Rattle.engine_state.proofs.Storing.{sound_still, store_call, words_are, words_more}
 
@@ -93,11 +92,8 @@ module _ (sizes : Sizes) (e e2 : Engine) (book : Book) (r : Reading) (rs : List 
   abbrev W : Book
   W = with_work (r ∷ rs) book
 
-  stood : ReadingsBy (Some (open_call name)) e book.number (r ∷ rs)
-  stood = here_call sizes e book (open_call name) r rs is st
-
-  abbrev h : CallStands e book.number (open_call name) r
-  h = stood.0
+  h : CallStands e book.number (open_call name) r
+  h = here_call sizes e book (open_call name) r rs is st
 
   abbrev text : List Token
   text = list_at e.input.lists h.id
@@ -139,32 +135,24 @@ module _ (sizes : Sizes) (e e2 : Engine) (book : Book) (r : Reading) (rs : List 
   no_more q lists same =
       ap (λ (u : State). refused sizes (memory 1 (words u) ∷ [])) (finish q lists same) ∙ words_more sizes e2 (with_work (q ∷ rs) book) 1 (Some full) sound refuses
 
+  k_stands : ScanStands e book.number name text k.scan r rs
+  k_stands = scanner_stands e book.number name r rs h st.all
+
   -- in front of the token the call has read so far
   read : HasRead ask.More k.scan (resume_scan text k.scan [])
-  read =
-      let g : Gathers h.long text k.scan r.fed = k.gathers in
-      let here : gathered h.long text r.fed ≡ resume_scan text k.scan [] = in_front h.long text k.scan r.fed g in
-      let args : arguments_in (resume_scan text k.scan []) ≡ k.scan.args = ap arguments_in (sym here) ∙ g.args in
-      let work : work_in (resume_scan text k.scan []) ≡ scan_work k.scan = ap work_in (sym here) ∙ g.work in
-      let asked : asks.More Raw ≡ call_ask name (resume_scan text k.scan []) = h.asked ∙ ap (λ (kind : reading.Kind). reading.ask kind r.fed) h.kind ∙ asks_gathered name h.long text r.fed h.places ∙ ap (call_ask name) here in
-      record { says = says_by false name k.scan (resume_scan text k.scan []) e.input.call asked args work; args = args; work = work; bare = k.has_work }
+  read = subst (λ (asked : CallAsk). HasRead asked k.scan (resume_scan text k.scan [])) (ap (λ (c : Call). c.ask) (same_Some (record { name = name; ask = scan_asks k.scan }) (open_call name) (sym (ap call_in k.is) ∙ is))) k_stands.far
 
-  -- the frames, where the call's reading goes on so
-  frames_near : (q : Reading) (c : OpenCall) (next : Scan) → c.name ≡ name → c.text ≡ text → q.kind ≡ r.kind → ((more : List Fed) → gathered h.long text (q.fed ++ more) ≡ c.answers (call_fed more)) →
-      e2.input.call ≡ calls.Stopped name end.Full next → CutScan c.name text next c q.kind q.fed → FramesAtCut (broken.Full full) e2 (q ∷ rs)
-  frames_near q c next own its same on now cut =
-      let kind : q.kind ≡ reading.Arguments c.name h.long (book.number h.id) text = same ∙ h.kind ∙ ap (λ (n : Name). reading.Arguments n h.long (book.number h.id) text) (sym own) in
-      let b : Beneath c.name e.readings.frames e.input.builds rs = subst (λ (n : Name). Beneath n e.readings.frames e.input.builds rs) (sym own) stood.1 in
-      let open_now = open_frames c e q rs (frame_of c (frame.Call c.name) e.input.builds q h.long (book.number h.id) text refl (sym its) kind h.places on) b in
-      record {
-        lists = e2.input.builds;
-        front = None;
-        grown = refl;
-        leads = tt;
-        call = Some c;
-        at = CutOff (record { full = full; is_full = refl; text = text; next = next; stopped = now ∙ ap (λ (n : Name). calls.Stopped n end.Full next) (sym own); at = cut });
-        stand = subst (λ (y : Engine). AreFramesOf (Some c) y.readings.frames y.input.builds (q ∷ rs)) (sym behind) open_now.frames;
-      }
+  -- the frames, where they stand for this call
+  frames_near : (q : Reading) (c : OpenCall) (next : Scan) → OpenFrames (Some c) e (q ∷ rs) → e2.input.call ≡ calls.Stopped c.name end.Full next → CutScan c.name text next c q.kind q.fed → FramesAtCut (broken.Full full) e2 (q ∷ rs)
+  frames_near q c next open_now now cut = record {
+    lists = e2.input.builds;
+    front = None;
+    grown = refl;
+    leads = tt;
+    call = Some c;
+    at = CutOff (record { full = full; is_full = refl; text = text; next = next; stopped = now; at = cut });
+    stand = subst (λ (y : Engine). AreFramesOf (Some c) y.readings.frames y.input.builds (q ∷ rs)) (sym behind) open_now.frames;
+  }
 
   -- the first moves are done, and the next one has no room
   cut_at : (q : Reading) (lists : List (List Token)) (done : List Move) (m : Move) (rest : List Move) → FramesAtCut (broken.Full full) e2 (q ∷ rs) → call_lists e2.input.call ≡ lists →
@@ -192,9 +180,7 @@ module _ (sizes : Sizes) (e e2 : Engine) (book : Book) (r : Reading) (rs : List 
     whole = ap (λ (o : Option (List Token)). drop (length (unwrap_or o [])) (target_by complete (work_in a))) (sym c.before) ∙ sym (growth_is e book.number name r x h) ∙ c.whole
 
     near : FramesAtCut (broken.Full full) e2 (r ∷ rs)
-    near =
-        let g : Gathers h.long text k.scan r.fed = k.gathers in
-        frames_near r (record { name = name; text = text; answers = resume_scan text k.scan }) next refl refl refl g.goes_on now (Within (record { scan = k.scan; seen = x; call = refl; read = read; cut = c }))
+    near = frames_near r (record { name = name; text = text; answers = resume_scan text k.scan }) next k_stands.frames now (Within (record { scan = k.scan; seen = x; call = refl; read = read; cut = c }))
 
     last : e2.last ≡ e.last
     last = unfed (c.was ++ c.front) (ap call_work now ∙ ap scan_work c.after ∙ work_with k.scan k.scan.present c.was (c.was ++ c.front) refl c.before)
@@ -226,8 +212,8 @@ module _ (sizes : Sizes) (e e2 : Engine) (book : Book) (r : Reading) (rs : List 
     near : FramesAtCut (broken.Full full) e2 (q ∷ rs)
     near =
         let g : Gathers h.long text k.scan r.fed = k.gathers in
-        frames_near q (record { name = name; text = text; answers = λ fed. resume_scan text k.scan (call.Tok x.token ∷ fed) }) next refl refl refl
-        (λ more. ap (gathered h.long text) (append_assoc r.fed (Tok x ∷ []) more) ∙ g.goes_on (Tok x ∷ more)) now (Behind (record {
+        let behind_token : List call.Fed → Answer = λ fed. resume_scan text k.scan (call.Tok x.token ∷ fed) in
+        frames_near q (record { name = name; text = text; answers = behind_token }) next (frames_fed name text (resume_scan text k.scan) behind_token (Tok x) (λ fed. refl) e r rs k_stands.frames) now (Behind (record {
           scan = k.scan;
           before = r.fed;
           seen = x;

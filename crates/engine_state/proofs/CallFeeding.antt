@@ -1,5 +1,5 @@
 -- A call that is fed with a token goes on behind it.
-use Rattle.std.proofs.Common.{Result, Ok, Err, ◌≡◌, ℕ, ◌+◌, ◌≤◌, List, [], ◌∷◌, ◌++◌, length, drop, sym, ap, subst, ◌∙◌, Bool, true, false, arith}
+use Rattle.std.proofs.Common.{Result, Ok, Err, ◌≡◌, ℕ, ◌+◌, ◌≤◌, List, [], ◌∷◌, ◌++◌, length, drop, refl, sym, ap, append_assoc, subst, ◌∙◌, Bool, true, false, arith}
 use Rattle.std.specs.Prelude.{Option, Some, MatchBool, OnOk, unwrap_or}
 use Rattle.tex_defs.specs.declared.Full.{Full}
 use Rattle.tex_defs.specs.declared.Name.{Name}
@@ -8,9 +8,9 @@ use Rattle.tex_defs.specs.declared.Sizes.{Sizes}
 use Rattle.tex_defs.specs.declared.Token.{Token}
 use Rattle.tex_defs.specs.Places.{World}
 use Rattle.plain_tokens.specs.Arguments as call
-use Rattle.plain_tokens.specs.Arguments.{Answer, arguments_in, work_in, has_parameters}
-use Rattle.rows.specs.Readings.{Tok}
-use Rattle.plain_readings.specs.Calls.{gathered}
+use Rattle.plain_tokens.specs.Arguments.{Answer, arguments_in, work_in}
+use Rattle.rows.specs.Readings.{Fed, Tok}
+use Rattle.plain_readings.specs.Calls.{call_fed, gathered}
 use Rattle.plain_readings.specs.Readings as reading
 use Rattle.plain_readings.specs.Readings.{Reading}
 use Rattle.plain_machine.specs.States.{State, Move}
@@ -18,40 +18,50 @@ use Rattle.plain_tokens.specs.Tables.{lists_words}
 use Rattle.plain_machine.specs.Demands.{words}
 use Rattle.plain_machine.specs.Plan.{feeding, feeding_kind, argument_fed}
 use Rattle.plain_machine.specs.Does.{Did}
+use Rattle.macro_call.specs.ArgumentLaws.{IsClosed}
 use Rattle.macro_call.specs.Growths.{target_by}
-use Rattle.macro_call.specs.PlainScans.{Scan, resume_scan, scan_work}
+use Rattle.macro_call.specs.declared.ask.CallAsk.{CallAsk}
+use Rattle.macro_call.specs.declared.ask.CallAsk.TheVariants as ask
+use Rattle.macro_call.specs.PlainScans.{resume_scan, scan_work}
 use Rattle.input_state.specs.CallFeeds.{IsTaking, Comes, Feeds, scan_growth, growth}
 use Rattle.input_state.specs.Callings as calls
-use Rattle.input_state.specs.Callings.{Calling, call_lists, call_in}
+use Rattle.input_state.specs.Callings.{Calling, asks_as, call_lists, call_in, ended_asks, scan_asks}
 use Rattle.input_state.specs.Calls.{macro_text, text_of}
 use Rattle.input_state.specs.Macros.{list_at}
 use Rattle.input_state.specs.Stored.{KeepsShared, words as stored_words}
-use Rattle.input_state.specs.declared.answer.Call.{Call}
 use Rattle.engine_state.specs.declared.engine.Engine.{Engine}
 use Rattle.engine_state.specs.Book.{Book, with_work}
-use Rattle.engine_state.specs.Calls.{AllStand, open_call}
-use Rattle.engine_state.proofs.CallsKnown.{CallStands, CallAt, Gathers, ReadingsBy, join, lists_of, lists_by, answer_lists}
+use Rattle.engine_state.specs.Calls.{AllStand, IsAsFar, IsEnded, IsMacroOf, ReadingsStand, ended_answer, open_call, open_call_of}
+use Rattle.engine_state.proofs.CallsFed.{ScanStands, fed_stand, scan_stands}
+use Rattle.engine_state.proofs.CallsKnown.{CallStands, Gathers, Taking, lists_of, lists_by}
 use Rattle.engine_state.specs.Stands.{IsSound, SameStore, state_of}
 use Rattle.engine_state.specs.Rules.{Went}
-use Rattle.gullet.proofs.CallEnding.{here as here_call}
-use Rattle.gullet.proofs.CallFeedingAnswers.{Taking, taking, asked_in, in_front, scan_turn, lists_after, asked_after, at_after, called_after}
-use Rattle.gullet.proofs.CallFeedingMoves.{fed_reading, turn_leads, state_at, other_words, words_at}
-use Rattle.engine_state.proofs.CallKept.{list_still}
+use Rattle.engine_state.proofs.CallEnding.{here as here_call}
+use Rattle.engine_state.proofs.CallFeedingAnswers.{ended_closed, ended_so, in_front, lists_after, read_after, says_is, scan_turn, stays}
+use Rattle.engine_state.proofs.CallFeedingMoves.{fed_reading, turn_leads, state_at, other_words, words_at}
 use Rattle.plain_machine.specs.Runs.{steps}
 use Rattle.plain_machine.proofs.Pulls.{pulls, steps_pull, kind_none}
 use Rattle.engine_state.proofs.Storing.{sound_still, store_call, words_are}
 
 -- moves that pull nothing are no steps
-no_steps : (ms : List Move) → pulls ms ≡ 0 → steps ms ≡ 0
+pub no_steps : (ms : List Move) → pulls ms ≡ 0 → steps ms ≡ 0
 no_steps ms h = omega (arith, h, steps_pull ms)
 
 -- the scanner of the call that takes tokens, over the list of its macro
 pub scanner : (e : Engine) (number : ℕ → ℕ) (name : Name) (r : Reading) (h : CallStands e number (open_call name) r) → Taking name h.long (list_at e.input.lists h.id) r.fed e.input.call
-scanner e number name r h = taking name h.long (list_at e.input.lists h.id) r.fed e.input.call h.at
+scanner e number name r h = h.at
 
 -- its list is the macro's
 pub text_is : (e : Engine) (number : ℕ → ℕ) (name : Name) (r : Reading) (h : CallStands e number (open_call name) r) → text_of e.input.lists e.input.groups.now.meanings name ≡ list_at e.input.lists h.id
 text_is e number name r h = ap (macro_text e.input.lists) h.meaning
+
+-- over its list it stands as the relation has it
+pub scanner_stands : (e : Engine) (number : ℕ → ℕ) (name : Name) (r : Reading) (rs : List Reading) (h : CallStands e number (open_call name) r) → ReadingsStand e number (r ∷ rs) → ScanStands e number name (list_at e.input.lists h.id) (scanner e number name r h).scan r rs
+scanner_stands e number name r rs h all =
+    let k : Taking name h.long (list_at e.input.lists h.id) r.fed e.input.call = scanner e number name r h in
+    let s : ScanStands e number name all.readings.text k.scan r rs = scan_stands e number name k.scan r rs k.is all in
+    let m : IsMacroOf e number all.readings.text name r.kind = s.macro in
+    subst (λ (ts : List Token). ScanStands e number name ts k.scan r rs) (m.list ∙ sym (ap (macro_text e.input.lists) m.meaning) ∙ text_is e number name r h) s
 
 -- THE MOVES
 
@@ -64,9 +74,6 @@ module _ (e : Engine) (number : ℕ → ℕ) (name : Name) (r : Reading) (x : Se
 
   abbrev pub answer_to : Answer
   answer_to = resume_scan ts t.scan (call.Tok x.token ∷ [])
-
-  abbrev pub scan_before : Scan
-  scan_before = t.scan
 
   now_front : gathered h.long ts r.fed ≡ resume_scan ts t.scan []
   now_front = in_front h.long ts t.scan r.fed t.gathers
@@ -108,11 +115,8 @@ module _ (sizes : Sizes) (e e2 : Engine) (book : Book) (r : Reading) (rs : List 
   abbrev W : Book
   W = with_work (r ∷ rs) book
 
-  stood : ReadingsBy (Some (open_call name)) e book.number (r ∷ rs)
-  stood = here_call sizes e book (open_call name) r rs is st
-
-  abbrev h : CallStands e book.number (open_call name) r
-  h = stood.0
+  h : CallStands e book.number (open_call name) r
+  h = here_call sizes e book (open_call name) r rs is st
 
   abbrev text : List Token
   text = list_at e.input.lists h.id
@@ -141,32 +145,35 @@ module _ (sizes : Sizes) (e e2 : Engine) (book : Book) (r : Reading) (rs : List 
   abbrev W' : Book
   W' = with_work (fed ∷ rs) book
 
-  abbrev now : Engine
-  now = record e { last = x; input = record e.input { call = e2.input.call; lists = e2.input.lists } }
+  k_stands : ScanStands e book.number name text k.scan r rs
+  k_stands = scanner_stands e book.number name r rs h st.all
 
-  held : list_at e2.input.lists h.id ≡ text
-  held = list_still e.input e2.input name h.long h.outer h.id store h.meaning
+  -- what follows an end changes nothing
+  ends : (b : Answer) → a ≡ b → IsClosed b → (more : List Fed) → resume_scan text k.scan (call.Tok x.token ∷ call_fed more) ≡ b
+  ends b is closed more =
+      let g : Gathers h.long text k.scan r.fed = k.gathers in
+      sym (ap (gathered h.long text) (append_assoc r.fed (Tok x ∷ []) more) ∙ g.goes_on (Tok x ∷ more)) ∙ stays h.long text (r.fed ++ Tok x ∷ []) b (now_after e book.number name r x h ∙ is) closed more
 
-  call_stands : CallStands now book.number (record { name = name; ask = asked_in e2.input.call }) fed
-  call_stands = record {
-    long = h.long;
-    outer = h.outer;
-    id = h.id;
-    meaning = h.meaning;
-    kind = h.kind ∙ ap (reading.Arguments name h.long (book.number h.id)) (sym held);
-    places = ap has_parameters held ∙ h.places;
-    asked = asked_after name h.long text k.scan r.fed x k.has_work k.gathers e2.input.call came ∙ ap (λ (kind : reading.Kind). reading.ask kind (r.fed ++ Tok x ∷ [])) (sym h.kind);
-    at = subst (λ (ts : List Token). CallAt (asked_in e2.input.call) name h.long ts e2.input.call (r.fed ++ Tok x ∷ [])) (sym held) (at_after name h.long text k.scan r.fed x k.has_work k.gathers e2.input.call came);
-    holds = ap (λ (kind : reading.Kind). reading.lists kind (r.fed ++ Tok x ∷ [])) h.kind ∙ answer_lists (gathered h.long text (r.fed ++ Tok x ∷ [])) ∙ ap lists_by (now_after e book.number name r x h) ∙ sym (lists_after name h.long text k.scan r.fed x k.has_work k.gathers e2.input.call came);
-  }
+  -- the call goes on
+  fed_to : (new : Calling) (answers : List call.Fed → Answer) (asked : CallAsk) → e2.input.call ≡ new → open_call_of text new ≡ Some (record { name = name; text = text; answers = answers }) → call_in new ≡ asks_as name asked →
+      ((more : List Fed) → resume_scan text k.scan (call.Tok x.token ∷ call_fed more) ≡ answers (call_fed more)) → IsAsFar text new → ReadingsStand e2 book.number (fed ∷ rs)
+  fed_to = fed_stand e e2 book.number name text k.scan r rs (Tok x) k_stands (ap (λ (y : Engine). y.readings) behind) (ap (λ (y : Engine). y.input.builds) behind) store
+
+  all_behind : (new : Calling) → e2.input.call ≡ new → Comes text x.token name k.scan new → ReadingsStand e2 book.number (fed ∷ rs)
+  all_behind calls.NotCalling now c = absurd c
+  all_behind (calls.Gathering n next) now c =
+      fed_to (calls.Gathering name next) (resume_scan text next) (scan_asks next) (now ∙ ap (λ (m : Name). calls.Gathering m next) c.0) refl refl
+      (λ more. c.1.same (call_fed more)) (read_after text k.scan x k_stands.far (scan_asks next) next c.1.stands (resume_scan text next []) (c.1.same []))
+  all_behind (calls.Stopped n why next) now c =
+      let ended : IsEnded why = ended_so why c.1.closed in
+      let is : a ≡ ended_answer why next = says_is (ended_asks why) next a c.1.stands.says in
+      fed_to (calls.Stopped name why next) (λ fed. ended_answer why next) (ended_asks why) (now ∙ ap (λ (m : Name). calls.Stopped m why next) c.0) refl refl
+      (ends (ended_answer why next) is (ended_closed why next ended)) (ended, read_after text k.scan x k_stands.far (ended_asks why) next c.1.stands (ended_answer why next) is)
+  all_behind (calls.Gathered n args) now c =
+      fed_to (calls.Gathered name args) (λ fed. call.Called args) ask.Gathered (now ∙ ap (λ (m : Name). calls.Gathered m args) c.0) refl refl (ends (call.Called args) c.1 tt) tt
 
   fed_stands : AllStand sizes e2 W'
-  fed_stands = record {
-    sound = sound;
-    idle = ap (λ (y : Engine). y.input.making) behind ∙ st.idle;
-    all = join e2 book.number (fed ∷ rs) (subst (λ (y : Engine). ReadingsBy (call_in y.input.call) y book.number (fed ∷ rs)) (sym behind)
-        (subst (λ (o : Option Call). ReadingsBy o now book.number (fed ∷ rs)) (sym (called_after name h.long text k.scan r.fed x k.has_work k.gathers e2.input.call came)) (call_stands, record { innermost = stood.1.innermost; frames = stood.1.frames; shallow = stood.1.shallow })));
-  }
+  fed_stands = record { sound = sound; idle = ap (λ (y : Engine). y.input.making) behind ∙ st.idle; all = all_behind e2.input.call refl came }
 
   -- the states before and behind
   start : state_at (state_of e W) (r ∷ rs) e.last (lists_of k.scan.args (scan_work k.scan) ++ e.input.builds) ≡ state_of e W
@@ -174,7 +181,7 @@ module _ (sizes : Sizes) (e e2 : Engine) (book : Book) (r : Reading) (rs : List 
 
   finish : state_at (state_of e W) (fed ∷ rs) x (lists_by a ++ e.input.builds) ≡ state_of e2 W'
   finish =
-      ap (λ (l : List (List Token)). record (state_of e W) { work = fed ∷ rs; last = x; gathered = l ++ e.input.builds }) (sym (lists_after name h.long text k.scan r.fed x k.has_work k.gathers e2.input.call came))
+      ap (λ (l : List (List Token)). record (state_of e W) { work = fed ∷ rs; last = x; gathered = l ++ e.input.builds }) (sym (lists_after text k.scan x name e2.input.call came))
       ∙ ap (λ (y : Engine). state_of y W') (sym behind)
 
   -- the machine's words
@@ -205,7 +212,7 @@ pub none_taken : (sizes : Sizes) (e : Engine) (book : Book) (r : Reading) (rs : 
     (b : Bool) → b ≡ false → MatchBool b (IsTaking e.input.call) (IsTaking e.input.call → ⊥) → ⊥
 none_taken sizes e book r rs name is st true not_so never = absurd cc
 none_taken sizes e book r rs name is st false not_so never =
-    let k = scanner e book.number name r (here_call sizes e book (open_call name) r rs is st).0 in
+    let k = scanner e book.number name r (here_call sizes e book (open_call name) r rs is st) in
     never (subst IsTaking (sym k.is) tt)
 
 -- the token is taken
