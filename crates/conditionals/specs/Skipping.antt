@@ -3,6 +3,8 @@ use Rattle.std.specs.Prelude.{ℕ, suc, ◌+◌, ◌-◌, ◌<◌, ◌==◌, ◌
 use Rattle.tex_defs.specs.declared.Meaning.{Meaning}
 use Rattle.tex_defs.specs.declared.Meaning.TheVariants as means
 use Rattle.tex_defs.specs.declared.Seen.{Seen}
+use Rattle.prim_table.specs.declared.Class.TheVariants as class
+use Rattle.prim_table.specs.Primitives.{first_number}
 use Rattle.plain_tokens.specs.Categories.{is_between}
 use Rattle.plain_tokens.specs.Meanings.{fi_primitive}
 use Rattle.plain_tokens.specs.Pending.{next_number}
@@ -11,12 +13,12 @@ use Rattle.conditionals.specs.declared.skip.Ender.TheVariants.{Fi, Else, Or}
 use Rattle.conditionals.specs.declared.skip.Part.{Part}
 use Rattle.conditionals.specs.declared.skip.Part.TheVariants.{Conditional, Ends, Plain}
 
--- THE PRIMITIVES, from `\if` to `\ifcase`, and behind them `\fi`, `\else` and `\or`
+-- THE PRIMITIVES, from `\if` to `\ifcase`, and behind them in their row `\fi`, `\else` and `\or`
 abbrev pub first_conditional : ℕ
-first_conditional = 65
+first_conditional = first_number class.Conditional
 
 abbrev pub last_conditional : ℕ
-last_conditional = 81
+last_conditional = fi_primitive - 1
 
 abbrev pub else_primitive : ℕ
 else_primitive = 83

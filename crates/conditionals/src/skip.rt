@@ -2,12 +2,8 @@
 ghost use Rattle.std.specs.Prelude.{◌≡◌};
 ghost use Rattle.conditionals.specs.Skipping as skipping;
 
+use prim_table::{Class, first_number};
 use tex_defs::{Meaning, Seen};
-
-/// The number of `\if`.
-const FIRST: u16 = 65;
-/// The number of `\ifcase`.
-const LAST: u16 = 81;
 
 /// The number of `\fi`.
 const FI: u16 = 82;
@@ -49,7 +45,7 @@ pub fn part_of(meaning: Meaning<()>) -> Part
 {
     match meaning {
         Meaning::Prim(number) => {
-            if FIRST <= number && number <= LAST {
+            if first_number(Class::Conditional) <= number && number < FI {
                 Part::Conditional
             } else if number == FI {
                 Part::Ends(Ender::Fi)

@@ -18,7 +18,8 @@ use Rattle.input_state.specs.Callings.{Calling, call_lists, call_in}
 use Rattle.input_state.specs.Macros.{list_at}
 use Rattle.engine_state.specs.declared.engine.Engine.{Engine}
 use Rattle.engine_state.specs.Book.{Book, with_work}
-use Rattle.engine_state.specs.Calls.{AllStand, brace_call}
+use Rattle.engine_state.specs.Calls.{AllStand}
+use Rattle.engine_state.proofs.CallsIn.{brace_call}
 use Rattle.engine_state.specs.Stands.{SameStore, state_of}
 use Rattle.engine_state.specs.Rules.{Went}
 use Rattle.engine_state.proofs.CallEnding.{here as here_call}

@@ -1,6 +1,6 @@
 -- A call that is fed with a token goes on behind it.
-use Rattle.std.proofs.Common.{Result, Ok, Err, ◌≡◌, ℕ, ◌+◌, ◌≤◌, List, [], ◌∷◌, ◌++◌, length, drop, refl, sym, ap, append_assoc, subst, ◌∙◌, Bool, true, false, arith}
-use Rattle.std.specs.Prelude.{Option, Some, MatchBool, OnOk, unwrap_or}
+use Rattle.std.proofs.Common.{Result, Ok, Err, ◌≡◌, ℕ, ◌+◌, ◌≤◌, List, [], ◌∷◌, ◌++◌, length, drop, refl, sym, ap, append_assoc, subst, ◌∙◌, arith}
+use Rattle.std.specs.Prelude.{Option, Some, OnOk, unwrap_or}
 use Rattle.tex_defs.specs.declared.Full.{Full}
 use Rattle.tex_defs.specs.declared.Name.{Name}
 use Rattle.tex_defs.specs.declared.Seen.{Seen}
@@ -23,7 +23,7 @@ use Rattle.macro_call.specs.Growths.{target_by}
 use Rattle.macro_call.specs.declared.ask.CallAsk.{CallAsk}
 use Rattle.macro_call.specs.declared.ask.CallAsk.TheVariants as ask
 use Rattle.macro_call.specs.PlainScans.{resume_scan, scan_work}
-use Rattle.input_state.specs.CallFeeds.{IsTaking, Comes, Feeds, scan_growth, growth}
+use Rattle.input_state.specs.CallFeeds.{Comes, Feeds, scan_growth, growth}
 use Rattle.input_state.specs.Callings as calls
 use Rattle.input_state.specs.Callings.{Calling, asks_as, call_lists, call_in, ended_asks, scan_asks}
 use Rattle.input_state.specs.Calls.{macro_text, text_of}
@@ -31,7 +31,8 @@ use Rattle.input_state.specs.Macros.{list_at}
 use Rattle.input_state.specs.Stored.{KeepsShared, words as stored_words}
 use Rattle.engine_state.specs.declared.engine.Engine.{Engine}
 use Rattle.engine_state.specs.Book.{Book, with_work}
-use Rattle.engine_state.specs.Calls.{AllStand, IsAsFar, IsEnded, IsMacroOf, ReadingsStand, ended_answer, open_call, open_call_of}
+use Rattle.engine_state.specs.Calls.{AllStand, IsAsFar, IsEnded, IsMacroOf, ReadingsStand, ended_answer, open_call_of}
+use Rattle.engine_state.proofs.CallsIn.{open_call}
 use Rattle.engine_state.proofs.CallsFed.{ScanStands, fed_stand, scan_stands}
 use Rattle.engine_state.proofs.CallsKnown.{CallStands, Gathers, Taking, lists_of, lists_by}
 use Rattle.engine_state.specs.Stands.{IsSound, SameStore, state_of}
@@ -206,14 +207,6 @@ module _ (sizes : Sizes) (e e2 : Engine) (book : Book) (r : Reading) (rs : List 
             (turn_leads sizes (state_of e W) w r rs e.last x k.scan.args (scan_work k.scan) a e.input.builds (scan_turn h.long text k.scan r.fed x k.has_work k.gathers) (omega (arith, fits, own, grows, words_before)) (omega (arith, within, own2, words_behind)))));
         count = no_steps (feeding r x) (kind_none r.kind r.fed x);
       }
-
--- the call takes tokens
-pub none_taken : (sizes : Sizes) (e : Engine) (book : Book) (r : Reading) (rs : List Reading) (name : Name) → call_in e.input.call ≡ Some (open_call name) → AllStand sizes e (with_work (r ∷ rs) book) →
-    (b : Bool) → b ≡ false → MatchBool b (IsTaking e.input.call) (IsTaking e.input.call → ⊥) → ⊥
-none_taken sizes e book r rs name is st true not_so never = absurd cc
-none_taken sizes e book r rs name is st false not_so never =
-    let k = scanner e book.number name r (here_call sizes e book (open_call name) r rs is st) in
-    never (subst IsTaking (sym k.is) tt)
 
 -- the token is taken
 pub went_if : (o : Result Unit Full) (e e2 : Engine) (x : Seen) →

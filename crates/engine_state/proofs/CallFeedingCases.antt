@@ -3,7 +3,8 @@ use Rattle.std.proofs.Common.{◌≡◌, List, [], ◌∷◌, ◌++◌, drop, re
 use Rattle.std.proofs.lemmas.List.{append-nil}
 use Rattle.std.specs.Prelude.{Option, Some, None, option_map, if◌then◌else◌}
 use Rattle.tex_defs.specs.declared.Token.{Token}
-use Rattle.plain_tokens.specs.Arguments.{ParMode, same, Case, Argument, ExtraBrace, ParEnded, Skipped, Going, Tok, Answer, More, Called, Mismatch, arguments_in, work_in, start_of, places_of, in_work, case_at, partial, unmatched, open_after, behind, call}
+use Rattle.plain_tokens.specs.declared.par_mode.ParMode.{ParMode}
+use Rattle.plain_tokens.specs.Arguments.{same, Case, Argument, ExtraBrace, ParEnded, Skipped, Going, Tok, Answer, More, Called, Mismatch, arguments_in, work_in, start_of, places_of, in_work, case_at, partial, unmatched, open_after, behind, call}
 use Rattle.macro_call.specs.PlainScans.{Scan, resume_scan, resume_at, scan_work, places_behind}
 use Rattle.macro_call.specs.Stages.{Stage, kept_in, read_in}
 use Rattle.macro_call.proofs.ArgumentMatches.{joined, unmatched_on}

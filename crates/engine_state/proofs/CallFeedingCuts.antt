@@ -41,7 +41,8 @@ use Rattle.input_state.specs.Stored.{KeepsShared, words as stored_words}
 use Rattle.engine_state.specs.declared.broken.Broken.TheVariants as broken
 use Rattle.engine_state.specs.declared.engine.Engine.{Engine}
 use Rattle.engine_state.specs.Book.{Book, with_work}
-use Rattle.engine_state.specs.Calls.{AllStand, HasRead, open_call}
+use Rattle.engine_state.specs.Calls.{AllStand, HasRead}
+use Rattle.engine_state.proofs.CallsIn.{open_call}
 use Rattle.engine_state.proofs.CallsKnown.{CallStands, Gathers, Taking, lists_of}
 use Rattle.engine_state.proofs.CallsFed.{ScanStands, frames_fed}
 use Rattle.engine_state.specs.CutReadings.{Within, Behind, CutOff, CutScan, FramesAtCut, CutsIn}

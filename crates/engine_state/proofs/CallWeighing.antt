@@ -19,7 +19,8 @@ use Rattle.engine_state.specs.declared.outcome.Ruled.{Ruled}
 use Rattle.engine_state.specs.declared.outcome.Ruled.TheVariants.{Step, Free, Halted}
 use Rattle.engine_state.specs.Calls.{asks_by, asks_of}
 use Rattle.engine_state.specs.Stands.{SameFrames}
-use Rattle.engine_state.specs.Steps.{stepping, asked, asks_more, asks_now, pending_weight, readings_weight, weight, IsStep, StepsIf, asked_by, wants_token}
+use Rattle.plain_machine.specs.Weights.{pending_weight}
+use Rattle.engine_state.specs.Steps.{stepping, asked, asks_more, asks_now, readings_weight, weight, IsStep, StepsIf, asked_by, wants_token}
 use Rattle.reading_frames.specs.declared.frame.Frame.{Frame}
 
 -- at an error

@@ -4,7 +4,8 @@ use Rattle.std.specs.Prelude.{Option, Some, None, option_map}
 use Rattle.tex_defs.specs.declared.Name.{Name}
 use Rattle.tex_defs.specs.declared.Token.{Token}
 use Rattle.plain_tokens.specs.Arguments as plain
-use Rattle.plain_tokens.specs.Arguments.{Answer, ParMode, arguments_in, work_in, start_of, places_of, in_work}
+use Rattle.plain_tokens.specs.declared.par_mode.ParMode.{ParMode}
+use Rattle.plain_tokens.specs.Arguments.{Answer, arguments_in, work_in, start_of, places_of, in_work}
 use Rattle.rows.specs.Readings.{Fed}
 use Rattle.plain_readings.specs.Calls.{call_ask, call_fed, call_lists, gathered}
 use Rattle.plain_readings.specs.Readings.{Kind, Reading, Arguments, fed_with}

@@ -4,18 +4,27 @@ use Rattle.std.specs.Prelude.{Option, Some}
 use Rattle.std.proofs.lemmas.Option.{same_Some}
 use Rattle.tex_defs.specs.declared.Name.{Name}
 use Rattle.tex_defs.specs.declared.Token.{Token}
-use Rattle.plain_tokens.specs.Arguments.{ParMode, begins_with_place}
+use Rattle.plain_tokens.specs.declared.par_mode.ParMode.{ParMode}
+use Rattle.plain_tokens.specs.Arguments.{begins_with_place}
 use Rattle.rows.specs.Readings as reading
 use Rattle.reading_frames.specs.Weights.{IsReported}
 use Rattle.macro_call.specs.declared.ask.CallAsk.TheVariants as ask
 use Rattle.input_state.specs.declared.answer.Call.{Call}
 use Rattle.input_state.specs.declared.answer.CallEnd.{CallEnd}
 use Rattle.input_state.specs.declared.answer.CallEnd.TheVariants as end
-use Rattle.input_state.specs.CallFeeds.{IsTaking, with_scan}
+use Rattle.input_state.specs.CallFeeds.{IsTaking}
 use Rattle.input_state.specs.Callings.{Calling, NotCalling, Gathering, Stopped, Gathered, IsComplete, asks_where, asks_as, scan_asks, ended_asks, call_in}
-use Rattle.macro_call.specs.PlainScans.{first_by, first_scan, noted_scan}
-use Rattle.engine_state.specs.Calls.{asks_by, brace_call, open_call}
+use Rattle.macro_call.specs.PlainScans.{first_by, first_scan}
+use Rattle.engine_state.specs.Calls.{asks_by}
 use Rattle.engine_state.specs.Steps.{asked_by}
+
+-- the call that asks for a token
+abbrev pub open_call : Name → Call
+open_call name = record { name = name; ask = ask.More }
+
+-- the call in which an extra right brace came
+abbrev pub brace_call : Name → Call
+brace_call name = record { name = name; ask = ask.ExtraBrace }
 
 -- one that begins asks for a token
 first_settled : (b : Bool) (mode : ParMode) → (first_by b mode).braced ≡ false
@@ -39,24 +48,6 @@ complete_at (Stopped n why scan) name is = ended_so why (ap (λ (c : Call). c.as
   ended_so (end.ParEnded silent) is = cc
   ended_so end.Full is = cc
 complete_at (Gathered n args) name is = tt
-
--- it takes tokens
-braced_at : (k : Calling) (name : Name) → call_in k ≡ Some (brace_call name) → IsTaking k
-braced_at NotCalling name is = absurd cc
-braced_at (Gathering n scan) name is = tt
-braced_at (Stopped n why scan) name is = ended_so why (ap (λ (c : Call). c.ask) (same_Some (record { name = n; ask = ended_asks why }) (brace_call name) is)) where
-  ended_so : (why : CallEnd) → ended_asks why ≡ ask.ExtraBrace → ⊥
-  ended_so end.Mismatch is = cc
-  ended_so (end.ParEnded silent) is = cc
-  ended_so end.Full is = cc
-braced_at (Gathered n args) name is = let no : ask.Gathered ≡ ask.ExtraBrace = ap (λ (c : Call). c.ask) (same_Some (record { name = n; ask = ask.Gathered }) (brace_call name) is) in cc
-
--- and asks for one once the brace is settled
-pub noted_asks : (name : Name) (k : Calling) → call_in k ≡ Some (brace_call name) → call_in (with_scan noted_scan k) ≡ Some (open_call name)
-noted_asks name NotCalling is = absurd cc
-noted_asks name (Gathering n scan) is = ap (λ (c : Call). Some (open_call c.name)) (same_Some (record { name = n; ask = scan_asks scan }) (brace_call name) is)
-noted_asks name (Stopped n why scan) is = absurd (braced_at (Stopped n why scan) name is)
-noted_asks name (Gathered n args) is = absurd (let no : ask.Gathered ≡ ask.ExtraBrace = ap (λ (c : Call). c.ask) (same_Some (record { name = n; ask = ask.Gathered }) (brace_call name) is) in cc)
 
 -- WHERE A REPORT IS ASKED FOR
 

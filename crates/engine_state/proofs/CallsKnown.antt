@@ -31,7 +31,8 @@ use Rattle.input_state.specs.declared.answer.Call.{Call}
 use Rattle.input_state.specs.declared.answer.CallEnd.{CallEnd}
 use Rattle.input_state.specs.declared.answer.CallEnd.TheVariants as end
 use Rattle.engine_state.specs.declared.engine.Engine.{Engine}
-use Rattle.engine_state.specs.Calls.{asks_by, asks_of, open_call, work_or_none, ReadingsStand, MacroStands, IsMacroOf, IsAsFar, IsEnded, HasRead, HasWork, ended_answer, open_call_of}
+use Rattle.engine_state.specs.Calls.{asks_by, asks_of, work_or_none, ReadingsStand, MacroStands, IsMacroOf, IsAsFar, IsEnded, HasRead, HasWork, ended_answer, open_call_of}
+use Rattle.engine_state.proofs.CallsIn.{open_call}
 use Rattle.engine_state.specs.Stands.{OpenFrames, FramesStand}
 
 -- THE LISTS

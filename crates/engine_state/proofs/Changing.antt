@@ -13,7 +13,6 @@ use Rattle.engine_state.specs.declared.engine.Engine.{Engine}
 use Rattle.engine_state.specs.Book.{Book}
 use Rattle.engine_state.specs.Making.{IsInFront, changed_list}
 use Rattle.engine_state.specs.Stands.{page_of}
-use Rattle.engine_state.proofs.Reporting.{unlisted_is}
 
 codes_same : (upper : Bool) (number : ℕ → ℕ) (m : Tables) → case_codes upper (tables_of number m) ≡ case_codes upper m
 codes_same true number m = refl
@@ -33,10 +32,6 @@ kept_first false l is = cc
 
 pub changed_first : (upper listed : Bool) (i : Stored) → listed ≡ true → map (case_changed (case_codes upper i.groups.now)) (first_list i.builds) ≡ changed_list upper listed i
 changed_first upper listed i is = ap (map (case_changed (case_codes upper i.groups.now))) (kept_first listed i.builds is)
-
--- there is none
-pub changed_none : (upper listed : Bool) (i : Stored) → (listed ≡ true → i.builds ≡ []) → changed_list upper listed i ≡ []
-changed_none upper listed i none = ap (map (case_changed (case_codes upper i.groups.now))) (sym (unlisted_is listed i.builds none))
 
 -- WHETHER A TOKEN IS THERE
 

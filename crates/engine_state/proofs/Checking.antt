@@ -25,7 +25,8 @@ use Rattle.input_state.specs.declared.answer.Call.{Call}
 use Rattle.macro_call.specs.declared.ask.CallAsk.{CallAsk}
 use Rattle.engine_state.specs.declared.engine.Engine.{Engine}
 use Rattle.engine_state.specs.Book.{Book}
-use Rattle.engine_state.specs.Calls.{open_call, asks_by, asks_of}
+use Rattle.engine_state.specs.Calls.{asks_by, asks_of}
+use Rattle.engine_state.proofs.CallsIn.{open_call}
 use Rattle.engine_state.proofs.CallsKnown.{ReadingsBy, split, taking_scanned}
 use Rattle.engine_state.specs.Stands.{Stands}
 use Rattle.engine_state.specs.Rules.{IsScanned, IsFound, IsListed, Finds, Takes, WantsHere, scanned_as, scanning_of}
@@ -167,10 +168,6 @@ module _ (e : Engine) where
 
     pub frame_scan : (x : Found) → Some x ≡ found_in e.readings.frames → (want : Option Want) → Takes sizes want e book → Finds x e book × IsSome want
     frame_scan x is want t = (scanned_here want t ∙ ap (scanning_found e.input.builds) (sym is) ∙ scan_as x (built_here x is), wanted_some x is want t)
-
-    -- nothing is found
-    pub frames_skip : None ≡ found_in e.readings.frames → (want : Option Want) → Takes sizes want e book → scanning_of e book.work ≡ None
-    frames_skip is want t = scanned_here want t ∙ ap (scanning_found e.input.builds) (sym is)
 
     -- its list is always there
     pub list_there : (x : Found) → Some x ≡ found_in e.readings.frames → (want : Option Want) → Takes sizes want e book → IsListed x e

@@ -90,11 +90,6 @@ frame_list scanned.Use k e other = absurd (other refl)
 frame_list scanned.Text k e other = refl
 frame_list scanned.Definition k e other = refl
 
-pub frame_held : (what : Scanned) (k : ℕ) (e : Engine) → (what ≡ scanned.Use → ⊥) → IsScanned what k e → k < length e.input.builds
-frame_held scanned.Use k e other h = absurd (other refl)
-frame_held scanned.Text k e other h = h
-frame_held scanned.Definition k e other h = h
-
 -- it has put a token in front
 pub put_stands : (sizes : Sizes) (e e1 : Engine) (book : Book) → SameFrames e e1 → SameOthers e e1 → SameStore e.input e1.input → e1.input.making ≡ None → AllStand sizes e book → AllStand sizes e1 book
 put_stands sizes e e1 book same others store idle st = all_still sizes e e1 book same store (others_sound sizes e e1 book others store st.sound) idle st

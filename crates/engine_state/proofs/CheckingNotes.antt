@@ -5,7 +5,8 @@ use Rattle.tex_defs.specs.declared.Name.{Name}
 use Rattle.tex_defs.specs.declared.Seen.{Seen}
 use Rattle.tex_defs.specs.declared.Sizes.{Sizes}
 use Rattle.tex_defs.specs.declared.Token.{Token}
-use Rattle.plain_tokens.specs.Arguments.{Answer, Checked, arguments_in, work_in, is_par}
+use Rattle.plain_tokens.specs.declared.par_mode.ParMode.TheVariants.{Checked}
+use Rattle.plain_tokens.specs.Arguments.{Answer, arguments_in, work_in, is_par}
 use Rattle.rows.specs.Readings as reading
 use Rattle.rows.specs.Readings.{Fed, Tok, Cut}
 use Rattle.plain_readings.specs.Calls.{gathered, call_fed}
@@ -24,7 +25,8 @@ use Rattle.input_state.specs.Callings.{Calling, call_lists, asks_where, asks_as,
 use Rattle.input_state.specs.Macros.{list_at}
 use Rattle.engine_state.specs.declared.engine.Engine.{Engine}
 use Rattle.engine_state.specs.Book.{Book, with_work}
-use Rattle.engine_state.specs.Calls.{asks_by, AllStand, AsksToken, ReadingsStand, open_call}
+use Rattle.engine_state.specs.Calls.{asks_by, AllStand, AsksToken, ReadingsStand}
+use Rattle.engine_state.proofs.CallsIn.{open_call}
 use Rattle.engine_state.specs.Steps.{asked_by}
 use Rattle.engine_state.proofs.CallFeedingAnswers.{in_front}
 use Rattle.engine_state.proofs.CallsFed.{scan_stands, settled_stand}

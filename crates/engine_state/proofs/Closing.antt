@@ -16,7 +16,7 @@ use Rattle.engine_state.specs.declared.engine.Engine.{Engine}
 use Rattle.engine_state.specs.Book.{Book}
 use Rattle.engine_state.specs.Rules.{Cuts}
 use Rattle.engine_state.specs.Stands.{IsSound, Counts, SameFrames, SameOthers, SameStore, state_of}
-use Rattle.engine_state.specs.Steps.{pending_weight}
+use Rattle.plain_machine.specs.Weights.{pending_weight}
 use Rattle.engine_state.proofs.Cutting.{cuts_by, later_cuts}
 use Rattle.engine_state.proofs.Grouping.{grouped_frames, grouped_sound}
 use Rattle.engine_state.proofs.Putting.{counts_still}

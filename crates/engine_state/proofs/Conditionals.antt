@@ -1,5 +1,5 @@
 -- The open conditionals, and the lines of `\end`.
-use Rattle.std.proofs.Common.{◌≡◌, ◌<◌, ◌≤◌, ◌+◌, ℕ, zero, suc, true, false, List, [], ◌∷◌, ◌++◌, length, take, drop, arith, refl, sym, ap, ◌∙◌, subst, append_assoc}
+use Rattle.std.proofs.Common.{◌≡◌, ◌<◌, ◌≤◌, ◌+◌, ℕ, true, false, List, [], ◌∷◌, ◌++◌, length, take, drop, arith, refl, sym, ap, ◌∙◌, subst, append_assoc}
 use Rattle.std.specs.Prelude.{Bool, Option, Some, None, Result, Ok, Err, OnOk, IfErr, nat_le, slice_get}
 use Rattle.std.proofs.lemmas.Bool.Decides.{nat_tests}
 use Rattle.std.proofs.lemmas.List.{take_all, take_more, take-append-drop}
@@ -125,13 +125,6 @@ parts style cs n c more is =
     ∙ ap (λ (ms : List Move). ms ++ more) (left_join style (take n cs) (c ∷ drop (n + 1) cs))
     ∙ append_assoc (conditionals_left style (take n cs)) (conditionals_left style (c ∷ drop (n + 1) cs)) more
 
--- none stands there, so all are in front of it
-all_front : (cs : List Conditional) (n : ℕ) → slice_get cs n ≡ None → take n cs ≡ cs
-all_front [] zero none = refl
-all_front [] (suc n) none = refl
-all_front (c ∷ cs) zero none = absurd cc
-all_front (c ∷ cs) (suc n) none = ap (λ (ds : List Conditional). c ∷ ds) (all_front cs n none)
-
 -- the lines of the first n are written
 pub record Left (e e1 : Engine) (s s1 : SinkTold) (n : ℕ) : Type 0 where
   pub only : OnlyColumn e e1
@@ -167,11 +160,6 @@ module _ (e e1 : Engine) (s s1 : SinkTold) (n : ℕ) (h : Left e e1 s s1 n) wher
         (subst (λ (x : Style). Cuts sizes (state_of e1 book) e2 book (world_of f s1 e1) (world_of f s2 e2) (conditionals_left x (c ∷ []) ++ rest) b) style (cut sizes f book rest)))
 
   -- all lines are written
-  pub all_left : slice_get e1.conditionals.items n ≡ None → (sizes : Sizes) (f : FilesTold) (book : Book) →
-      Did sizes (state_of e book) (state_of e1 book) (world_of f s e) (world_of f s1 e1) (conditionals_left (own_style e) e.conditionals.items)
-  all_left none sizes f book =
-      subst (λ (cs : List Conditional). Did sizes (state_of e book) (state_of e1 book) (world_of f s e) (world_of f s1 e1) (conditionals_left (own_style e) cs)) (all_front e.conditionals.items n (there None none)) (h.did sizes f book)
-
   pub past_left : length e.conditionals.items ≤ n → (sizes : Sizes) (f : FilesTold) (book : Book) →
       Did sizes (state_of e book) (state_of e1 book) (world_of f s e) (world_of f s1 e1) (conditionals_left (own_style e) e.conditionals.items)
   past_left past sizes f book =

@@ -4,14 +4,13 @@ use Rattle.std.specs.Prelude.{Option, None, true, nat_le}
 use Rattle.std.proofs.lemmas.Bool.Decides.{nat_tests}
 use Rattle.tex_defs.specs.declared.Sizes.{Sizes}
 use Rattle.tex_defs.specs.declared.Full.{Full}
-use Rattle.rows.specs.Readings.{Tok}
 use Rattle.plain_readings.specs.Readings.{Kind, Reading, lists}
 use Rattle.plain_tokens.specs.Tables.{memory, lists_words, refused}
 use Rattle.reading_frames.specs.declared.frame.Frame.{Frame}
 use Rattle.reading_frames.specs.Views.{Lists}
 use Rattle.reading_frames.specs.Frames as frames
 use Rattle.reading_frames.specs.Frames.{OpenCall}
-use Rattle.plain_machine.specs.States.{Begun, BegunWith}
+use Rattle.plain_machine.specs.States.{Begun}
 use Rattle.plain_machine.specs.Demands.{refusal}
 use Rattle.input_state.specs.Stored.{words as stored_words}
 use Rattle.engine_state.specs.declared.engine.Engine.{Engine}
@@ -41,6 +40,3 @@ module _ (sizes : Sizes) (e : Engine) (book : Book) (k : Kind) (o : Option Full)
 
   pub begun_refusal : refused e.input.sizes (memory (lists_words (lists k [])) (stored_words e.input) ∷ []) ≡ o → refusal sizes (Begun k) (state_of e book) ≡ o
   begun_refusal h = rw within (words_more sizes e book (lists_words (lists k [])) o counts.sound h)
-
-  pub begun_with_refusal : refused e.input.sizes (memory (lists_words (lists k (Tok e.last ∷ []))) (stored_words e.input) ∷ []) ≡ o → refusal sizes (BegunWith k) (state_of e book) ≡ o
-  begun_with_refusal h = rw within (words_more sizes e book (lists_words (lists k (Tok e.last ∷ []))) o counts.sound h)

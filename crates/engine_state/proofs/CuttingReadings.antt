@@ -76,7 +76,3 @@ later_in sizes s s1 e' w w1 w' ms ns b d h = record { book' = h.book'; cuts = la
 -- the world that is told when the column stays
 pub column_in : (sizes : Sizes) (st : State) (e' : Engine) (f : FilesTold) (s : SinkTold) (c : Bool) (ms : List Move) (b : Broken) → e'.in_line ≡ c → CutsIn sizes st e' (world f s c) (world f s c) ms b → CutsIn sizes st e' (world f s c) (world_of f s e') ms b
 column_in sizes st e' f s c ms b is h = subst (λ (x : Bool). CutsIn sizes st e' (world f s c) (world f s x) ms b) (sym is) h
-
--- the same state
-pub in_from : (sizes : Sizes) (s t : State) (e' : Engine) (w w' : World) (ms : List Move) (b : Broken) → t ≡ s → CutsIn sizes s e' w w' ms b → CutsIn sizes t e' w w' ms b
-in_from sizes s t e' w w' ms b is h = subst (λ (x : State). CutsIn sizes x e' w w' ms b) (sym is) h

@@ -23,11 +23,11 @@ use Rattle.engine_state.specs.declared.broken.Broken.TheVariants as broken
 use Rattle.engine_state.specs.declared.engine.Engine.{Engine}
 use Rattle.engine_state.specs.Book.{Book}
 use Rattle.engine_state.specs.Calls.{AllStand}
-use Rattle.engine_state.specs.Stands.{SameFrames, SameStore, state_of}
+use Rattle.engine_state.specs.Stands.{SameStore, state_of}
 use Rattle.engine_state.specs.Rules.{Cuts}
 use Rattle.engine_state.proofs.Cutting.{later_cuts, full_cuts}
 use Rattle.engine_state.proofs.Joining.{quiet_here}
-use Rattle.engine_state.proofs.Pulling.{at_settled, at_behind, did_settled, frames_now, stands_now}
+use Rattle.engine_state.proofs.Pulling.{at_settled, at_behind, did_settled, stands_now}
 use Rattle.engine_state.proofs.Storing.{store_with, store_join, store_settled}
 
 -- THE INPUT
@@ -48,9 +48,6 @@ module _ (e : Engine) (i : Stored) (first : i ≡ record e.input { pending = end
 module _ (e : Engine) (i j : Stored) (first : i ≡ record e.input { pending = end_token_lists e.input.pending; lists = i.lists }) (second : j ≡ record i { pending = j.pending; buffer = j.buffer; lists = j.lists }) where
   pub begun_others : j ≡ record e.input { pending = j.pending; buffer = j.buffer; lists = j.lists }
   begun_others = second ∙ ap (λ (x : Stored). record x { pending = j.pending; buffer = j.buffer; lists = j.lists }) first
-
-  pub begun_frames : SameFrames e (record e { input = j })
-  begun_frames = frames_now e j begun_others
 
   begun_store : ((n : ℕ) → is_put n (all_puts j.pending) ≡ true → is_put n (all_puts i.pending) ≡ true) → KeepsShared e.input i → KeepsShared i j → SameStore e.input j
   begun_store fewer kept keeps = store_join e.input i j (store_settled e.input i first kept) (store_with i j j.pending i.making i.builds j.buffer second fewer keeps)

@@ -101,9 +101,6 @@ unchanged_cuts sizes e i book w m more full same refuses =
 
 module _ (e : Engine) (kind : GroupKind) (i : Stored) where
   module _ (is : i ≡ record e.input { groups = opened e.input.groups kind }) where
-    pub opened_frames : SameFrames e (record e { input = i })
-    opened_frames = grouped_frames e (opened e.input.groups kind) e.input.closing e.input.ending e.input.lists i is
-
     pub opened_did : (sizes : Sizes) (w : World) (book : Book) → IsSound sizes e book.number book.all_lists → refused e.input.sizes (group_demands e.input.groups) ≡ None →
         Did sizes (state_of e book) (state_of (record e { input = i }) book) w w (GroupOpened kind ∷ [])
     opened_did sizes w book sound fits =
@@ -130,14 +127,6 @@ kept_by (k ∷ ks) t inside = by_kind (kind_last (k ∷ ks)) (has_kind k ks) whe
   by_kind : (o : Option GroupKind) → (o ≡ None → ⊥) → kept_for_group o t ≡ KeptForGroup t ∷ []
   by_kind None some = absurd (some refl)
   by_kind (Some l) some = refl
-
-dropped_by : (ks : List GroupKind) (t : Token) → (0 < length ks → ⊥) → kept_for_group (kind_last ks) t ≡ []
-dropped_by [] t shut = refl
-dropped_by (k ∷ ks) t shut = absurd (shut (omega arith))
-
-pub opens_by : (ks : List GroupKind) → (kind_last ks ≡ None → ⊥) → 0 < length ks
-opens_by [] some = absurd (some refl)
-opens_by (k ∷ ks) some = omega arith
 
 module _ (e : Engine) (t : Token) where
   abbrev keeps : List Move

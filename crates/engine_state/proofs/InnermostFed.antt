@@ -22,7 +22,8 @@ use Rattle.input_state.specs.declared.answer.CallEnd.TheVariants as end
 use Rattle.engine_state.specs.declared.broken.Broken.TheVariants as broken
 use Rattle.engine_state.specs.declared.engine.Engine.{Engine}
 use Rattle.engine_state.specs.Book.{Book, with_work}
-use Rattle.engine_state.specs.Calls.{AllStand, IsAsFar, IsEnded, open_call}
+use Rattle.engine_state.specs.Calls.{AllStand, IsAsFar, IsEnded}
+use Rattle.engine_state.proofs.CallsIn.{open_call}
 use Rattle.engine_state.specs.Clauses.{CutsAtReading, DoesInnermost, FeedsReading, StandsFor}
 use Rattle.engine_state.specs.CutReadings.{CutsIn}
 use Rattle.engine_state.specs.Rules.{Went}

@@ -17,8 +17,7 @@ use Rattle.engine_state.specs.declared.outcome.Ruled.TheVariants.{Step, Free, Ha
 use Rattle.engine_state.specs.Book.{Book}
 use Rattle.engine_state.specs.Calls.{AllStand}
 use Rattle.engine_state.specs.Stands.{state_of}
-use Rattle.engine_state.specs.Steps.{IsFree, freed}
-use Rattle.engine_state.specs.Rules.{world_of, Went, Halts, DoesRule, DoesOnward}
+use Rattle.engine_state.specs.Rules.{world_of, Went, Halts, DoesOnward}
 
 -- a move that writes nothing
 abbrev pub IsQuiet : Move → Type 0
@@ -73,10 +72,6 @@ pub ok_both : {T E : Type 0} {P Q R : T → Type 0} → (r : Result T E) → ((x
 ok_both (Ok x) f h k = f x h k
 ok_both (Err e) f h k = tt
 
-pub ok_three : {T E : Type 0} {P Q R S : T → Type 0} → (r : Result T E) → ((x : T) → P x → Q x → R x → S x) → IfOk r P → IfOk r Q → IfOk r R → IfOk r S
-ok_three (Ok x) f h k l = f x h k l
-ok_three (Err e) f h k l = tt
-
 pub err_to : {T E : Type 0} {P Q : E → Type 0} → (r : Result T E) → ((x : E) → P x → Q x) → IfErr r P → IfErr r Q
 err_to (Ok x) f h = tt
 err_to (Err e) f h = f e h
@@ -125,35 +120,8 @@ went_on sizes s u e' w v w' ms ns k j d n h = record {
 pub halts_least : (sizes : Sizes) (s : State) (e' : Engine) (book : Book) (w w' : World) (ms : List Move) (o : Outcome) (k j : ℕ) → k ≤ j → Halts sizes s e' book w w' ms o k → Halts sizes s e' book w w' ms o j
 halts_least sizes s e' book w w' ms o k j le h = record { t = h.t; did = h.did; stopped = h.stopped; due = h.due; reports = h.reports; same = h.same; count = omega (arith, le, h.count) }
 
-pub same_went : (sizes : Sizes) (s : State) (e' : Engine) (w w' : World) (ms : List Move) (k j : ℕ) → k ≡ j → Went sizes s e' w w' ms k → Went sizes s e' w w' ms j
-same_went sizes s e' w w' ms k j is h = subst (λ (x : ℕ). Went sizes s e' w w' ms x) is h
-
 -- moves without a step, and then others
 pub onward_join : (sizes : Sizes) (s u : State) (e' : Engine) (book : Book) (w v w' : World) (ms ns : List Move) (ruled : Ruled) → u.reports ≡ s.reports → Did sizes s u w v ms → steps ms ≡ 0 → DoesOnward sizes u e' book v w' ns ruled → DoesOnward sizes s e' book w w' (ms ++ ns) ruled
 onward_join sizes s u e' book w v w' ms ns Step l d n h = went_on sizes s u e' w v w' ms ns 0 0 d n h
 onward_join sizes s u e' book w v w' ms ns Free l d n h = h
 onward_join sizes s u e' book w v w' ms ns (Halted o) l d n h = halts_on sizes s u e' book w v w' ms ns o 0 0 l d n h
-
--- behind which there is room for a report
-pub onward_counted : (sizes : Sizes) (s u : State) (e' : Engine) (book : Book) (w v w' : World) (ms ns : List Move) (ruled : Ruled) → u.reports ≤ reports_room → Did sizes s u w v ms → steps ms ≡ 0 → DoesOnward sizes u e' book v w' ns ruled → DoesOnward sizes s e' book w w' (ms ++ ns) ruled
-onward_counted sizes s u e' book w v w' ms ns Step few d n h = went_on sizes s u e' w v w' ms ns 0 0 d n h
-onward_counted sizes s u e' book w v w' ms ns Free few d n h = h
-onward_counted sizes s u e' book w v w' ms ns (Halted o) few d n h = halts_few sizes s u e' book w v w' ms ns o 0 0 (λ room. few) d n h
-
--- a step, and then moves without one
-pub step_join : (sizes : Sizes) (s u : State) (e' : Engine) (book : Book) (w v w' : World) (ms ns : List Move) (ruled : Ruled) → u.reports ≡ s.reports → Did sizes s u w v ms → steps ms ≡ 1 → DoesOnward sizes u e' book v w' ns ruled → DoesRule sizes s e' book w w' (ms ++ ns) ruled
-step_join sizes s u e' book w v w' ms ns Step l d n h = went_on sizes s u e' w v w' ms ns 1 0 d n h
-step_join sizes s u e' book w v w' ms ns Free l d n h = absurd h
-step_join sizes s u e' book w v w' ms ns (Halted o) l d n h = halts_on sizes s u e' book w v w' ms ns o 1 0 l d n h
-
--- moves without a step alone
-pub free_rule : (sizes : Sizes) (s : State) (e' : Engine) (book : Book) (w w' : World) (ms : List Move) (ruled : Ruled) → DoesOnward sizes s e' book w w' ms ruled → DoesRule sizes s e' book w w' ms (freed ruled)
-free_rule sizes s e' book w w' ms Step h = h
-free_rule sizes s e' book w w' ms Free h = absurd h
-free_rule sizes s e' book w w' ms (Halted o) h = halts_least sizes s e' book w w' ms o 0 1 (omega arith) h
-
--- moves without a step that end the run
-pub none_rule : (sizes : Sizes) (s : State) (e' : Engine) (book : Book) (w w' : World) (ms : List Move) (ruled : Ruled) → (IsFree ruled → ⊥) → (ruled ≡ Step → ⊥) → DoesOnward sizes s e' book w w' ms ruled → DoesRule sizes s e' book w w' ms ruled
-none_rule sizes s e' book w w' ms Step f g h = absurd (g refl)
-none_rule sizes s e' book w w' ms Free f g h = absurd h
-none_rule sizes s e' book w w' ms (Halted o) f g h = halts_least sizes s e' book w w' ms o 0 1 (omega arith) h

@@ -44,11 +44,6 @@ use Rattle.engine_state.proofs.TokensTaken.{listed, listed_sound, grow_did}
 
 -- THE LISTS
 
--- one token more, at the front and at the end
-appended_one : (t : Token) (l : List (List Token)) → appended (t ∷ []) l ≡ grow_first t l
-appended_one t [] = refl
-appended_one t (us ∷ l) = refl
-
 appended_next : (t : Token) (ts : List Token) (l : List (List Token)) → appended ts (grow_first t l) ≡ appended (t ∷ ts) l
 appended_next t ts [] = refl
 appended_next t ts (us ∷ l) = ap (λ (vs : List Token). vs ∷ l) (append_assoc us (t ∷ []) ts)

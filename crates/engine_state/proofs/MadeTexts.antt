@@ -5,20 +5,17 @@ use Rattle.std.proofs.lemmas.List.{map-append}
 use Rattle.tex_defs.specs.declared.Sizes.{Sizes}
 use Rattle.tex_defs.specs.declared.Full.{Full}
 use Rattle.tex_defs.specs.declared.Token.{Token}
-use Rattle.tex_defs.specs.declared.Token.TheVariants as token
 use Rattle.tex_defs.specs.declared.Meaning.{Meaning}
 use Rattle.tex_defs.specs.declared.Meaning.TheVariants as means
 use Rattle.plain_tokens.specs.Tokens.{made_token, made_text}
-use Rattle.plain_tokens.specs.Meanings.{seen_as, token_meaning, whole_meaning}
+use Rattle.plain_tokens.specs.Meanings.{seen_as}
 use Rattle.plain_tokens.specs.Pending.{all_puts}
 use Rattle.plain_tokens.specs.Printed.{Style, meaning_head, token_text, list_from, places_after, last_after}
 use Rattle.plain_machine.specs.Plan.{Page}
 use Rattle.plain_machine.proofs.GroupNumbers.{fetched_same}
 use Rattle.plain_machine.proofs.Ties.{text_let}
-use Rattle.equivalents.specs.declared.values.Loc.{Loc}
-use Rattle.equivalents.specs.Locations.{SeenValue, value_seen}
-use Rattle.equivalents.specs.Tables.{Tables, get}
-use Rattle.rows.specs.Internal.{is_fetchable, IsFetchable, value_text}
+use Rattle.equivalents.specs.Locations.{SeenValue}
+use Rattle.rows.specs.Internal.{is_fetchable, value_text}
 use Rattle.input_state.specs.HeldLists.{made as made_list}
 use Rattle.input_state.specs.Stored.{Stored}
 use Rattle.engine_state.specs.declared.engine.Engine.{Engine}
@@ -26,7 +23,7 @@ use Rattle.engine_state.specs.declared.text.Made.{Made}
 use Rattle.engine_state.specs.declared.text.Made.TheVariants as make
 use Rattle.engine_state.specs.Book.{Book}
 use Rattle.engine_state.specs.Stands.{IsSound, page_of, own_style}
-use Rattle.engine_state.specs.Making.{HasGrown, GrowsNot, IsInFront, characters_of, characters_in, text_at}
+use Rattle.engine_state.specs.Making.{HasGrown, GrowsNot, IsInFront, characters_of, characters_in}
 use Rattle.engine_state.proofs.TextPutting.{grown_none, grown_both, later_not, first_not, not_by, front_sound}
 
 -- whether there was a character, of two parts
@@ -99,14 +96,6 @@ module _ (i j : Stored) (whole rest : List ℕ) (some : Bool) (h : Along i j who
 
 -- WHAT A TOKEN MEANS
 
-pub seen_whole : (cells : List (Meaning (Option ℕ))) (t : Token) → token_meaning cells t ≡ seen_as (whole_meaning cells t)
-seen_whole cells (token.Char category c) = refl
-seen_whole cells (token.Named n) = refl
-seen_whole cells (token.Marked n) = refl
-seen_whole cells (token.Place c) = refl
-seen_whole cells (token.Number n) = refl
-seen_whole cells token.EndPlaces = refl
-
 -- a meaning begins as its text does without its list
 pub head_as : (style : Style) (m : Meaning (Option ℕ)) → meaning_head style (seen_as m) ≡ meaning_head style m
 head_as style means.Undefined = refl
@@ -133,10 +122,6 @@ characters_are sizes e book sound (make.Roman n) = refl
 characters_are sizes e book sound (make.Spelling t) = refl
 characters_are sizes e book sound (make.Meaning x) = text_let book.number book.all_lists e.input.groups (all_puts e.input.pending) e.input.lists sound.tied (own_style e) x
 characters_are sizes e book sound (make.Value l) = ap (λ (v : SeenValue). if is_fetchable l then value_text l v else []) (fetched_same book.number e.input.groups.now l)
-
--- what stands at a location that is there
-pub text_there : (m : Tables) (l : Loc) → IsFetchable l → text_at m l ≡ value_text l (value_seen (get m l))
-text_there m l there = rw there refl
 
 -- before and behind what begins a text
 pub characters_behind : (sizes : Sizes) (e e1 : Engine) (book : Book) → IsInFront e e1 → IsSound sizes e book.number book.all_lists → (m : Made) → characters_of (page_of e book) m ≡ characters_in e1 m

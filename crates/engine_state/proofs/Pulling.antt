@@ -1,5 +1,5 @@
 -- What becomes of what was pulled.
-use Rattle.std.proofs.Common.{◌≡◌, ℕ, ◌+◌, ◌<◌, List, [], ◌∷◌, ◌++◌, length, refl, sym, ap, ◌∙◌, subst, Bool, true, false, arith, drop}
+use Rattle.std.proofs.Common.{◌≡◌, ℕ, ◌+◌, ◌<◌, List, [], ◌∷◌, ◌++◌, refl, sym, ap, ◌∙◌, subst, Bool, true, false, arith, drop}
 use Rattle.std.specs.Prelude.{Option, Some, None, codes}
 use Rattle.std.proofs.lemmas.List.{append-nil, length-append}
 use Rattle.std.proofs.lemmas.List.Sums.{sum_by-cons, sum_by-append}
@@ -13,9 +13,9 @@ use Rattle.tex_defs.specs.declared.Sizes.{Sizes}
 use Rattle.tex_defs.specs.declared.Full.{Full}
 use Rattle.tex_defs.specs.declared.Table.TheVariants.{InputStackSize}
 use Rattle.tex_defs.specs.Places.{World}
-use Rattle.plain_tokens.specs.Puts.{Item, Text, First, Later, Gap, Put as PutList, without_ended, settled_top, passed, next_item, top_item, first_item, put_levels, levels_of}
+use Rattle.plain_tokens.specs.Puts.{Item, Text, First, Later, Gap, Put as PutList, without_ended, unless_ended, passed, next_item, top_item, first_item, put_levels, levels_of}
 use Rattle.plain_tokens.specs.Lines.{first_line}
-use Rattle.plain_tokens.specs.Pending.{Pending, Source, Progress, Begun as BegunFile, Closed, Pulled, TokenFrom, LexemeFrom, LineTaken, InvalidMet, FileOver, NothingLeft, end_token_lists, pulled, after_pull, with_end, from_front, from_list, from_line, from_file, from_begun, all_puts, outer_puts}
+use Rattle.plain_tokens.specs.Pending.{Pending, Progress, Begun as BegunFile, Closed, Pulled, TokenFrom, LexemeFrom, LineTaken, InvalidMet, FileOver, NothingLeft, end_token_lists, pulled, after_pull, with_end, from_front, from_list, from_line, from_file, from_begun, all_puts, outer_puts}
 use Rattle.plain_tokens.specs.Lex.{Lexeme, Character, ActiveName, SingleName, EmptyName, WordName, ParName, Lexed, Gives, Invalid, UsedUp, lexed}
 use Rattle.plain_tokens.specs.Lookup.{name_number, token_of, joins, new_among, new_name}
 use Rattle.tex_defs.specs.declared.Meaning.{Meaning}
@@ -37,7 +37,7 @@ use Rattle.plain_machine.proofs.Renumbering.{settle_of, next_item_of, opened_lev
 use Rattle.plain_machine.proofs.GroupNumbers.{entered_of}
 use Rattle.plain_machine.proofs.Ties.{put_settle, put_pulled}
 use Rattle.plain_machine.proofs.Settling.{pulled_settled, passed_settled}
-use Rattle.plain_machine.proofs.Silent.{Lighter, lighter, outer_weight as outer_lightness, pending_weight as lightness}
+use Rattle.plain_machine.proofs.Silent.{Lighter, lighter}
 use Rattle.world_io.specs.Contents.{FilesTold, SinkTold, world}
 use Rattle.input_state.specs.Stored.{Stored, KeepsShared, gathered}
 use Rattle.input_state.specs.Reads.{Pulls, ReadsLexeme, TakesLine, step_demands, pull_refusal}
@@ -55,13 +55,14 @@ use Rattle.engine_state.specs.declared.outcome.Ruled.{Ruled}
 use Rattle.engine_state.specs.declared.outcome.Ruled.TheVariants.{Step, Free, Halted}
 use Rattle.engine_state.specs.declared.outcome.Last.TheVariants as last
 use Rattle.engine_state.specs.Begins.{last_moves}
-use Rattle.engine_state.specs.Steps.{IsHalted, IsSkipped, IsOver, NextStepsIf, next_met, next_free, file_weight, outer_weight, pending_weight, readings_weight, weight, asked_by}
+use Rattle.plain_machine.specs.Weights.{pending_weight}
+use Rattle.engine_state.specs.Steps.{IsSkipped, NextStepsIf, next_met, next_free, readings_weight, weight, asked_by}
 use Rattle.engine_state.specs.declared.outcome.Next.{Next}
 use Rattle.engine_state.specs.Book.{Book}
 use Rattle.plain_readings.specs.Weights.{act_frame, ask_weight, behind_weight}
 use Rattle.engine_state.specs.Calls.{AllStand, MacroStands, ReadingsStand, asks_of}
 use Rattle.engine_state.specs.Entering.{with_names, EntryFits, EntryRefused}
-use Rattle.engine_state.specs.Stands.{Counts, IsSized, IsSound, SameStore, SameFrames, state_of, page_of, depth}
+use Rattle.engine_state.specs.Stands.{IsSized, IsSound, SameStore, SameFrames, state_of, page_of}
 use Rattle.engine_state.specs.CutReadings.{CutsIn}
 use Rattle.engine_state.specs.Rules.{world_of, onward_of, enters_of, scanning_of, token_moves, name_moves, WantsHere, Takes, Cuts, Went, Meets, Nexts, DoesOnward}
 use Rattle.engine_state.proofs.CallKept.{all_still}
@@ -74,12 +75,6 @@ use Rattle.engine_state.proofs.Coming.{meets_by, meets_later, next_by, next_late
 use Rattle.rows.specs.Readings.{Ask}
 
 -- AN ENGINE THAT HAS WRITTEN
-
-pub same_depth : (e e' : Engine) → SameFrames e e' → depth e' ≡ depth e
-same_depth e e' h = ap (λ (s : Stack). length s.frames) h.readings
-
-pub counts_still : (sizes : Sizes) (e e' : Engine) (book : Book) → SameFrames e e' → IsSound sizes e' book.number book.all_lists → Counts sizes e book → Counts sizes e' book
-counts_still sizes e e' book same sound h = record { sound = sound; depth = h.depth ∙ sym (same_depth e e' same) }
 
 -- a token that isn't the name of an \outer macro goes on
 inner_meets : (page : Page) (o : Option Scanning) (onward : Seen → List Move) (x : Seen) → is_outer x.meaning ≡ false → met page o onward x ≡ onward x
@@ -262,7 +257,7 @@ module _ (sizes : Sizes) (e : Engine) (book : Book) where
 -- THE NEXT READING
 
 -- the finished lists in front are at no level
-level_top : (p : PutList) (xs : List Item) (ps : List PutList) → p.items ≡ xs → put_levels (without_ended ps) ≡ put_levels ps → put_levels (settled_top p xs (without_ended ps) ps) ≡ put_levels (p ∷ ps)
+level_top : (p : PutList) (xs : List Item) (ps : List PutList) → p.items ≡ xs → put_levels (without_ended ps) ≡ put_levels ps → put_levels (unless_ended p xs (without_ended ps) ps) ≡ put_levels (p ∷ ps)
 level_top p [] ps is h = omega (arith, h, ap levels_of is, sum_by-cons (λ (q : PutList). levels_of q.items) p ps)
 level_top p (x ∷ xs) ps is h = refl
 
@@ -355,25 +350,14 @@ token_fits sizes e book t fits sized = token_demands sizes e book t None fits si
 fewer_by : (categories : List ℕ) (p q : Pending) (r : Pulled) → pulled categories p ≡ r → after_pull p r ≡ q → (n : ℕ) → is_put n (all_puts q) ≡ true → is_put n (all_puts p) ≡ true
 fewer_by categories p q r is after n h = put_pulled n p categories (subst (λ (x : Pending). is_put n (all_puts x) ≡ true) (sym (ap (after_pull p) is ∙ after)) h)
 
--- what is pending weighs as much as to the machine
-outer_same : (outer : List Source) → outer_weight outer ≡ outer_lightness outer
-outer_same [] = refl
-outer_same (s ∷ outer) = omega (arith, sum_by-cons (λ (x : Source). length x.line + file_weight x.file) s outer, outer_same outer)
-
-pending_same : (p : Pending) → pending_weight p ≡ lightness p
-pending_same p = ap (λ (n : ℕ). (length p.line + file_weight p.file) + n) (outer_same p.outer)
-
-less_pending : (q p : Pending) → lightness q < lightness p → pending_weight q < pending_weight p
-less_pending q p less = omega (arith, less, pending_same q, pending_same p)
-
 -- The engine behind a reading from what is pending.
 module _ (e : Engine) (i : Stored) where
   -- less is pending
   pub lighter_skip : pulled e.input.groups.now.categories e.input.pending ≡ InvalidMet i.pending → pending_weight i.pending < pending_weight e.input.pending
-  lighter_skip is = less_pending i.pending e.input.pending (subst (Lighter e.input.pending) is (lighter e.input.groups.now.categories e.input.pending))
+  lighter_skip is = subst (Lighter e.input.pending) is (lighter e.input.groups.now.categories e.input.pending)
 
   pub lighter_close : pulled e.input.groups.now.categories e.input.pending ≡ FileOver i.pending → pending_weight i.pending < pending_weight e.input.pending
-  lighter_close is = less_pending i.pending e.input.pending (subst (Lighter e.input.pending) is (lighter e.input.groups.now.categories e.input.pending))
+  lighter_close is = subst (Lighter e.input.pending) is (lighter e.input.groups.now.categories e.input.pending)
 
 pub frames_now : (e : Engine) (i : Stored) → i ≡ record e.input { pending = i.pending; buffer = i.buffer; lists = i.lists } → SameFrames e (record e { input = i })
 frames_now e i others = record { readings = refl; lists = ap (λ (x : Stored). x.builds) others; call = ap (λ (x : Stored). x.call) others }
@@ -675,15 +659,6 @@ not_met o n is h = by_met o (subst IsSkipped is h) where
 
 pub not_over : (r : Ruled) (o : Outcome) (n : Next) → n ≡ next_free r → r ≡ Halted o → IsSkipped n → ⊥
 not_over r o n is ends h = subst IsSkipped (is ∙ ap next_free ends) h
-
-pub over_met : (o : Option Seen) (n : Next) → n ≡ next_met o → IsOver n → o ≡ None
-over_met None n is h = refl
-over_met (Some x) n is h = absurd (subst IsOver is h)
-
-pub over_free : (r : Ruled) (n : Next) → n ≡ next_free r → IsOver n → IsHalted r
-over_free Step n is h = absurd (subst IsOver is h)
-over_free Free n is h = absurd (subst IsOver is h)
-over_free (Halted o) n is h = tt
 
 pub nothing_steps : (r : Ruled) (o : Outcome) (n : Next) (b : Bool) → n ≡ next_free r → r ≡ Halted o → NextStepsIf n b
 nothing_steps r o n b is ends = subst (λ (x : Next). NextStepsIf x b) (sym (is ∙ ap next_free ends)) tt

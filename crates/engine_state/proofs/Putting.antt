@@ -8,7 +8,7 @@ use Rattle.tex_defs.specs.declared.Seen.{Seen}
 use Rattle.tex_defs.specs.declared.Sizes.{Sizes}
 use Rattle.tex_defs.specs.declared.Full.{Full}
 use Rattle.tex_defs.specs.Places.{World, Transcript}
-use Rattle.plain_tokens.specs.Puts.{Item, Put as PutList, token_put, without_ended, settled_top, grown_by}
+use Rattle.plain_tokens.specs.Puts.{Item, Put as PutList, token_put, without_ended, unless_ended, grown_by}
 use Rattle.plain_tokens.specs.Pending.{Pending, end_token_lists, put_front}
 use Rattle.plain_tokens.specs.Tables.{Demand, refused, memory, level, string}
 use Rattle.plain_state.specs.Reports.{report_bytes}
@@ -49,9 +49,9 @@ kept_cuts sizes e names book w bytes more full sized same r =
 
 -- THE LIST THAT IS MADE
 
-twice_top : (p : PutList) (xs : List Item) (ps : List PutList) → p.items ≡ xs → without_ended (without_ended ps) ≡ without_ended ps → without_ended (settled_top p xs (without_ended ps) ps) ≡ settled_top p xs (without_ended ps) ps
+twice_top : (p : PutList) (xs : List Item) (ps : List PutList) → p.items ≡ xs → without_ended (without_ended ps) ≡ without_ended ps → without_ended (unless_ended p xs (without_ended ps) ps) ≡ unless_ended p xs (without_ended ps) ps
 twice_top p [] ps is h = h
-twice_top p (x ∷ xs) ps is h = ap (λ (ys : List Item). settled_top p ys (without_ended ps) ps) is
+twice_top p (x ∷ xs) ps is h = ap (λ (ys : List Item). unless_ended p ys (without_ended ps) ps) is
 
 settled_twice : (ps : List PutList) → without_ended (without_ended ps) ≡ without_ended ps
 settled_twice [] = refl

@@ -176,27 +176,6 @@ same_lists e e' i gathered others is kept same = record {
   store = subst (λ (x : Stored). SameStore e.input x) (sym same) (store_gathered e.input i gathered is kept);
 }
 
-pub same_join : (e e1 e2 : Engine) → SameBut e e1 → SameBut e1 e2 → SameBut e e2
-same_join e e1 e2 a b = record {
-  others = record {
-    depth = b.others.depth ∙ a.others.depth;
-    names = b.others.names ∙ a.others.names;
-    after = b.others.after ∙ a.others.after;
-    mag_set = b.others.mag_set ∙ a.others.mag_set;
-    conditionals = b.others.conditionals ∙ a.others.conditionals;
-    naming = b.others.naming ∙ a.others.naming;
-    in_line = b.others.in_line ∙ a.others.in_line;
-    reports = b.others.reports ∙ a.others.reports;
-    flawed = b.others.flawed ∙ a.others.flawed;
-    quiet = b.others.quiet ∙ a.others.quiet;
-    sizes = b.others.sizes ∙ a.others.sizes;
-  };
-  pending = b.pending ∙ a.pending;
-  making = b.making ∙ a.making;
-  call = b.call ∙ a.call;
-  store = store_join e.input e1.input e2.input a.store b.store;
-}
-
 -- the words that are used are the machine's
 pub words_are : (sizes : Sizes) (e : Engine) (book : Book) → IsSound sizes e book.number book.all_lists → words (state_of e book) ≡ stored_words e.input
 words_are sizes e book h =

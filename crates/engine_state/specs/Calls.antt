@@ -145,11 +145,3 @@ AsksToken NotCalling = ⊥
 AsksToken (Gathering name scan) = scan.braced ≡ false
 AsksToken (Stopped name why scan) = ⊥
 AsksToken (Gathered name args) = ⊥
-
--- the call that asks for a token
-abbrev pub open_call : Name → Call
-open_call name = record { name = name; ask = call.More }
-
--- the call in which an extra right brace came
-abbrev pub brace_call : Name → Call
-brace_call name = record { name = name; ask = call.ExtraBrace }

@@ -25,7 +25,7 @@ use Rattle.engine_state.specs.declared.text.Made.{Made}
 use Rattle.engine_state.specs.declared.text.Made.TheVariants as make
 use Rattle.engine_state.specs.Book.{Book}
 use Rattle.engine_state.specs.Stands.{IsSound, SameFrames, SameOthers, SameStore, state_of, page_of, own_style}
-use Rattle.engine_state.specs.Steps.{pending_weight}
+use Rattle.plain_machine.specs.Weights.{pending_weight}
 use Rattle.engine_state.specs.Rules.{Cuts}
 
 -- it has grown by them

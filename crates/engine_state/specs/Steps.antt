@@ -1,10 +1,11 @@
 -- Whether the next rule needs a step, and how many rules without a step may follow.
-use Rattle.std.specs.Prelude.{◌≡◌, ℕ, ◌+◌, [], drop, length, sum_by, List, Bool, true, false, ◌&&◌, Option, Some, None}
+use Rattle.std.specs.Prelude.{◌≡◌, ℕ, ◌+◌, [], drop, Bool, true, false, ◌&&◌, Option, Some, None}
 use Rattle.tex_syntax.specs.declared.words.Outcome.TheVariants.{AtFatal}
 use Rattle.tex_defs.specs.declared.Fatal.TheVariants.{HundredErrors}
 use Rattle.tex_defs.specs.declared.Seen.{Seen}
-use Rattle.plain_tokens.specs.Pending.{Pending, Source, Progress, Begun, Closed, pulled}
+use Rattle.plain_tokens.specs.Pending.{pulled}
 use Rattle.plain_machine.specs.Extended.{starts}
+use Rattle.plain_machine.specs.Weights.{pending_weight}
 use Rattle.rows.specs.Readings as reading
 use Rattle.plain_readings.specs.Weights.{act_frame, ask_weight, behind_weight}
 use Rattle.reading_frames.specs.Stack.{asks_in}
@@ -58,17 +59,6 @@ abbrev pub stepping : Engine → Bool
 stepping e = wants_token (asks_now e) && gives_step (pulled e.input.groups.now.categories e.input.pending)
 
 -- WEIGHTS
-
--- an invalid character may still be skipped, and a file may still end
-abbrev pub file_weight : Progress → ℕ
-file_weight Begun = 1
-file_weight Closed = 0
-
-abbrev pub outer_weight : List Source → ℕ
-outer_weight outer = sum_by (λ s. length s.line + file_weight s.file) outer
-
-abbrev pub pending_weight : Pending → ℕ
-pending_weight p = (length p.line + file_weight p.file) + outer_weight p.outer
 
 -- the open readings: the frames, and what the innermost asks for; of a call, that stands in the input
 abbrev pub readings_weight : Option Call → Engine → ℕ

@@ -4,7 +4,7 @@ ghost use Rattle.plain_machine.specs.Plan.{given_back, put_inserted, put_one};
 ghost use Rattle.engine_state.specs.Book.{Book};
 ghost use Rattle.engine_state.specs.Clauses.{PutsInFront, CutsPutting};
 ghost use Rattle.engine_state.specs.Stands.{SameStore, SameOthers, SameFrames, page_of};
-ghost use Rattle.engine_state.specs.Steps.{pending_weight};
+ghost use Rattle.plain_machine.specs.Weights.{pending_weight};
 
 use crate::broken::Broken;
 use crate::engine::Engine;

@@ -6,7 +6,7 @@ ghost use Rattle.plain_machine.specs.Plan.{put_each, group_ended, kept_for_group
 ghost use Rattle.engine_state.specs.Clauses.{Still, HoldsLists, MakesAlways, MakesMoves, CutsMoves, DoesSilently};
 ghost use Rattle.engine_state.specs.Stands.{Stands, Counts, SameStore, SameOthers, SameFrames, page_of};
 ghost use Rattle.engine_state.specs.Rules.{Cuts};
-ghost use Rattle.engine_state.specs.Steps.{pending_weight};
+ghost use Rattle.plain_machine.specs.Weights.{pending_weight};
 
 use crate::broken::Broken;
 use crate::engine::Engine;

@@ -8,7 +8,7 @@ ghost use Rattle.engine_state.specs.Book.{Book, with_work};
 ghost use Rattle.engine_state.specs.Clauses.{Still, HoldsLists, MakesMoves, MakesMovesTo, CutsMoves, CutsFree, StandsFor};
 ghost use Rattle.engine_state.specs.Lists.{Copies, fed_list, location_list, with_list};
 ghost use Rattle.engine_state.specs.Stands.{Stands, SameFrames, page_of};
-ghost use Rattle.engine_state.specs.Steps.{pending_weight};
+ghost use Rattle.plain_machine.specs.Weights.{pending_weight};
 ghost use Rattle.engine_state.specs.declared.broken.Broken.TheVariants as broken;
 
 use crate::broken::Broken;

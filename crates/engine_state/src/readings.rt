@@ -297,7 +297,6 @@ impl Engine {
         ensures same { self.old.input.call ≡ NotCalling → SameBut self.old self.new }
         ensures others { SameElse self.old self.new }
         ensures pending { self.new.input.pending ≡ self.old.input.pending }
-        ensures column { self.new.in_line ≡ self.old.in_line }
         ensures idle { self.new.input.making ≡ self.old.input.making }
         ensures weight { innermost_weight self.new.readings.frames < act_frame + act_weight }
         ensures fewer { length self.new.readings.frames ≡ length self.old.readings.frames - 1 }

@@ -21,7 +21,7 @@ ghost use Rattle.engine_state.specs.Book.{Book};
 ghost use Rattle.engine_state.specs.Clauses.{HoldsLists, MakesMoves, CutsMoves, PutsInFront, CutsPutting};
 ghost use Rattle.engine_state.specs.Making.{HasGrown, GrowsNot, IsInFront, changed_list, characters_in, characters_of, text_at};
 ghost use Rattle.engine_state.specs.Stands.{SameStore, SameOthers, SameFrames, page_of};
-ghost use Rattle.engine_state.specs.Steps.{pending_weight};
+ghost use Rattle.plain_machine.specs.Weights.{pending_weight};
 
 use crate::broken::Broken;
 use crate::engine::Engine;
@@ -258,7 +258,7 @@ impl Engine {
         ensures did { OnOk result (MakesMoves HoldsLists self.old self.new (λ _. ListsEnded ∷ ListBegun ∷ [])) }
         ensures err { IfErr result (λ b. CutsMoves HoldsLists self.old self.new (λ _. ListsEnded ∷ ListBegun ∷ []) b) }
         ensures begun { OnOk result (self.new.input.making ≡ Some []) }
-        ensures settled { self.new.input.pending ≡ end_token_lists self.old.input.pending }
+        ensures ended { self.new.input.pending ≡ end_token_lists self.old.input.pending }
         ensures front { IsInFront self.old self.new }
     {
         self.input.end_token_lists();
@@ -269,7 +269,7 @@ impl Engine {
     /// The list that is made is put in front; one without tokens goes.
     fn end_text(&mut self, some: bool) -> Result<(), Broken>
         requires making { IsSome self.old.input.making }
-        requires settled { self.old.input.pending ≡ end_token_lists self.old.input.pending }
+        requires ended { self.old.input.pending ≡ end_token_lists self.old.input.pending }
         requires some { MatchBool some (made self.old.input.making ≢ []) (made self.old.input.making ≡ []) }
         ensures did { OnOk result (MakesMoves HoldsLists self.old self.new (λ _. put_made (made self.old.input.making))) }
         ensures err { IfErr result (λ b. CutsMoves HoldsLists self.old self.new (λ _. put_made (made self.old.input.making)) b) }

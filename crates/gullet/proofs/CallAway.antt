@@ -1,11 +1,9 @@
 -- An argument that runs away: it is shown, a token put in front, and a report comes.
 use Rattle.std.proofs.Common.{◌≡◌, ℕ, List, [], ◌∷◌, ◌++◌, refl, sym, ap, subst, ◌∙◌, Bool}
-use Rattle.std.specs.Prelude.{Option, Some}
 use Rattle.tex_syntax.specs.declared.words.Report.{Report}
 use Rattle.tex_defs.specs.declared.Sizes.{Sizes}
 use Rattle.tex_defs.specs.declared.Token.{Token}
 use Rattle.tex_defs.specs.Places.{World, Transcript}
-use Rattle.token_lists.specs.Table.{Entry, tokens_at}
 use Rattle.plain_machine.specs.States.{State, Move, Written}
 use Rattle.plain_machine.specs.Plan.{Page, page_behind, put_one, failed}
 use Rattle.plain_machine.specs.Does.{Did}
@@ -17,7 +15,7 @@ use Rattle.engine_state.specs.declared.engine.Engine.{Engine}
 use Rattle.engine_state.specs.declared.outcome.Ruled.{Ruled}
 use Rattle.engine_state.specs.declared.outcome.Ruled.TheVariants.{Step, Free, Halted}
 use Rattle.engine_state.specs.Book.{Book}
-use Rattle.engine_state.specs.Calls.{call_away_moves, work_or_none}
+use Rattle.engine_state.specs.Calls.{call_away_moves}
 use Rattle.engine_state.specs.Stands.{OnlyColumn, state_of, page_of}
 use Rattle.engine_state.specs.Rules.{world_of, Cuts, DoesRule}
 use Rattle.engine_state.specs.Steps.{IsStep}
@@ -63,8 +61,3 @@ module _ (sizes : Sizes) (e e1 e2 : Engine) (f : FilesTold) (s0 s1 : SinkTold) (
     call_away_cuts b h =
         later_cuts sizes (state_of e book) (state_of e2 book) e3 book (world_of f s0 e) (world_of f s1 e2) (world_of f s3 e3) (Written Transcript text ∷ put_one t) (failed (page_behind (page_of e book) text) report) b both
         (subst (λ (p : Page). Cuts sizes (state_of e2 book) e3 book (world_of f s1 e2) (world_of f s3 e3) (failed p report) b) away_page h)
-
--- WHAT IS SHOWN
-
-pub work_is : (table held : List (Option Entry)) (id : ℕ) (o : Option (List Token)) → table ≡ held → o ≡ Some (tokens_at held id) → tokens_at table id ≡ work_or_none o
-work_is table held id o t is = ap (λ (x : List (Option Entry)). tokens_at x id) t ∙ ap work_or_none (sym is)

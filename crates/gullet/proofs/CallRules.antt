@@ -18,7 +18,8 @@ use Rattle.macro_call.specs.declared.ask.CallAsk.{CallAsk}
 use Rattle.macro_call.specs.declared.ask.CallAsk.TheVariants as asked
 use Rattle.engine_state.specs.declared.engine.Engine.{Engine}
 use Rattle.engine_state.specs.Book.{Book}
-use Rattle.engine_state.specs.Calls.{open_call, argument_bytes, call_away_moves, work_or_none}
+use Rattle.engine_state.specs.Calls.{argument_bytes, call_away_moves, work_or_none}
+use Rattle.engine_state.proofs.CallsIn.{open_call}
 use Rattle.engine_state.proofs.CallsKnown.{CallStands, IsStopped, call_scanned, first_work, no_args}
 use Rattle.engine_state.specs.Rules.{WantsHere}
 use Rattle.engine_state.specs.Stands.{page_of}

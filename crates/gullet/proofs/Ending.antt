@@ -1,12 +1,6 @@
 -- What is said of an end that hasn't come, and of one that has.
-use Rattle.std.proofs.Common.{◌≡◌, subst, Bool, true}
+use Rattle.std.proofs.Common.{◌≡◌}
 use Rattle.std.specs.Prelude.{Some, None, Result, Ok, Err, IfOk, OnOk, IsErrAnd, MatchResult}
-use Rattle.engine_state.specs.declared.broken.Broken.{Broken}
-use Rattle.engine_state.specs.declared.outcome.Next.{Next}
-use Rattle.engine_state.specs.Steps.{NextStepsIf}
-use Rattle.gullet.specs.declared.expansion.Stepped.{Stepped}
-use Rattle.gullet.specs.declared.expansion.Stepped.TheVariants.{More, Skipped, Unexpandable, Over}
-use Rattle.gullet.specs.Stepping.{IsSkipped, StepStepsIf}
 
 -- behind an error nothing is said of what else had come
 pub no_ok : {T E : Type 0} (P : E → Type 0) (Q : T → Type 0) → (r : Result T E) → IsErrAnd r P → IfOk r Q
@@ -25,15 +19,3 @@ on_end P Q A (Err e) h a = a
 -- where there is nothing, nothing is found
 pub none_found : {A : Type 0} (x : A) → None ≡ Some x → ⊥
 none_found x h = cc
-
--- WHETHER THERE WAS A STEP
-
-pub next_counts : (b : Bool) (n m : Next) → n ≡ m → NextStepsIf n b → NextStepsIf m b
-next_counts b n m is h = subst (λ (x : Next). NextStepsIf x b) is h
-
-pub token_counts : (r : Result Stepped Broken) (b : Bool) → b ≡ true → IfOk r (λ n. IsSkipped n → ⊥) → IfOk r (λ n. StepStepsIf n b)
-token_counts (Ok More) b is h = is
-token_counts (Ok Skipped) b is h = absurd (h tt)
-token_counts (Ok (Unexpandable x)) b is h = is
-token_counts (Ok (Over o)) b is h = tt
-token_counts (Err e) b is h = tt

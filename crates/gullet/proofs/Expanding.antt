@@ -1,8 +1,7 @@
--- One step of expansion.
-use Rattle.std.proofs.Common.{◌≡◌, List, [], ◌∷◌, ◌++◌, refl, sym, ap, append_assoc, subst, ◌∙◌, arith}
+-- One expansion.
+use Rattle.std.proofs.Common.{◌≡◌, List, [], ◌∷◌, refl, sym, ap, subst, ◌∙◌, arith}
 use Rattle.std.specs.Prelude.{Bool, true, false, not, ◌||◌, if◌then◌else◌, Option, Some, None}
 use Rattle.std.proofs.lemmas.Bool.Decides.{nat_tests}
-use Rattle.tex_syntax.specs.declared.words.Outcome.{Outcome}
 use Rattle.tex_syntax.specs.declared.words.Want.{Want}
 use Rattle.tex_syntax.specs.declared.words.Want.TheVariants as want
 use Rattle.tex_defs.specs.declared.Token.{Token}
@@ -20,8 +19,7 @@ use Rattle.tex_defs.specs.Places.{World}
 use Rattle.plain_readings.specs.Readings.{Kind, opened}
 use Rattle.plain_machine.specs.Demands.{refusal}
 use Rattle.plain_machine.specs.States.{State, Move, Begun, made}
-use Rattle.plain_machine.proofs.Doing.{did_join, did_none, did_one}
-use Rattle.plain_machine.proofs.Joins.{steps_join}
+use Rattle.plain_machine.proofs.Doing.{did_one}
 use Rattle.engine_state.specs.declared.engine.Engine.{Engine}
 use Rattle.engine_state.specs.declared.outcome.Ruled.{Ruled}
 use Rattle.engine_state.specs.declared.outcome.Ruled.TheVariants as ruled
@@ -29,16 +27,12 @@ use Rattle.engine_state.specs.Book.{Book, with_work}
 use Rattle.engine_state.specs.Stands.{SameFrames, SameReadings, Stands, state_of, page_of}
 use Rattle.engine_state.proofs.Uncalled.{all_of, no_call}
 use Rattle.world_io.specs.Contents.{FilesTold, SinkTold}
-use Rattle.engine_state.specs.Rules.{world_of, Went, Halts, onward_of, feeds_of, Takes, Comes, DoesOnward}
+use Rattle.engine_state.specs.Rules.{world_of, Went, onward_of, feeds_of, DoesOnward}
 use Rattle.engine_state.specs.Steps.{IsHalted}
-use Rattle.engine_state.proofs.Joining.{quiet_wrote, went_by}
-use Rattle.engine_state.proofs.Coming.{comes_went, comes_halts}
-use Rattle.engine_state.proofs.Stopping.{noted, noted_went, noted_halts, noted_comes}
-use Rattle.gullet.specs.declared.expansion.Stepped.{Stepped}
-use Rattle.gullet.specs.declared.expansion.Stepped.TheVariants.{More, Skipped, Unexpandable, Over}
+use Rattle.engine_state.proofs.Joining.{quiet_wrote}
 use Rattle.gullet.specs.declared.expansion.Expansion.{Expansion}
 use Rattle.gullet.specs.declared.expansion.Once.TheVariants as once
-use Rattle.gullet.specs.Stepping.{EndsRun, Expands, ExpandsOnce, ExpandsTo, IsKept, IsOver, IsStayed, Steps, Stays, changes, expands, is_expansion, once_by, wants_raw}
+use Rattle.gullet.specs.Stepping.{EndsRun, ExpandsOnce, ExpandsTo, IsStayed, Stays, changes, expands, is_expansion, once_by, wants_raw}
 use Rattle.gullet.proofs.Stepping.{no}
 use Rattle.input_state.specs.Callings.{NotCalling, call_in}
 
@@ -134,10 +128,6 @@ once_reports sizes s e' book w w' ms ns others r n moves is h =
       by_rule ruled.Free h = absurd h
       by_rule (ruled.Halted o) h = h
 
--- it stays
-pub expands_none : (sizes : Sizes) (want : Option Want) (e : Engine) (book : Book) (w : World) (x : Seen) → Takes sizes want e book → Stays want x → Expands sizes want (state_of e book) e book w w (onward_of (page_of e book) want book.work x) x (Unexpandable x)
-expands_none sizes want e book w x takes stays = (record { book' = book; still = λ none. refl; takes = takes; front = []; did = did_none sizes (state_of e book) w; whole = refl; count = refl }, stays)
-
 -- the reading of its expansion begins
 pub expansion_went : (sizes : Sizes) (e e' : Engine) (book : Book) (f : FilesTold) (s : SinkTold) (k : Kind) → refusal sizes (Begun k) (state_of e book) ≡ None → made (Begun k) (state_of e book) ≡ state_of e' (with_work (opened k book.work) book) →
     e'.in_line ≡ e.in_line → Stands sizes e' (with_work (opened k book.work) book) → Went sizes (state_of e book) e' (world_of f s e) (world_of f s e') (Begun k ∷ []) 0
@@ -148,61 +138,12 @@ expansion_went sizes e e' book f s k fits is column st = record {
   count = refl;
 }
 
--- WHERE IT IS WANTED
-
-module _ (sizes : Sizes) (want : Option Want) (e e' : Engine) (book : Book) (w w' : World) (x : Seen) (raw : wants_raw want ≡ false) (n : Once) (which : changes n ≡ expands x.meaning) where
-  abbrev wanted_moves : List Move
-  wanted_moves = onward_of (page_of e book) want book.work x
-
-  pub went_expands : n ≡ once.Expanded → ExpandsOnce sizes (state_of e book) e' book w w' (expanded (page_of e book) x []) [] n → Expands sizes want (state_of e book) e' book w w' wanted_moves x More
-  went_expands is h =
-      went_by sizes (state_of e book) e' w w' (expanded (page_of e book) x []) wanted_moves 0 (onward_expands (page_of e book) want book.work x raw (sym which ∙ ap changes is))
-      (subst (ExpandsOnce sizes (state_of e book) e' book w w' (expanded (page_of e book) x []) []) is h)
-
-  pub over_expands : (o : Outcome) → n ≡ once.Over o → ExpandsOnce sizes (state_of e book) e' book w w' (expanded (page_of e book) x []) [] n → Expands sizes want (state_of e book) e' book w w' wanted_moves x (Over o)
-  over_expands o is h =
-      subst (λ (ms : List Move). Halts sizes (state_of e book) e' book w w' ms o 0) (sym (onward_expands (page_of e book) want book.work x raw (sym which ∙ ap changes is)))
-      (subst (ExpandsOnce sizes (state_of e book) e' book w w' (expanded (page_of e book) x []) []) is h)
+-- what it came to
+pub once_as : (sizes : Sizes) (s : State) (e' : Engine) (book : Book) (w w' : World) (ms others : List Move) (n m : Once) → n ≡ m → ExpandsOnce sizes s e' book w w' ms others n → ExpandsOnce sizes s e' book w w' ms others m
+once_as sizes s e' book w w' ms others n m is h = subst (λ (x : Once). ExpandsOnce sizes s e' book w w' ms others x) is h
 
 pub stayed : (n : Once) → n ≡ once.Stays → IsStayed n
 stayed n is = subst IsStayed (sym is) tt
-
-pub stays_expands : (sizes : Sizes) (want : Option Want) (e e' : Engine) (book : Book) (f : FilesTold) (s s' : SinkTold) (x : Seen) → e' ≡ e → s' ≡ s → Takes sizes want e book → Stays want x →
-    Expands sizes want (state_of e book) e' book (world_of f s e) (world_of f s' e') (onward_of (page_of e book) want book.work x) x (Unexpandable x)
-stays_expands sizes want e e' book f s s' x same silent takes stays =
-    subst (λ (y : SinkTold). Expands sizes want (state_of e book) e' book (world_of f s e) (world_of f y e') (onward_of (page_of e book) want book.work x) x (Unexpandable x)) (sym silent)
-    (subst (λ (y : Engine). Expands sizes want (state_of e book) y book (world_of f s e) (world_of f s y) (onward_of (page_of e book) want book.work x) x (Unexpandable x)) (sym same) (expands_none sizes want e book (world_of f s e) x takes stays))
-
--- BEHIND A STEP
-
-module _ (sizes : Sizes) (want : Option Want) (s : State) (e1 e2 : Engine) (book : Book) (w v w' : World) (moves : List Move) (x : Seen) (c : Comes sizes want s e1 book w v moves x 1) where
-  abbrev onward : List Move
-  onward = onward_of (page_of e1 c.book') want c.book'.work x
-
-  comes_on : (y : Seen) → e2 ≡ e1 → Comes sizes want (state_of e1 c.book') e2 c.book' v w' onward y 0 → Comes sizes want s e2 book w w' moves y 1
-  comes_on y same h = record {
-    book' = h.book';
-    still = λ gone. h.still gone ∙ c.still (sym (ap (λ (e : Engine). e.input.call) same) ∙ gone);
-    takes = h.takes;
-    front = c.front ++ h.front;
-    did = did_join sizes s (state_of e1 c.book') (state_of e2 h.book') w v w' c.front h.front c.did h.did;
-    whole = c.whole ∙ ap (λ (l : List Move). c.front ++ l) h.whole ∙ sym (append_assoc c.front h.front (onward_of (page_of e2 h.book') want h.book'.work y));
-    count = steps_join c.front h.front ∙ omega (arith, c.count, h.count);
-  }
-
-  -- a token that stays changes nothing, and a run ends only where no call gathers its arguments
-  pub steps_on : (n : Stepped) → (IsKept n → e2 ≡ e1) → (IsOver n → e1.input.call ≡ NotCalling) → Expands sizes want (state_of e1 c.book') e2 c.book' v w' onward x n → Steps sizes want s e2 book w w' moves n
-  steps_on More kept over h = comes_went sizes want s e1 e2 book w v w' moves x 1 c 0 h
-  steps_on Skipped kept over h = absurd h
-  steps_on (Unexpandable y) kept over h = (comes_on y (kept tt) h.0, h.1)
-  steps_on (Over o) kept over h = comes_halts sizes want s e1 e2 book w v w' moves x 1 c o 0 (over tt) h
-
--- whether the run has stopped is noted
-pub noted_steps : (b : Bool) (sizes : Sizes) (want : Option Want) (s : State) (e : Engine) (book : Book) (w w' : World) (moves : List Move) (n : Stepped) → Steps sizes want s e book w w' moves n → Steps sizes want s (noted b e) book w w' moves n
-noted_steps b sizes want s e book w w' moves More h = noted_went b sizes s e w w' moves 1 h
-noted_steps b sizes want s e book w w' moves Skipped h = noted_went b sizes s e w w' moves 0 h
-noted_steps b sizes want s e book w w' moves (Unexpandable x) h = (noted_comes b sizes s e w w' moves want book x 1 h.0, h.1)
-noted_steps b sizes want s e book w w' moves (Over o) h = noted_halts b sizes s e w w' moves book o 1 h
 
 -- THE OPEN READINGS
 
@@ -212,6 +153,3 @@ uncalled_still e e1 same none = no_call e1.input.call (same.call ∙ ap call_in 
 
 pub halted_frames : (e e1 e2 : Engine) → SameReadings e e1 → e.input.call ≡ NotCalling → SameFrames e1 e2 → SameFrames e e2
 halted_frames e e1 e2 a none b = record { readings = b.readings ∙ a.readings; lists = b.lists ∙ a.lists; call = b.call ∙ uncalled_still e e1 a none ∙ sym none }
-
-pub kept_readings : (e e1 e2 : Engine) → SameReadings e e1 → e2 ≡ e1 → SameReadings e e2
-kept_readings e e1 e2 a is = subst (SameReadings e) (sym is) a

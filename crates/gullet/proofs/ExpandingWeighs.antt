@@ -12,11 +12,11 @@ use Rattle.input_state.specs.Stored.{Stored}
 use Rattle.input_state.specs.declared.answer.Call.{Call}
 use Rattle.input_state.specs.Callings.{Calling, NotCalling, call_in}
 use Rattle.engine_state.specs.declared.engine.Engine.{Engine}
-use Rattle.engine_state.specs.Calls.{open_call}
+use Rattle.engine_state.proofs.CallsIn.{open_call}
 use Rattle.engine_state.specs.Stands.{SameFrames}
-use Rattle.engine_state.specs.Steps.{pending_weight, readings_weight, weight}
+use Rattle.plain_machine.specs.Weights.{pending_weight}
+use Rattle.engine_state.specs.Steps.{readings_weight, weight}
 use Rattle.engine_state.proofs.CallWeighing.{same_weight}
-use Rattle.engine_state.proofs.AtLocations.{same_engine}
 
 module _ (e : Engine) (none : e.input.call ≡ NotCalling) (light : innermost_weight e.readings.frames ≤ act_weight) where
   abbrev most : ℕ
@@ -28,9 +28,6 @@ module _ (e : Engine) (none : e.input.call ≡ NotCalling) (light : innermost_we
   -- its readings are as they were
   pub same_light : (e' : Engine) → SameFrames e e' → pending_weight e'.input.pending ≡ pending_weight e.input.pending → weight e' ≤ most
   same_light e' same left = omega (arith, same_weight e e' same left, weighs)
-
-  pub still_light : (e' : Engine) → e' ≡ e → weight e' ≤ most
-  still_light e' is = same_light e' (same_engine e e' is) (ap (λ (x : Engine). pending_weight x.input.pending) is)
 
   pub framed_light : (e' : Engine) → e'.input.call ≡ NotCalling → e'.readings.frames ≡ e.readings.frames → pending_weight e'.input.pending ≡ pending_weight e.input.pending → weight e' ≤ most
   framed_light e' call same left =

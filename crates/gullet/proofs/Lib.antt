@@ -9,5 +9,4 @@ pub mod ExpandingWeighs
 pub mod InputMet
 pub mod JobName
 pub mod RelaxPut
-pub mod StepHanding
 pub mod Stepping

@@ -32,7 +32,7 @@ use Rattle.engine_state.specs.declared.engine.Engine.{Engine}
 use Rattle.engine_state.specs.Book.{Book, with_work}
 use Rattle.engine_state.specs.Stands.{FramesStand, state_of}
 use Rattle.engine_state.specs.Steps.{asked, asks_more, wants_token}
-use Rattle.engine_state.specs.Rules.{plan_of, feeds_of}
+use Rattle.engine_state.specs.Rules.{plan_of}
 
 -- MOVES WITHOUT A STEP
 
@@ -42,10 +42,6 @@ one_if b = if b then 1 else 0
 -- moves that pull nothing
 pub free_of : (ms : List Move) → pulls ms ≡ 0 → steps ms ≡ 0
 free_of ms none = omega (arith, steps_pull ms, none)
-
-pub feeds_none : (work : List Reading) (x : Seen) → pulls (feeds_of work x) ≡ 0
-feeds_none [] x = refl
-feeds_none (r ∷ rs) x = kind_none r.kind r.fed x
 
 -- A RULE'S STEPS
 

@@ -1,5 +1,7 @@
--- What one step of expansion comes to.
+-- What one expansion of a token comes to.
 use Rattle.std.specs.Prelude.{◌≡◌, ◌≤◌, ℕ, Bool, true, false, if◌then◌else◌, List, [], ◌∷◌, ◌++◌, Option, Some}
+use Rattle.prim_table.specs.Primitives.{is_expanded, is_in_row}
+use Rattle.prim_table.specs.declared.Class.TheVariants as class
 use Rattle.tex_syntax.specs.declared.words.Report.TheVariants.{UndefinedName}
 use Rattle.tex_syntax.specs.declared.words.Want.{Want}
 use Rattle.tex_syntax.specs.declared.words.Want.TheVariants.{Raw, Unentered}
@@ -9,34 +11,30 @@ use Rattle.tex_defs.specs.declared.Meaning.TheVariants as means
 use Rattle.tex_defs.specs.declared.Seen.{Seen}
 use Rattle.tex_defs.specs.declared.Sizes.{Sizes}
 use Rattle.tex_defs.specs.declared.Token.{Token}
-use Rattle.plain_tokens.specs.Categories.{is_between}
 use Rattle.conditionals.specs.Open.{constant_test}
-use Rattle.conditionals.specs.Skipping.{first_conditional, or_primitive}
 use Rattle.rows.specs.declared.words.Phrase.TheVariants.{Command}
 use Rattle.rows.specs.declared.command.Call.{Call}
 use Rattle.plain_readings.specs.Readings.{Kind, Reads}
 use Rattle.reading_frames.specs.Views.{reading_kind}
 use Rattle.reading_frames.specs.Weights.{begun_weight}
 use Rattle.plain_machine.specs.States.{State, Move, Begun, Closed, FileEnds}
-use Rattle.plain_machine.specs.Plan.{Page, reported, called, input_met, is_expandable_primitive, job_in, put_characters, conditional_met, conditional_begun, ender_met}
+use Rattle.plain_machine.specs.Plan.{Page, reported, called, input_met, job_in, put_characters, conditional_met, conditional_begun, ender_met}
 use Rattle.engine_state.specs.declared.engine.Engine.{Engine}
 use Rattle.engine_state.specs.declared.outcome.Ruled.{Ruled}
 use Rattle.engine_state.specs.declared.outcome.Ruled.TheVariants as ruled
 use Rattle.engine_state.specs.Book.{Book}
-use Rattle.engine_state.specs.Rules.{Comes, Went, Halts}
+use Rattle.engine_state.specs.Rules.{Went, Halts}
 use Rattle.gullet.specs.declared.expansion.Expansion.{Expansion}
 use Rattle.gullet.specs.declared.expansion.Expansion.TheVariants as by
 use Rattle.gullet.specs.declared.expansion.Once.{Once}
 use Rattle.gullet.specs.declared.expansion.Once.TheVariants as once
 use Rattle.gullet.specs.declared.expansion.Once.TheVariants.{Expanded}
-use Rattle.gullet.specs.declared.expansion.Stepped.{Stepped}
-use Rattle.gullet.specs.declared.expansion.Stepped.TheVariants.{More, Skipped, Unexpandable, Over}
 
 -- a meaning that is expanded
 abbrev pub expands : {L : Type 0} → Meaning L → Bool
 expands means.Undefined = true
 expands (means.Macro long outer list) = true
-expands (means.Prim number) = is_expandable_primitive number
+expands (means.Prim number) = is_expanded number
 expands m = false
 
 -- a token is wanted as it stands
@@ -59,7 +57,7 @@ job_moves page k = Begun k ∷ (put_characters (job_in page.strings) ++ Closed �
 
 -- a primitive that is a conditional, or ends one or a part of it, and another, which a row reads
 abbrev pub row_moves : Page → Token → Call → (number : ℕ) → List Move
-row_moves page t c number = if is_between first_conditional or_primitive number then conditional_met page t c number else Begun (Reads (Command c)) ∷ []
+row_moves page t c number = if is_in_row class.Conditional number then conditional_met page t c number else Begun (Reads (Command c)) ∷ []
 
 -- by which a token comes to these moves, one that isn't expanded to others
 abbrev pub ExpandsTo : Expansion → Page → (others moves : List Move) → Type 0
@@ -109,45 +107,3 @@ abbrev pub once_by : Ruled → Once
 once_by ruled.Step = Expanded
 once_by ruled.Free = Expanded
 once_by (ruled.Halted o) = once.Over o
-
--- A STEP
-
--- a token that was handed on: where it stays nothing was done
-abbrev pub Expands : Sizes → Option Want → State → Engine → Book → World → World → List Move → Seen → Stepped → Type 0
-Expands sizes want s e' book w w' moves x More = Went sizes s e' w w' moves 0
-Expands sizes want s e' book w w' moves x Skipped = ⊥
-Expands sizes want s e' book w w' moves x (Unexpandable y) = Comes sizes want s e' book w w' moves y 0 × Stays want y
-Expands sizes want s e' book w w' moves x (Over o) = Halts sizes s e' book w w' moves o 0
-
--- one step
-abbrev pub Steps : Sizes → Option Want → State → Engine → Book → World → World → List Move → Stepped → Type 0
-Steps sizes want s e' book w w' moves More = Went sizes s e' w w' moves 1
-Steps sizes want s e' book w w' moves Skipped = Went sizes s e' w w' moves 0
-Steps sizes want s e' book w w' moves (Unexpandable x) = Comes sizes want s e' book w w' moves x 1 × Stays want x
-Steps sizes want s e' book w w' moves (Over o) = Halts sizes s e' book w w' moves o 1
-
--- no step was taken
-abbrev pub IsSkipped : Stepped → Type 0
-IsSkipped Skipped = Unit {0}
-IsSkipped n = ⊥
-
--- a token stays
-abbrev pub IsKept : Stepped → Type 0
-IsKept (Unexpandable x) = Unit {0}
-IsKept n = ⊥
-
-abbrev pub IsOver : Stepped → Type 0
-IsOver (Over o) = Unit {0}
-IsOver n = ⊥
-
--- the run has ended
-abbrev pub ends_run : Stepped → Bool
-ends_run (Over o) = true
-ends_run n = false
-
--- it has a step exactly where one comes next
-abbrev pub StepStepsIf : Stepped → Bool → Type 0
-StepStepsIf More b = b ≡ true
-StepStepsIf Skipped b = b ≡ false
-StepStepsIf (Unexpandable x) b = b ≡ true
-StepStepsIf (Over o) b = Unit {0}

@@ -18,7 +18,8 @@ ghost use Rattle.input_state.specs.Stored.{KeepsShared};
 ghost use Rattle.engine_state.specs.Clauses.{GoesFree, DoesSilently};
 ghost use Rattle.engine_state.specs.Stands.{Stands, SameFrames, page_of};
 ghost use Rattle.engine_state.specs.Rules.{Cuts};
-ghost use Rattle.engine_state.specs.Steps.{weight, pending_weight};
+ghost use Rattle.plain_machine.specs.Weights.{pending_weight};
+ghost use Rattle.engine_state.specs.Steps.{weight};
 ghost use Rattle.engine_state.specs.declared.broken.Broken.TheVariants as broken;
 ghost use Rattle.gullet.specs.Clauses.{RefusedAsAny};
 

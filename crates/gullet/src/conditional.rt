@@ -8,7 +8,8 @@ ghost use Rattle.plain_machine.specs.Plan.{chosen, conditional_begun, ender_met,
 ghost use Rattle.input_state.specs.Callings.{NotCalling};
 ghost use Rattle.engine_state.specs.Clauses.{GoesFree, CutsFree, GoesOnward, CutsOnward};
 ghost use Rattle.engine_state.specs.Stands.{SameFrames};
-ghost use Rattle.engine_state.specs.Steps.{pending_weight, weight, IsHalted};
+ghost use Rattle.plain_machine.specs.Weights.{pending_weight};
+ghost use Rattle.engine_state.specs.Steps.{weight, IsHalted};
 
 use crate::relax::put_behind_relax;
 use conditionals::{Aim, Ender, Met, Value, aim_of, constant_test, ender_number, on_fi_or_else};

@@ -1,45 +1,32 @@
 // A token is expanded where it can be.
-// *The TeXbook*, chapter 20; *TeX: The Program*, part 25 (`get_x_token`, `expand`).
-ghost use Rattle.std.specs.Prelude.{◌≡◌, ◌<◌, ◌≤◌, ◌+◌, IfOk, IfErr, OnOk, MatchResult, List, None, false, true};
-ghost use Rattle.plain_tokens.specs.Pending.{pulled};
+// *The TeXbook*, chapter 20; *TeX: The Program*, part 25 (`expand`).
+ghost use Rattle.std.specs.Prelude.{◌≡◌, ◌≤◌, ◌+◌, IfOk, IfErr, OnOk, MatchBool, MatchResult, List, [], None, false, true};
 ghost use Rattle.plain_readings.specs.Weights.{act_weight};
 ghost use Rattle.reading_frames.specs.Views.{reading_kind};
 ghost use Rattle.reading_frames.specs.Weights.{frames_weight, innermost_weight};
 ghost use Rattle.plain_machine.specs.States.{Move};
-ghost use Rattle.plain_machine.specs.Plan.{Page, call_of as plain_call, expanded, expansion as plain_expansion, input_met, is_expandable_primitive};
-ghost use Rattle.input_state.specs.Reads.{gives_step};
+ghost use Rattle.plain_machine.specs.Plan.{Page, call_of as plain_call, expanded, expansion as plain_expansion, input_met};
 ghost use Rattle.input_state.specs.Callings.{NotCalling};
-ghost use Rattle.engine_state.specs.Clauses.{GoesFree, CutsFree, CutsWhere, DoesWhere, Taking};
+ghost use Rattle.engine_state.specs.Clauses.{GoesFree, CutsFree, GoesOnward, CutsOnward};
 ghost use Rattle.engine_state.specs.CutReadings.{CutsIn};
-ghost use Rattle.engine_state.specs.Stands.{SameFrames, SameReadings, page_of};
-ghost use Rattle.engine_state.specs.Rules.{onward_of, enters_of, next_moves};
-ghost use Rattle.engine_state.specs.Steps.{weight, pending_weight};
+ghost use Rattle.engine_state.specs.Stands.{SameFrames};
+ghost use Rattle.engine_state.specs.Rules.{enters_of};
+ghost use Rattle.plain_machine.specs.Weights.{pending_weight};
+ghost use Rattle.engine_state.specs.Steps.{IsFree, IsHalted, weight};
 ghost use Rattle.gullet.specs.Clauses.{ExpandsSo};
-ghost use Rattle.gullet.specs.Stepping.{IsLight, ExpandsTo, is_expansion, expands, job_moves, row_moves, wants_raw, ExpandsOnce, IsExpanded, IsStayed, EndsRun, changes, once_by, Expands, Steps, StepStepsIf, IsSkipped, IsKept, IsOver, ends_run};
+ghost use Rattle.gullet.specs.Stepping.{IsLight, ExpandsTo, is_expansion, expands, job_moves, row_moves, wants_raw, ExpandsOnce, IsExpanded, IsStayed, EndsRun, Stays, changes, once_by};
 
 use crate::call_name::call_name;
 use crate::conditional::{begin_conditional, meet_ender};
 use crate::relax::put_behind_relax;
 use conditionals::{Ender, Part, part_of};
-use engine_state::{Broken, Engine, Made, Next, Ruled, name_of};
+use engine_state::{Broken, Engine, Made, Ruled, name_of};
+use prim_table::is_expanded;
 use reading_frames::Opening;
 use rows::{Call, Head, Phrase};
 use tex_defs::{Meaning, Seen, Token};
 use tex_syntax::{Outcome, Report, Want};
 use world_io::Sink;
-
-/// What a step came to.
-#[derive(Clone, Copy)]
-pub enum Stepped {
-    /// A step was taken: a token was expanded, or a line taken.
-    More,
-    /// No step: an invalid character was skipped, or the file has ended.
-    Skipped,
-    /// A token that isn't expanded: it can't be, or it is wanted as it stands.
-    Unexpandable(Seen),
-    /// The run has ended.
-    Over(Outcome),
-}
 
 /// What came of expanding a token once.
 #[derive(Clone, Copy)]
@@ -75,11 +62,6 @@ enum Expansion {
     Unexpandable,
 }
 
-/// The first number of the primitives that are expanded, and the last of the conditionals, which come behind them.
-const FIRST_EXPANDABLE: u16 = 54;
-
-const LAST_CONDITIONAL: u16 = 84;
-
 /// The number of `\csname`.
 const CSNAME: u16 = 56;
 
@@ -93,24 +75,19 @@ const INPUT: u16 = 63;
 const ENDINPUT: u16 = 64;
 
 /// Whether the reading that wants a token enters names: a raw one.
-fn enters_names(want: Option<Want>) -> bool
+#[inline(always)]
+pub fn enters_names(want: Option<Want>) -> bool
     ensures { result ≡ enters_of want }
 {
     matches!(want, Some(Want::Raw))
 }
 
 /// Whether a token is wanted as it stands, so that none is expanded.
+#[inline(always)]
 fn is_raw(want: Option<Want>) -> bool
     ensures { result ≡ wants_raw want }
 {
     matches!(want, Some(Want::Raw | Want::Unentered))
-}
-
-/// Whether it is a primitive that is expanded, or a conditional.
-fn is_expandable(number: u16) -> bool
-    ensures { result ≡ is_expandable_primitive number }
-{
-    (FIRST_EXPANDABLE..=LAST_CONDITIONAL).contains(&number)
 }
 
 /// The command that a token's name means, without prefixes.
@@ -156,12 +133,13 @@ fn primitive_expansion(token: Token, number: u16) -> Expansion
 }
 
 /// Whether a token of this meaning is expanded.
+#[inline(always)]
 fn expands(meaning: Meaning<()>) -> bool
     ensures { result ≡ expands meaning }
 {
     match meaning {
         Meaning::Undefined | Meaning::Macro { .. } => true,
-        Meaning::Prim(number) => is_expandable(number),
+        Meaning::Prim(number) => is_expanded(number),
         _ => false,
     }
 }
@@ -175,7 +153,7 @@ fn expansion_of(seen: Seen) -> Expansion
     match seen.meaning {
         Meaning::Undefined => Expansion::Undefined,
         Meaning::Macro { .. } => Expansion::Call(seen.token),
-        Meaning::Prim(number) if is_expandable(number) => primitive_expansion(seen.token, number),
+        Meaning::Prim(number) if is_expanded(number) => primitive_expansion(seen.token, number),
         _ => Expansion::Unexpandable,
     }
 }
@@ -285,73 +263,32 @@ fn once_behind(ruled: Ruled) -> Once
     }
 }
 
-/// A token that was handed on is expanded, if it can be and isn't wanted as it stands.
-fn expand<S: Sink>(
-    engine: &mut Engine,
-    out: &mut S,
-    want: Option<Want>,
-    seen: Seen,
-) -> Result<Stepped, Broken>
-    requires idle { engine.old.input.making ≡ None }
-    requires uncalled { wants_raw want ≡ false → engine.old.input.call ≡ NotCalling }
-    ensures rule { IfOk result (DoesWhere (Taking want) (λ sizes s e book w v moves stepped. Expands sizes want s e book w v moves seen stepped) engine.old engine.new (S.told out.old) (S.told out.new) (λ book. onward_of (page_of engine.old book) want book.work seen)) }
-    ensures err { IfErr result (CutsWhere (Taking want) engine.old engine.new (S.told out.old) (S.told out.new) (λ book. onward_of (page_of engine.old book) want book.work seen)) }
-    ensures kept { IfOk result (λ stepped. IsSkipped stepped → ⊥) }
-    ensures halts { IfOk result (λ stepped. IsOver stepped → SameFrames engine.old engine.new) }
-    ensures expanded { IfOk result (λ stepped. IsOver stepped → wants_raw want ≡ false) }
-    ensures stays { IfOk result (λ stepped. IsKept stepped → engine.new ≡ engine.old) }
-    ensures idle { OnOk result (engine.new.input.making ≡ None) }
+/// Whether a token is handed on as it stands: it is wanted so, or can't be expanded.
+#[inline(always)]
+pub fn stays(want: Option<Want>, seen: Seen) -> bool
+    ensures stays { MatchBool result (Stays want seen) (wants_raw want ≡ false) }
+    ensures expands { MatchBool result (Unit {0}) (expands seen.meaning ≡ true) }
 {
-    if is_raw(want) {
-        return Ok(Stepped::Unexpandable(seen));
-    }
-    // Most tokens of a text aren't expanded: known here, before `expand_once` is called, whose cases cost more.
-    if !expands(seen.meaning) {
-        return Ok(Stepped::Unexpandable(seen));
-    }
-    match expand_once(engine, out, seen)? {
-        Once::Expanded => Ok(Stepped::More),
-        Once::Stays => unreachable!(),
-        Once::Over(outcome) => Ok(Stepped::Over(outcome)),
-    }
+    is_raw(want) || !expands(seen.meaning)
 }
 
-/// Whether the run has stopped, by what a step came to.
-fn stops(stepped: &Result<Stepped, Broken>) -> bool
-    ensures { MatchResult stepped.now (λ stepped. result ≡ ends_run stepped) (λ _. result ≡ true) }
-{
-    matches!(stepped, Ok(Stepped::Over(_)) | Err(_))
-}
-
-/// Reads the next token, and expands it if it can be expanded and isn't wanted as it stands: at most one step.
+/// A token that can be expanded is.
 ///
 /// # Errors
 /// There is no room for what comes, or a write failed: the engine stands for the moment before.
-pub fn step<S: Sink>(
-    engine: &mut Engine,
-    out: &mut S,
-    want: Option<Want>,
-) -> Result<Stepped, Broken>
+pub fn expand<S: Sink>(engine: &mut Engine, out: &mut S, seen: Seen) -> Result<Ruled, Broken>
     requires idle { engine.old.input.making ≡ None }
-    requires uncalled { wants_raw want ≡ false → engine.old.input.call ≡ NotCalling }
-    requires running { engine.old.stopped ≡ false }
-    ensures light { IfOk result (λ stepped. IsSkipped stepped → weight engine.new < weight engine.old) }
-    ensures step { IfOk result (λ stepped. StepStepsIf stepped (gives_step (pulled engine.old.input.groups.now.categories engine.old.input.pending))) }
-    ensures rule { IfOk result (DoesWhere (Taking want) (λ sizes. Steps sizes want) engine.old engine.new (S.told out.old) (S.told out.new) (next_moves want engine.old)) }
-    ensures err { IfErr result (CutsWhere (Taking want) engine.old engine.new (S.told out.old) (S.told out.new) (next_moves want engine.old)) }
-    ensures halts { IfOk result (λ stepped. IsOver stepped → SameFrames engine.old engine.new) }
-    ensures stays { IfOk result (λ stepped. IsKept stepped → SameReadings engine.old engine.new) }
+    requires uncalled { engine.old.input.call ≡ NotCalling }
+    requires expands { expands seen.meaning ≡ true }
+    ensures rule { IfOk result (GoesOnward engine.old engine.new (S.told out.old) (S.told out.new) (λ page. expanded page seen [])) }
+    ensures err { IfErr result (CutsOnward engine.old engine.new (S.told out.old) (S.told out.new) (λ page. expanded page seen [])) }
+    ensures halts { IfOk result (λ ruled. IsHalted ruled → SameFrames engine.old engine.new) }
+    ensures on { IfOk result (λ ruled. IsFree ruled → ⊥) }
     ensures idle { OnOk result (engine.new.input.making ≡ None) }
-    ensures stopped { MatchResult result (λ stepped. engine.new.stopped ≡ ends_run stepped) (λ _. engine.new.stopped ≡ true) }
 {
-    match engine.next_token(out, enters_names(want))? {
-        Next::Token(seen) => {
-            let stepped = expand(engine, out, want, seen);
-            engine.stopped = stops(&stepped);
-            stepped
-        }
-        Next::Line => Ok(Stepped::More),
-        Next::Skipped => Ok(Stepped::Skipped),
-        Next::Over(outcome) => Ok(Stepped::Over(outcome)),
+    match expand_once(engine, out, seen)? {
+        Once::Expanded => Ok(Ruled::Step),
+        Once::Stays => unreachable!(),
+        Once::Over(outcome) => Ok(Ruled::Halted(outcome)),
     }
 }

@@ -3,7 +3,7 @@ ghost use Rattle.std.specs.Prelude.{◌≡◌, ◌++◌, OnOk, IfErr, None};
 ghost use Rattle.plain_machine.specs.Plan.{put_one, frozen_relax};
 ghost use Rattle.engine_state.specs.Clauses.{GoesFree, CutsFree};
 ghost use Rattle.engine_state.specs.Stands.{SameFrames};
-ghost use Rattle.engine_state.specs.Steps.{pending_weight};
+ghost use Rattle.plain_machine.specs.Weights.{pending_weight};
 
 use engine_state::{Broken, Engine};
 use tex_defs::{Frozen, Name, Token};

@@ -4,7 +4,7 @@ use Rattle.tex_defs.specs.declared.Token.{Token}
 use Rattle.tex_defs.specs.declared.Full.{Full}
 use Rattle.token_lists.specs.Table.{Entry, holders_at, holders_of, entry_at}
 use Rattle.token_lists.specs.Accounts.{none, Moves, Keeps, Covers}
-use Rattle.input_stack.specs.Puts.{Put, Item, without_ended, settled_top}
+use Rattle.input_stack.specs.Puts.{Put, Item, without_ended, unless_ended}
 use Rattle.input_stack.specs.WholeLevel.{WholeLevel}
 use Rattle.input_stack.specs.Pending.{Pending, with_puts, end_token_lists, put, plain_put, room, refusal, used_levels}
 use Rattle.input_stack.specs.View.{pending_in, held_in}
@@ -27,7 +27,7 @@ begun_pending old new ls g p a moves keeps is = pending_stays old new ls (joins 
 pub begun_read : (old new : List (Option Entry)) (ls : List WholeLevel) (g : ℕ → ℕ) → AreRead old ls → Moves old new none g → Keeps old new none → AreRead new ls
 begun_read old new ls g a moves keeps = read_stays old new ls (joins old new (held_in ls) g a.covers moves keeps) (λ h. omega (arith, a.covers h, moves h)) a
 
-top_twice : (p : Put) (xs : List Item) (below rest : List Put) → without_ended below ≡ below → without_ended (settled_top p xs below rest) ≡ settled_top p xs below rest
+top_twice : (p : Put) (xs : List Item) (below rest : List Put) → without_ended below ≡ below → without_ended (unless_ended p xs below rest) ≡ unless_ended p xs below rest
 top_twice p [] below rest is = is
 top_twice p (x ∷ xs) below rest is = refl
 

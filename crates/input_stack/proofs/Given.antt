@@ -7,7 +7,7 @@ use Rattle.tex_defs.specs.declared.Token.{Token}
 use Rattle.tex_defs.specs.declared.Full.{Full}
 use Rattle.token_lists.specs.Table.{Entry, tokens_at, holders_at}
 use Rattle.token_lists.specs.Accounts.{holds, Covers}
-use Rattle.input_stack.specs.Puts.{Put, Item, Text, First, Later, Gap, first, without_gaps, flat, next_item, later_of, argument_of, without_ended, settled_top, pulled, pulled_top}
+use Rattle.input_stack.specs.Puts.{Put, Item, Text, First, Later, Gap, first, without_gaps, flat, next_item, later_of, argument_of, without_ended, unless_ended, pulled, pulled_top}
 use Rattle.input_stack.specs.CallViews.{put_of_call, met, is_opening, opened, Shares, IsCountable}
 use Rattle.input_stack.specs.WholeLevel.{WholeLevel}
 use Rattle.input_stack.specs.WholeLevel as level
@@ -26,7 +26,7 @@ use Rattle.input_stack.proofs.Backs.{settle_twice}
 use Rattle.input_stack.proofs.Gaps.{next_top, pulled_is}
 use Rattle.input_stack.proofs.Tops.{no_levels}
 
-top_flat : (p : Put) (xs : List Item) (below rest : List Put) → flat below ≡ flat rest → flat (settled_top p xs below rest) ≡ xs ++ flat rest
+top_flat : (p : Put) (xs : List Item) (below rest : List Put) → flat below ≡ flat rest → flat (unless_ended p xs below rest) ≡ xs ++ flat rest
 top_flat p [] below rest is = is
 top_flat p (x ∷ xs) below rest is = refl
 
@@ -41,7 +41,7 @@ same_top : (p q : Put) (xs : List Item) (below rest : List Put) → q.list ≡ p
 same_top p q [] below rest a k b = refl
 same_top p q (x ∷ xs) below rest a k b = rw (a, k, b) refl
 
-top_pulled : (p : Put) (xs : List Item) (below rest : List Put) → pulled below ≡ pulled rest → pulled (settled_top p xs below rest) ≡ pulled_top p (without_gaps xs) (pulled rest) rest
+top_pulled : (p : Put) (xs : List Item) (below rest : List Put) → pulled below ≡ pulled rest → pulled (unless_ended p xs below rest) ≡ pulled_top p (without_gaps xs) (pulled rest) rest
 top_pulled p [] below rest is = is
 top_pulled p (x ∷ xs) below rest is = same_top p (record { list = p.list; body = p.body; arguments = p.arguments; reading = later_of x; items = x ∷ xs }) (without_gaps (x ∷ xs)) (pulled rest) rest refl refl refl
 

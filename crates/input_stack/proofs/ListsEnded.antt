@@ -4,7 +4,7 @@ use Rattle.std.proofs.lemmas.List.Elements.{All-head, All-tail}
 use Rattle.std.proofs.lemmas.List.Sums.{sum_by-cons}
 use Rattle.tex_defs.specs.declared.Token.{Token}
 use Rattle.token_lists.specs.Table.{Entry}
-use Rattle.input_stack.specs.Puts.{Put, Item, Text, is_empty, without_ended, settled_top, later_of, count_of, open_levels, open_levels_of, open_arguments, used, used_of, used_arguments, when_some}
+use Rattle.input_stack.specs.Puts.{Put, Item, Text, is_empty, without_ended, unless_ended, later_of, count_of, open_levels, open_levels_of, open_arguments, used, used_of, used_arguments, when_some}
 use Rattle.input_stack.specs.WholeLevel.{WholeLevel}
 use Rattle.input_stack.specs.WholeLevel as level
 use Rattle.input_stack.specs.Rest.{number, rest}
@@ -15,15 +15,15 @@ use Rattle.input_stack.specs.CallViews.{cells_in, put_of_call, IsSettled}
 use Rattle.input_stack.specs.View.{pending_in, put_of, in_front, level_open, open_in, level_arguments, arguments_of}
 use Rattle.input_stack.specs.Stacks.{IsUnfinished, AreUnfinished}
 
-pub finished_goes : (p : Put) (xs : List Item) (below rest : List Put) → is_empty xs ≡ true → settled_top p xs below rest ≡ below
+pub finished_goes : (p : Put) (xs : List Item) (below rest : List Put) → is_empty xs ≡ true → unless_ended p xs below rest ≡ below
 finished_goes p [] below rest is = refl
 finished_goes p (x ∷ xs) below rest is = cc
 
-text_stays : (n : ℕ) (ts : List Token) (below rest : List Put) → 0 < length ts → settled_top (record { list = n; body = false; arguments = []; reading = None; items = map Text ts }) (map Text ts) below rest ≡ record { list = n; body = false; arguments = []; reading = None; items = map Text ts } ∷ rest
+text_stays : (n : ℕ) (ts : List Token) (below rest : List Put) → 0 < length ts → unless_ended (record { list = n; body = false; arguments = []; reading = None; items = map Text ts }) (map Text ts) below rest ≡ record { list = n; body = false; arguments = []; reading = None; items = map Text ts } ∷ rest
 text_stays n [] below rest some = absurd (omega arith)
 text_stays n (t ∷ ts) below rest some = refl
 
-settled_same : (p : Put) (xs : List Item) (below rest : List Put) → p.items ≡ xs → IsSettled p.reading xs → settled_top p xs below rest ≡ p ∷ rest
+settled_same : (p : Put) (xs : List Item) (below rest : List Put) → p.items ≡ xs → IsSettled p.reading xs → unless_ended p xs below rest ≡ p ∷ rest
 settled_same p [] below rest at is = absurd is
 settled_same p (x ∷ xs) below rest at is = ap₂ (λ (o : Option ℕ) (ys : List Item). record { list = p.list; body = p.body; arguments = p.arguments; reading = o; items = ys } ∷ rest) (sym is) (sym at)
 
@@ -38,7 +38,7 @@ head_settle table (level.List r) ls some =
 head_settle table (level.Call c) ls is = settled_put (put_of_call table c) (pending_in table ls) is
 head_settle table (level.Source s) ls is = refl
 
-settled_to : (p p' : Put) (xs : List Item) (below rest : List Put) → p'.list ≡ p.list → p'.body ≡ p.body → p'.arguments ≡ p.arguments → p'.items ≡ xs → IsSettled p'.reading xs → settled_top p xs below rest ≡ p' ∷ rest
+settled_to : (p p' : Put) (xs : List Item) (below rest : List Put) → p'.list ≡ p.list → p'.body ≡ p.body → p'.arguments ≡ p.arguments → p'.items ≡ xs → IsSettled p'.reading xs → unless_ended p xs below rest ≡ p' ∷ rest
 settled_to p p' [] below rest a k b at is = absurd is
 settled_to p p' (x ∷ xs) below rest a k b at is =
     ap₂ (λ (n : ℕ) (ns : List (Option ℕ)). record { list = n; body = p.body; arguments = ns; reading = later_of x; items = x ∷ xs } ∷ rest) (sym a) (sym b)
@@ -96,7 +96,7 @@ levels_used table (level.Source s ∷ ls) a =
     let q = pending_in table ls in
     omega (arith, levels_used table ls (All-tail (IsUnfinished table) (level.Source s) ls a), open_cons (level.Source s) ls, sum_by-cons (λ (b : Below). 1 + used b.puts) (record { source = s; puts = q.puts }) q.sources)
 
-top_used : (p : Put) (xs : List Item) (below rest : List Put) → used below ≡ used rest → used (settled_top p xs below rest) ≡ used_of xs + used rest
+top_used : (p : Put) (xs : List Item) (below rest : List Put) → used below ≡ used rest → used (unless_ended p xs below rest) ≡ used_of xs + used rest
 top_used p [] below rest is = omega (arith, is)
 top_used p (x ∷ xs) below rest is = sum_by-cons (λ (q : Put). used_of q.items) (record { list = p.list; body = p.body; arguments = p.arguments; reading = later_of x; items = x ∷ xs }) rest
 
@@ -149,7 +149,7 @@ arguments_used table (level.Source s ∷ ls) u =
     let q = pending_in table ls in
     omega (arith, arguments_used table ls (All-tail (IsUnfinished table) (level.Source s) ls u), arguments_cons (level.Source s) ls, sum_by-cons (λ (b : Below). used_arguments b.puts) (record { source = s; puts = q.puts }) q.sources)
 
-top_arguments : (p : Put) (xs : List Item) (below rest : List Put) → used_arguments below ≡ used_arguments rest → used_arguments (settled_top p xs below rest) ≡ when_some xs (length p.arguments) + used_arguments rest
+top_arguments : (p : Put) (xs : List Item) (below rest : List Put) → used_arguments below ≡ used_arguments rest → used_arguments (unless_ended p xs below rest) ≡ when_some xs (length p.arguments) + used_arguments rest
 top_arguments p [] below rest is = omega (arith, is)
 top_arguments p (x ∷ xs) below rest is = sum_by-cons (λ (q : Put). when_some q.items (length q.arguments)) (record { list = p.list; body = p.body; arguments = p.arguments; reading = later_of x; items = x ∷ xs }) rest
 

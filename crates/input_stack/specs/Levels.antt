@@ -1,7 +1,7 @@
 -- What one level gives.
 use Rattle.std.specs.Prelude.{◌≡◌, ℕ, ◌≤◌, List, [], ◌∷◌, Option, None, Some, Bool, false, map}
 use Rattle.plain_tokens.specs.Lex as plain
-use Rattle.line_lexer.specs.Answers.{state_of, rest_of, looks_of}
+use Rattle.line_lexer.specs.Answers.{rest_of, looks_of}
 use Rattle.line_lexer.specs.declared.Ahead.{Ahead}
 use Rattle.line_lexer.specs.declared.Ahead.TheVariants as ahead
 use Rattle.tex_defs.specs.declared.Token.{Token}
@@ -107,7 +107,7 @@ when_met (Some x) = Some ahead.Token
 abbrev pub level_looks : List (Option Entry) → List ℕ → List ℕ → WholeLevel → Option Ahead
 level_looks table categories bytes (level.List r) = when_left (rest table r)
 level_looks table categories bytes (level.Call c) = when_met (first (without_gaps (items_of table c)))
-level_looks table categories bytes (level.Source s) = Some (looks_of (plain.lexed categories (state_of s.line.state) (rest_of bytes s.line)))
+level_looks table categories bytes (level.Source s) = Some (looks_of (plain.lexed categories s.line.state (rest_of bytes s.line)))
 
 -- a list or a call is on top of which nothing is left but gaps
 abbrev pub is_top_passed : List (Option Entry) → List WholeLevel → Bool

@@ -8,7 +8,7 @@ use Rattle.plain_tokens.specs.Lex as plain
 use Rattle.input_stack.specs.Puts.{Item, Text, First, Later, Gap, next_item, pulled}
 use Rattle.line_lexer.specs.declared.Lexed.{Lexed}
 use Rattle.line_lexer.specs.declared.Lexed.TheVariants.{End}
-use Rattle.line_lexer.specs.Answers.{state_of, rest_of, given, GoesOn, looks_of}
+use Rattle.line_lexer.specs.Answers.{rest_of, given, GoesOn, looks_of}
 use Rattle.line_lexer.specs.declared.Ahead.{Ahead}
 use Rattle.line_lexer.specs.declared.Ahead.TheVariants as ahead
 use Rattle.input_stack.specs.declared.level.Source.{Source}
@@ -37,7 +37,7 @@ pub record LineGives (categories old new : List ℕ) (s s' : Source) (result : P
   pub lexed : Lexed
   pub answer : result ≡ answer_of s.id lexed
   pub same : s'.id ≡ s.id
-  pub gives : given new (state_of s'.line.state) (rest_of new s'.line) lexed ≡ plain.lexed categories (state_of s.line.state) (rest_of old s.line)
+  pub gives : given new s'.line.state (rest_of new s'.line) lexed ≡ plain.lexed categories s.line.state (rest_of old s.line)
   pub goes_on : GoesOn s.line s'.line lexed
   pub before : take s.line.at new ≡ take s.line.at old
   pub behind : drop s.line.end new ≡ drop s.line.end old
@@ -85,7 +85,7 @@ IsInBuffer (b ∷ bs) n = (b.source.line.at ≤ b.source.line.end) × (b.source.
 
 abbrev pub line_looks : List ℕ → List ℕ → List Below → Ahead
 line_looks categories bytes [] = ahead.End
-line_looks categories bytes (b ∷ bs) = looks_of (plain.lexed categories (state_of b.source.line.state) (rest_of bytes b.source.line))
+line_looks categories bytes (b ∷ bs) = looks_of (plain.lexed categories b.source.line.state (rest_of bytes b.source.line))
 
 abbrev pub item_looks : List ℕ → List ℕ → List Below → Option Item → Ahead
 item_looks categories bytes bs (Some x) = ahead.Token

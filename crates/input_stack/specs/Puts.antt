@@ -82,15 +82,15 @@ lists_of p = p.list ∷ numbers (p.reading ∷ p.arguments)
 
 -- READ
 
--- without what is finished in front
-abbrev pub settled_top : Put → List Item → List Put → List Put → List Put
-settled_top p [] below rest = below
-settled_top p (x ∷ xs) below rest = record { list = p.list; body = p.body; arguments = p.arguments; reading = later_of x; items = x ∷ xs } ∷ rest
+-- this list on those beneath, or what is left of them where it has ended
+abbrev pub unless_ended : Put → List Item → List Put → List Put → List Put
+unless_ended p [] below rest = below
+unless_ended p (x ∷ xs) below rest = record { list = p.list; body = p.body; arguments = p.arguments; reading = later_of x; items = x ∷ xs } ∷ rest
 
--- A finished Put stays, without items, until it is settled: as the next reading or the next push begins.
+-- A finished Put stays, without items, until it is ended: as the next reading or the next push begins.
 abbrev pub without_ended : List Put → List Put
 without_ended [] = []
-without_ended (p ∷ ps) = settled_top p p.items (without_ended ps) ps
+without_ended (p ∷ ps) = unless_ended p p.items (without_ended ps) ps
 
 abbrev pub without_gaps : List Item → List Item
 without_gaps [] = []

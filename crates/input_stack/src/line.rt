@@ -1,8 +1,9 @@
 ghost use Rattle.std.specs.Prelude.{◌≡◌, ◌+◌, ◌≤◌, ◌++◌, length, take, drop, option_to_list};
 ghost use Rattle.line_lexer.specs.Answers.{rest_of, span};
-ghost use Rattle.line_lexer.specs.declared.LineState.TheVariants.{NewLine};
+ghost use Rattle.plain_tokens.specs.declared.line_state.LineState.TheVariants.{NewLine};
 
-use line_lexer::{Line, LineState};
+use line_lexer::Line;
+use plain_tokens::LineState;
 
 /// The line that stands in a buffer from one byte to before another, at its front, as a new line. Its end character,
 /// if it gets one, is written behind it: the value of `\endlinechar` when the line is taken.

@@ -647,12 +647,12 @@ impl InputStack {
     {
         match self.quick(lists) {
             Some(token) => Ok(Pulled::Token(token)),
-            None => self.pull_settled(lists, bytes, categories),
+            None => self.pull_behind_ended(lists, bytes, categories),
         }
     }
 
     // What is next, where it may be that lists have to go first, that a level opens, or that the line gives it.
-    fn pull_settled(
+    fn pull_behind_ended(
         &mut self,
         lists: &mut Lists,
         bytes: &mut [u8],

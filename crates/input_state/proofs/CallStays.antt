@@ -20,7 +20,6 @@ use Rattle.macro_call.specs.declared.scan.ArgScan.{ArgScan}
 use Rattle.macro_call.specs.Cursors.{IsOn, delimiter_at}
 use Rattle.macro_call.specs.Holds.{present_holds}
 use Rattle.macro_call.specs.Listed.{AreListed}
-use Rattle.macro_call.specs.Modes.{par_mode}
 use Rattle.macro_call.specs.PlainScans.{Scan}
 use Rattle.macro_call.specs.Scans as scans
 use Rattle.macro_call.specs.Stages.{Stage, IsStage, stage_of}
@@ -82,7 +81,7 @@ module _ (old new : List (Option Entry)) (scan : ArgScan) (s : Stay old new (sca
 
   pub scan_stays : scans.scan_of new scan ≡ scans.scan_of old scan
   scan_stays =
-      ap₂ (λ (o : Option Stage) (us : List (List Token)). let k : Scan = record { at = scan.cursor.index; mode = par_mode scan.mode; braced = scan.braced; present = o; args = us } in k)
+      ap₂ (λ (o : Option Stage) (us : List (List Token)). let k : Scan = record { at = scan.cursor.index; mode = scan.mode; braced = scan.braced; present = o; args = us } in k)
       (same_present scan.present refl) (args_stay old new scan.args args_part)
 
   building_stays : (p : Present) → scan.present ≡ Some p → IsBuilding old p.build → IsBuilding new p.build

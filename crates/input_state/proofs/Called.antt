@@ -9,7 +9,8 @@ use Rattle.tex_defs.specs.declared.Full.{Full}
 use Rattle.tex_defs.specs.declared.Sizes.{Sizes}
 use Rattle.tex_defs.specs.declared.Meaning.{Meaning}
 use Rattle.tex_defs.specs.declared.Meaning.TheVariants as means
-use Rattle.plain_tokens.specs.Arguments.{ParMode, Tok, arguments, begins_with_place, start_of}
+use Rattle.plain_tokens.specs.declared.par_mode.ParMode.{ParMode}
+use Rattle.plain_tokens.specs.Arguments.{Tok, arguments, begins_with_place, start_of}
 use Rattle.plain_tokens.specs.Meanings.{name_meaning}
 use Rattle.plain_tokens.specs.Tables.{lists_words, list_words, memory, refused}
 use Rattle.token_lists.specs.declared.Build.{Build}
@@ -22,7 +23,6 @@ use Rattle.macro_call.specs.declared.scan.ArgScan.{ArgScan}
 use Rattle.macro_call.specs.declared.ask.CallAsk.{CallAsk}
 use Rattle.macro_call.specs.declared.ask.CallAsk.TheVariants as ask
 use Rattle.macro_call.specs.Stages.{stage_of}
-use Rattle.macro_call.specs.Modes.{par_mode}
 use Rattle.macro_call.specs.PlainScans.{Scan, first_scan, resume_scan, with_work, places_left}
 use Rattle.macro_call.specs.Scans.{Answers, asks_brace, IsCutShort, IsSound as IsSoundScan, IsInPlace, scan_of, scan_holds}
 use Rattle.macro_call.proofs.Resumed.{has_lists}
@@ -127,11 +127,11 @@ module _ (table after : List (Option Entry)) (id : ℕ) (name : Name) (scan next
       | inl g ↦ InGrowth (record { was = g.was; front = g.part.front; behind = g.part.behind; before = g.before; whole = g.part.whole; some = g.part.some; after = g.scan ∙ ap (λ (ts : List Token). with_work (scan_of table scan) ts) g.part.grown })
       | inr b ↦ Between (record {
         none = ap (λ (p : Option Present). option_map (λ q. stage_of after q) p) b.none;
-        mode = ap par_mode b.mode;
+        mode = b.mode;
         unbraced = b.unbraced;
         args = b.args;
         due = b.due;
-        same = λ fed. b.same fed ∙ ap (λ (ts : List Token). arguments (par_mode next.mode) (args_in after next.args) (places_left (args_in after next.args) (drop next.cursor.index ts)) fed) (c.kept.tokens id sound.outside);
+        same = λ fed. b.same fed ∙ ap (λ (ts : List Token). arguments next.mode (args_in after next.args) (places_left (args_in after next.args) (drop next.cursor.index ts)) fed) (c.kept.tokens id sound.outside);
       })
     ],
   )

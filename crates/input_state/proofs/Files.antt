@@ -4,7 +4,7 @@ use Rattle.std.specs.Prelude.{IfOk, IfErr, OnErr, MatchResult, None, Some, Bool,
 use Rattle.tex_defs.specs.declared.Token.{Token}
 use Rattle.tex_defs.specs.declared.Full.{Full}
 use Rattle.tex_defs.specs.declared.Sizes.{Sizes}
-use Rattle.plain_tokens.specs.Puts.{Item, Put, without_ended, settled_top, passed, passed_top, without_gaps, top_item}
+use Rattle.plain_tokens.specs.Puts.{Item, Put, without_ended, unless_ended, passed, passed_top, without_gaps, top_item}
 use Rattle.plain_tokens.specs.Pending.{Pending, Progress, Begun, Closed, end_token_lists, with_puts, all_puts, pulled, from_file, from_begun, takes_file}
 use Rattle.plain_tokens.specs.Pending as plain
 use Rattle.plain_tokens.specs.Meanings.{is_listed}
@@ -37,9 +37,9 @@ file_settled p Closed = refl
 settled_line : (p : Pending) → next_line (end_token_lists p) ≡ next_line p
 settled_line p = refl
 
-top_twice : (p : Put) (xs : List Item) (below rest : List Put) → p.items ≡ xs → without_ended below ≡ below → without_ended (settled_top p xs below rest) ≡ settled_top p xs below rest
+top_twice : (p : Put) (xs : List Item) (below rest : List Put) → p.items ≡ xs → without_ended below ≡ below → without_ended (unless_ended p xs below rest) ≡ unless_ended p xs below rest
 top_twice p [] below rest is same = same
-top_twice p (x ∷ xs) below rest is same = ap (λ (ys : List Item). settled_top p ys (without_ended rest) rest) is
+top_twice p (x ∷ xs) below rest is same = ap (λ (ys : List Item). unless_ended p ys (without_ended rest) rest) is
 
 puts_twice : (ps : List Put) → without_ended (without_ended ps) ≡ without_ended ps
 puts_twice [] = refl
@@ -48,7 +48,7 @@ puts_twice (p ∷ ps) = top_twice p p.items (without_ended ps) ps refl (puts_twi
 pub settled_twice : (p : Pending) → end_token_lists (end_token_lists p) ≡ end_token_lists p
 settled_twice p = ap (λ (ps : List Put). with_puts ps p) (puts_twice p.puts)
 
-top_passed : (p : Put) (xs : List Item) (below rest : List Put) → p.items ≡ xs → passed below ≡ passed rest → passed (settled_top p xs below rest) ≡ passed_top p (without_gaps xs) (passed rest) rest
+top_passed : (p : Put) (xs : List Item) (below rest : List Put) → p.items ≡ xs → passed below ≡ passed rest → passed (unless_ended p xs below rest) ≡ passed_top p (without_gaps xs) (passed rest) rest
 top_passed p [] below rest is same = same
 top_passed p (x ∷ xs) below rest is same = ap (λ (ys : List Item). passed_top p (without_gaps ys) (passed rest) rest) is
 

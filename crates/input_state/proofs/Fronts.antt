@@ -7,7 +7,7 @@ use Rattle.tex_defs.specs.declared.Token.{Token}
 use Rattle.plain_tokens.specs.Puts as plain
 use Rattle.plain_tokens.specs.Pending.{read_on}
 use Rattle.token_lists.specs.Table.{Entry, tokens_at}
-use Rattle.input_stack.specs.Puts.{Put, Item, Text, First, Later, Gap, later_of, count_of, used, used_of, without_ended, settled_top, put_top, put_in_front, first, flat, without_gaps, has_item, next_item, pulled, pulled_top}
+use Rattle.input_stack.specs.Puts.{Put, Item, Text, First, Later, Gap, later_of, count_of, used, used_of, without_ended, unless_ended, put_top, put_in_front, first, flat, without_gaps, has_item, next_item, pulled, pulled_top}
 use Rattle.input_stack.specs.Pending.{plain_put}
 use Rattle.input_stack.specs.Pulls.{token_in}
 use Rattle.input_state.specs.HeldLists as held
@@ -60,13 +60,13 @@ front_levels table (p ∷ ps) =
 
 -- FINISHED LISTS
 
-top_settled : (table : List (Option Entry)) (p : Put) (xs : List Item) (below rest : List Put) → p.items ≡ xs → fronts table (settled_top p xs below rest) ≡ plain.settled_top (front table p) (map plain_item xs) (fronts table below) (fronts table rest)
+top_settled : (table : List (Option Entry)) (p : Put) (xs : List Item) (below rest : List Put) → p.items ≡ xs → fronts table (unless_ended p xs below rest) ≡ plain.unless_ended (front table p) (map plain_item xs) (fronts table below) (fronts table rest)
 top_settled table p [] below rest is = refl
 top_settled table p (x ∷ xs) below rest is = ap (λ (ys : List Item). record { list = whole_of p.body p.list (tokens_at table p.list); arguments = map (argument_text table) p.arguments; items = map plain_item ys } ∷ fronts table rest) (sym is)
 
 pub fronts_settled : (table : List (Option Entry)) (ps : List Put) → fronts table (without_ended ps) ≡ plain.without_ended (fronts table ps)
 fronts_settled table [] = refl
-fronts_settled table (p ∷ ps) = top_settled table p p.items (without_ended ps) ps refl ∙ ap (λ (qs : List plain.Put). plain.settled_top (front table p) (map plain_item p.items) qs (fronts table ps)) (fronts_settled table ps)
+fronts_settled table (p ∷ ps) = top_settled table p p.items (without_ended ps) ps refl ∙ ap (λ (qs : List plain.Put). plain.unless_ended (front table p) (map plain_item p.items) qs (fronts table ps)) (fronts_settled table ps)
 
 -- A LIST MORE
 

@@ -9,7 +9,8 @@ use Rattle.plain_tokens.specs.Puts.{Put, list_of_tokens}
 use Rattle.plain_tokens.specs.Tables.{list_words, lists_words}
 use Rattle.equivalents.specs.Holding.{lists_held, shared_words}
 use Rattle.plain_tokens.specs.Arguments as arg
-use Rattle.plain_tokens.specs.Arguments.{ParMode, Answer, Mismatch, Tok, arguments, arguments_in, work_in, behind, call, start_of, places_of, case_at, same, begins_with_place}
+use Rattle.plain_tokens.specs.declared.par_mode.ParMode.{ParMode}
+use Rattle.plain_tokens.specs.Arguments.{Answer, Mismatch, Tok, arguments, arguments_in, work_in, behind, call, start_of, places_of, case_at, same, begins_with_place}
 use Rattle.macro_call.specs.Stages.{Stage, kept_in, read_in}
 use Rattle.macro_call.specs.Growths.{target_by}
 use Rattle.macro_call.specs.PlainScans.{Scan, scan_work, resume_scan, resume_at, places_behind, first_scan, first_by}

@@ -14,7 +14,7 @@ use Rattle.equivalents.specs.Groups.{Groups}
 use Rattle.equivalents.specs.Holding.{lists_held, shared_words}
 use Rattle.input_state.specs.FileLeft.{FilesLeft}
 use Rattle.input_state.specs.HeldLists as held
-use Rattle.input_state.specs.HeldLists.{HeldLists, KeepsHeld, words_held, covered_puts, puts_held, settle_held, level_held, gathered_held, pending_of}
+use Rattle.input_state.specs.HeldLists.{HeldLists, KeepsHeld, words_held, covered_puts, puts_held, without_ended_held, level_held, gathered_held, pending_of}
 use Rattle.input_state.specs.InputViews.{stored_of, IsTied}
 use Rattle.input_state.specs.Stored.{Stored, KeepsShared, words, call_refusal, put_refusal}
 use Rattle.input_state.specs.Counted.{HaveHolders, AreCounted}
@@ -72,14 +72,14 @@ module _ (h : HeldLists) (b : List ℕ) (f : FilesLeft) (s : Stored) (is : store
     level_refused = ap (λ (d : Demand). refused h.sizes (d ∷ [])) (sym (level_is h b f.files f.next same_length)) ∙ ap (λ (v : Stored). refused v.sizes (level v.pending ∷ [])) is
 
     -- the same, once the finished lists in front have gone
-    settled_level : level (pending_of (settle_held h) b f.files f.next) ≡ level_held (settle_held h)
-    settled_level = level_is (settle_held h) b f.files f.next same_length
+    settled_level : level (pending_of (without_ended_held h) b f.files f.next) ≡ level_held (without_ended_held h)
+    settled_level = level_is (without_ended_held h) b f.files f.next same_length
 
     pub call_refused : (p : Put) → held.call_refusal p h ≡ call_refusal p s
     call_refused p = ap (λ (d : Demand). refused h.sizes (when_called p.items d)) (sym settled_level) ∙ ap (call_refusal p) is
 
-    parameters_are : (n : ℕ) → ◌≡◌ {A = Demand} (record { table = ParameterStackSize; used = put_parameters (puts_held (settle_held h)); need = n }) (record { table = ParameterStackSize; used = put_parameters (all_puts (pending_of (settle_held h) b f.files f.next)); need = n })
-    parameters_are n = ap (λ (ps : List Put). let d : Demand = record { table = ParameterStackSize; used = put_parameters ps; need = n } in d) (sym (all_puts_are (settle_held h) b f.files f.next))
+    parameters_are : (n : ℕ) → ◌≡◌ {A = Demand} (record { table = ParameterStackSize; used = put_parameters (puts_held (without_ended_held h)); need = n }) (record { table = ParameterStackSize; used = put_parameters (all_puts (pending_of (without_ended_held h) b f.files f.next)); need = n })
+    parameters_are n = ap (λ (ps : List Put). let d : Demand = record { table = ParameterStackSize; used = put_parameters ps; need = n } in d) (sym (all_puts_are (without_ended_held h) b f.files f.next))
 
     pub put_refused : (p : Put) → held.put_refusal p h ≡ put_refusal p s
     put_refused p =

@@ -9,7 +9,7 @@ use Rattle.token_lists.specs.Accounts.{holds}
 use Rattle.plain_tokens.specs.Puts.{list_of_tokens}
 use Rattle.plain_tokens.specs.Tables.{put_words, whole_words, argument_words, list_words, lists_words}
 use Rattle.token_lists.specs.Table.{Entry, tokens_at}
-use Rattle.input_stack.specs.Puts.{Put, Item, Text, First, Later, Gap, argument_of, later_of, numbers, used_of, without_ended, settled_top, put_top, put_in_front, without_gaps, pulled, pulled_top}
+use Rattle.input_stack.specs.Puts.{Put, Item, Text, First, Later, Gap, argument_of, later_of, numbers, used_of, without_ended, unless_ended, put_top, put_in_front, without_gaps, pulled, pulled_top}
 use Rattle.input_stack.specs.Pending.{Pending, Below, end_token_lists, put, listed_put, used_levels, times}
 use Rattle.input_stack.proofs.Kept.{holds_itself}
 use Rattle.input_state.specs.HeldLists.{Covered}
@@ -34,7 +34,7 @@ later_is cells (First n t) is = tt
 later_is cells (Later n t) is = is
 later_is cells Gap is = tt
 
-settled_is : (p : Put) (xs : List Item) (below rest : List Put) → AreOf p.arguments xs → AreFronts below → AreFronts rest → AreFronts (settled_top p xs below rest)
+settled_is : (p : Put) (xs : List Item) (below rest : List Put) → AreOf p.arguments xs → AreFronts below → AreFronts rest → AreFronts (unless_ended p xs below rest)
 settled_is p [] below rest a b c = b
 settled_is p (x ∷ xs) below rest a b c = (record { reading = later_is p.arguments x a.0; items = a }, c)
 

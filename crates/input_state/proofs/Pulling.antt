@@ -3,6 +3,8 @@ use Rattle.std.proofs.Common.{◌≡◌, ◌≢◌, ℕ, ◌+◌, ◌<◌, ◌�
 use Rattle.std.specs.Prelude.{OnErr, MatchResult}
 use Rattle.tex_defs.specs.declared.Full.{Full}
 use Rattle.tex_defs.specs.declared.Sizes.{Sizes}
+use Rattle.plain_tokens.specs.declared.line_state.LineState.{LineState}
+use Rattle.plain_tokens.specs.declared.line_state.LineState.TheVariants.{NewLine}
 use Rattle.plain_tokens.specs.Lex as lex
 use Rattle.plain_tokens.specs.Lex.{lexed}
 use Rattle.plain_tokens.specs.Puts as lists
@@ -12,7 +14,7 @@ use Rattle.line_lexer.specs.declared.Line.{Line}
 use Rattle.line_lexer.specs.declared.Lexed.{Lexed}
 use Rattle.line_lexer.specs.declared.Lexed.TheVariants as lexed_as
 use Rattle.line_lexer.specs.declared.Ahead.TheVariants as ahead
-use Rattle.line_lexer.specs.Answers.{state_of, rest_of, span, given, looks_of, Takes}
+use Rattle.line_lexer.specs.Answers.{rest_of, span, given, looks_of, Takes}
 use Rattle.token_lists.specs.Table.{Entry, holders_at}
 use Rattle.input_stack.specs.CallViews.{IsCountable}
 use Rattle.input_stack.specs.Puts.{Put, Item, Text, First, Later, Gap, next_item, pulled, without_ended}
@@ -41,12 +43,12 @@ use Rattle.input_state.specs.declared.answer.Pulled.TheVariants as answer
 
 -- WHAT COMES NEXT
 
-nothing_left : (c : List ℕ) (state : lex.LineState) → lexed c state [] ≡ lex.UsedUp
+nothing_left : (c : List ℕ) (state : LineState) → lexed c state [] ≡ lex.UsedUp
 unfolding lexed
 nothing_left c state = refl
 
 line_ahead : (t : List (Option Entry)) (c b : List ℕ) (bs : List Below) → line_looks c b bs ≡ looks_of (lexed c (line_state (covers t bs)) (line_rest b (covers t bs)))
-line_ahead t c b [] = sym (ap looks_of (nothing_left c lex.NewLine))
+line_ahead t c b [] = sym (ap looks_of (nothing_left c NewLine))
 line_ahead t c b (x ∷ xs) = refl
 
 module _ (t s : List (Option Entry)) (c b : List ℕ) (ls : List WholeLevel) (p : plain.Pending) (puts : p.puts ≡ fronts t (pending_in s ls).puts) (line : p.line ≡ line_rest b (covers t (pending_in s ls).sources)) (state : p.lex ≡ line_state (covers t (pending_in s ls).sources)) where
@@ -54,7 +56,7 @@ module _ (t s : List (Option Entry)) (c b : List ℕ) (ls : List WholeLevel) (p 
   front_is ps e = ap (λ (qs : List lists.Put). front_ahead c p (lists.passed qs)) puts ∙ ap (front_ahead c p) e
 
   line_is : line_looks c b (pending_in s ls).sources ≡ front_ahead c p []
-  line_is = line_ahead t c b (pending_in s ls).sources ∙ ap₂ (λ (x : lex.LineState) (l : List ℕ). looks_of (lexed c x l)) (sym state) (sym line)
+  line_is = line_ahead t c b (pending_in s ls).sources ∙ ap₂ (λ (x : LineState) (l : List ℕ). looks_of (lexed c x l)) (sym state) (sym line)
 
   pub item_ahead : (o : Option Item) → next_item (pending_in s ls).puts ≡ o → item_looks c b (pending_in s ls).sources o ≡ ahead_of c p
   item_ahead None is = line_is ∙ sym (front_is [] (next_none t (pending_in s ls).puts is))
@@ -101,7 +103,7 @@ line_more o lexed_as.Par ne = tt
 line_more o lexed_as.Invalid ne = tt
 line_more o lexed_as.End ne = absurd (ne refl)
 
-line_reads : (sizes : Sizes) (p : plain.Pending) (d : List ℕ) (o : Option InId) (x : Lexed) (at next : ℕ) (state : lex.LineState) (left : List ℕ) → (x ≡ lexed_as.End → ⊥) → Takes at next x → next ≤ length d →
+line_reads : (sizes : Sizes) (p : plain.Pending) (d : List ℕ) (o : Option InId) (x : Lexed) (at next : ℕ) (state : LineState) (left : List ℕ) → (x ≡ lexed_as.End → ⊥) → Takes at next x → next ≤ length d →
     Gives (plain.from_line p (given d state left x)) (answers.answer_of (Ok (answer_of o x))) p (plain.on_line left state p) d
 line_reads sizes p d o (lexed_as.Char category code) at next state left ne takes within = record { lexeme = lex.Character category code; is = refl; pulls = refl }
 line_reads sizes p d o (lexed_as.Active code) at next state left ne takes within = record { lexeme = lex.ActiveName code; is = refl; pulls = refl }
@@ -113,23 +115,23 @@ line_reads sizes p d o lexed_as.Invalid at next state left ne takes within = ref
 line_reads sizes p d o lexed_as.End at next state left ne takes within = absurd (ne refl)
 
 -- the end is where the line is used up
-not_end : (c b d : List ℕ) (l l' : Line) (x : Lexed) → given d (state_of l'.state) (rest_of d l') x ≡ lexed c (state_of l.state) (rest_of b l) → looks_of (lexed c (state_of l.state) (rest_of b l)) ≢ ahead.End → x ≡ lexed_as.End → ⊥
-not_end c b d l l' x gives ne is = ne (ap looks_of (sym gives ∙ ap (given d (state_of l'.state) (rest_of d l')) is))
+not_end : (c b d : List ℕ) (l l' : Line) (x : Lexed) → given d l'.state (rest_of d l') x ≡ lexed c l.state (rest_of b l) → looks_of (lexed c l.state (rest_of b l)) ≢ ahead.End → x ≡ lexed_as.End → ⊥
+not_end c b d l l' x gives ne is = ne (ap looks_of (sym gives ∙ ap (given d l'.state (rest_of d l')) is))
 
 -- the source on top gives this, over what is pending otherwise
 module _ (c b d : List ℕ) (sizes : Sizes) (p : plain.Pending) (front_none : lists.passed p.puts ≡ []) where
-  source_reads : (s s' : Source) (r : Given) → LineGives c b d s s' r → p.line ≡ rest_of b s.line → p.lex ≡ state_of s.line.state → ahead_of c p ≢ ahead.End → s.line.end ≤ length d → AreReadersAt c d sizes p (plain.on_line (rest_of d s'.line) (state_of s'.line.state) p) (Ok r)
+  source_reads : (s s' : Source) (r : Given) → LineGives c b d s s' r → p.line ≡ rest_of b s.line → p.lex ≡ s.line.state → ahead_of c p ≢ ahead.End → s.line.end ≤ length d → AreReadersAt c d sizes p (plain.on_line (rest_of d s'.line) s'.line.state p) (Ok r)
   source_reads s s' r g line state more within =
       let x = g.lexed in
-      let now : lexed c p.lex p.line ≡ lexed c (state_of s.line.state) (rest_of b s.line) = ap₂ (λ (k : lex.LineState) (l : List ℕ). lexed c k l) state line in
-      let ahead_is : ahead_of c p ≡ looks_of (lexed c (state_of s.line.state) (rest_of b s.line)) = ap (front_ahead c p) front_none ∙ ap looks_of now in
+      let now : lexed c p.lex p.line ≡ lexed c s.line.state (rest_of b s.line) = ap₂ (λ (k : LineState) (l : List ℕ). lexed c k l) state line in
+      let ahead_is : ahead_of c p ≡ looks_of (lexed c s.line.state (rest_of b s.line)) = ap (front_ahead c p) front_none ∙ ap looks_of now in
       let ne = not_end c b d s.line s'.line x g.gives (λ e. more (ahead_is ∙ e)) in
-      let pulls : plain.pulled c p ≡ plain.from_line p (given d (state_of s'.line.state) (rest_of d s'.line) x) = ap (plain.from_front c p) front_none ∙ ap (plain.from_line p) (now ∙ sym g.gives) in
-      let k = line_reads sizes p d s.id x s.line.at s'.line.at (state_of s'.line.state) (rest_of d s'.line) ne g.goes_on.takes (omega (arith, g.goes_on.in_order, g.goes_on.same_end, within)) in
-      let q = plain.on_line (rest_of d s'.line) (state_of s'.line.state) p in
+      let pulls : plain.pulled c p ≡ plain.from_line p (given d s'.line.state (rest_of d s'.line) x) = ap (plain.from_front c p) front_none ∙ ap (plain.from_line p) (now ∙ sym g.gives) in
+      let k = line_reads sizes p d s.id x s.line.at s'.line.at s'.line.state (rest_of d s'.line) ne g.goes_on.takes (omega (arith, g.goes_on.in_order, g.goes_on.same_end, within)) in
+      let q = plain.on_line (rest_of d s'.line) s'.line.state p in
       record {
         more = subst (λ (y : Given). GivesMore (Ok y)) (sym g.answer) (line_more s.id x ne);
-        reads = subst (λ (y : plain.Pulled). Gives y (answers.answer_of (Ok r)) p q d) (sym pulls) (subst (λ (y : Given). Gives (plain.from_line p (given d (state_of s'.line.state) (rest_of d s'.line) x)) (answers.answer_of (Ok y)) p q d) (sym g.answer) k);
+        reads = subst (λ (y : plain.Pulled). Gives y (answers.answer_of (Ok r)) p q d) (sym pulls) (subst (λ (y : Given). Gives (plain.from_line p (given d s'.line.state (rest_of d s'.line) x)) (answers.answer_of (Ok y)) p q d) (sym g.answer) k);
       }
 
 -- ALL THAT IS PENDING
@@ -198,16 +200,16 @@ module _ (t s : List (Option Entry)) (c b d : List ℕ) (ls : List WholeLevel) (
   source_seen : (bs : List Below) → (pending_in s ls).sources ≡ bs → (r : Given) → PullsFrom c b d bs q.sources r → q.puts ≡ [] → lists.passed (fronts t (pending_in s ls).puts) ≡ [] → AreInBuffer (covers t bs) (length b) → AreReadersAt c d sizes (seen t (pending_in s ls) b files opened) (seen t q d files opened) (Ok r)
   source_seen [] is r h none front_none inside =
       let pp = seen t (pending_in s ls) b files opened in
-      let used : lexed c pp.lex pp.line ≡ lex.UsedUp = ap (λ (bs : List Below). lexed c (line_state (covers t bs)) (line_rest b (covers t bs))) is ∙ nothing_left c lex.NewLine in
+      let used : lexed c pp.lex pp.line ≡ lex.UsedUp = ap (λ (bs : List Below). lexed c (line_state (covers t bs)) (line_rest b (covers t bs))) is ∙ nothing_left c NewLine in
       absurd (more (ap (front_ahead c pp) front_none ∙ ap looks_of used))
   source_seen (x ∷ xs) is r h none front_none inside =
       let pp = seen t (pending_in s ls) b files opened in
       let line : pp.line ≡ rest_of b x.source.line = ap (λ (bs : List Below). line_rest b (covers t bs)) is in
-      let state : pp.lex ≡ state_of x.source.line.state = ap (λ (bs : List Below). line_state (covers t bs)) is in
+      let state : pp.lex ≡ x.source.line.state = ap (λ (bs : List Below). line_state (covers t bs)) is in
       let k = source_reads c b d sizes pp front_none x.source h.source r h.gives line state more (omega (arith, inside.1, same)) in
       let outer : outer_in d (covers t q.sources) (drop 1 files) ≡ pp.outer = from_outer t c b d (x ∷ xs) q.sources r (length b) (drop 1 files) h inside ∙ sym (ap (λ (bs : List Below). outer_in b (covers t bs) (drop 1 files)) is) in
-      let then_pending : plain.on_line (rest_of d h.source.line) (state_of h.source.line.state) pp ≡ seen t q d files opened =
-      ap (λ (ss : List plain.Source). let z : plain.Pending = record (plain.on_line (rest_of d h.source.line) (state_of h.source.line.state) pp) { outer = ss } in z) (sym outer)
+      let then_pending : plain.on_line (rest_of d h.source.line) h.source.line.state pp ≡ seen t q d files opened =
+      ap (λ (ss : List plain.Source). let z : plain.Pending = record (plain.on_line (rest_of d h.source.line) h.source.line.state pp) { outer = ss } in z) (sym outer)
       ∙ ap (λ (bs : List Below). let z : plain.Pending = record (seen t q d files opened) { puts = []; line = line_rest d (covers t bs); lex = line_state (covers t bs) } in z) (sym h.after)
       ∙ ap (λ (ps : List Put). let z : plain.Pending = record (seen t q d files opened) { puts = fronts t ps } in z) (sym none) in
       subst (λ (z : plain.Pending). AreReadersAt c d sizes pp z (Ok r)) then_pending k

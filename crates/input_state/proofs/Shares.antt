@@ -9,7 +9,7 @@ use Rattle.token_lists.specs.Accounts.{holds}
 use Rattle.equivalents.specs.Holding.{lists_held}
 use Rattle.eqtb_save.specs.Table.{Table}
 use Rattle.eqtb_save.specs.Holding as eqtb
-use Rattle.input_stack.specs.Puts.{Put, Item, numbers, lists_of, without_ended, settled_top, pulled, pulled_top, without_gaps, put_in_front, put_top}
+use Rattle.input_stack.specs.Puts.{Put, Item, numbers, lists_of, without_ended, unless_ended, pulled, pulled_top, without_gaps, put_in_front, put_top}
 use Rattle.input_stack.specs.Pending.{Pending, times, lists_in, end_token_lists, put}
 use Rattle.input_stack.specs.View.{pending, held, innermost}
 use Rattle.input_stack.specs.declared.stack.InputStack.{InputStack}
@@ -84,7 +84,7 @@ drops_first p ps qs f = record {
 same_first : (p : Put) (qs : List Put) (r : Option ℕ) (xs : List Item) → Fewer (record { list = p.list; body = p.body; arguments = p.arguments; reading = r; items = xs } ∷ qs) (p ∷ qs)
 same_first p qs r xs = record { owns = λ h. omega arith; bodies = λ h. omega arith; cells = λ h. omega arith }
 
-settled_fewer : (p : Put) (xs : List Item) (ps qs : List Put) → Fewer ps qs → Fewer (settled_top p xs ps qs) (p ∷ qs)
+settled_fewer : (p : Put) (xs : List Item) (ps qs : List Put) → Fewer ps qs → Fewer (unless_ended p xs ps qs) (p ∷ qs)
 settled_fewer p [] ps qs f = drops_first p ps qs f
 settled_fewer p (x ∷ xs) ps qs f = same_first p qs _ (x ∷ xs)
 

@@ -3,11 +3,11 @@ use Rattle.std.proofs.Common.{◌≡◌, ℕ, ◌+◌, ◌-◌, ◌<◌, ◌≤�
 use Rattle.std.specs.Prelude.{nat_lt, if◌then◌else◌}
 use Rattle.plain_tokens.specs.Lines.{first_line, behind_feed}
 use Rattle.plain_tokens.specs.Printed.{character_of}
-use Rattle.plain_tokens.specs.Lex as plain
+use Rattle.plain_tokens.specs.declared.line_state.LineState.{LineState}
 use Rattle.plain_tokens.specs.Puts.{Put}
 use Rattle.plain_tokens.specs.Pending.{Pending, Progress, Source, Begun, line_taken, on_next_line, on_first_line, with_end, line_ended, next_number}
 use Rattle.line_lexer.specs.declared.Line.{Line}
-use Rattle.line_lexer.specs.declared.LineState.TheVariants.{NewLine}
+use Rattle.plain_tokens.specs.declared.line_state.LineState.TheVariants.{NewLine}
 use Rattle.line_lexer.specs.Answers.{rest_of}
 use Rattle.input_state.specs.FileLeft.{FileLeft, FilesLeft, innermost, progress_of, rooms_end, pass_line, begun_file}
 use Rattle.input_state.specs.HeldLists.{HeldLists, Covered, pending_of, outer_in, at_line, opened_over, puts_beneath, AreInBuffer, GoFurther}
@@ -64,7 +64,7 @@ beneath_stays : (m d : List ℕ) (line : Line) (bs : List Covered) (fs : List Fi
 beneath_stays m d line [] fs n some inside e = absurd (omega (arith, some))
 beneath_stays m d line (b ∷ bs) fs n some inside e = beneath_same m d (record { line = line; puts = b.puts }) b bs fs n refl inside e
 
-same_pending : (puts : List Put) (lex : plain.LineState) (number : ℕ) (ends : Bool) (next : Option (List ℕ)) (l k : List ℕ) (w v : ℕ) (r s : List ℕ) (f g : Progress) (o p : List Source) → l ≡ k → w ≡ v → r ≡ s → f ≡ g → o ≡ p →
+same_pending : (puts : List Put) (lex : LineState) (number : ℕ) (ends : Bool) (next : Option (List ℕ)) (l k : List ℕ) (w v : ℕ) (r s : List ℕ) (f g : Progress) (o p : List Source) → l ≡ k → w ≡ v → r ≡ s → f ≡ g → o ≡ p →
     ◌≡◌ {A = Pending} (record { puts = puts; line = l; lex = lex; whole = w; rest = r; file = f; number = number; ends = ends; outer = o; next = next }) (record { puts = puts; line = k; lex = lex; whole = v; rest = s; file = g; number = number; ends = ends; outer = p; next = next })
 same_pending puts lex number ends next l k w v r s f g o p a b c d e = rw (a, b, c, d, e) refl
 
@@ -118,7 +118,7 @@ module _ (h front now : HeldLists) (b m d : List ℕ) (count kept used : ℕ) (f
       let file : Begun ≡ progress_of f.files = sym (ap (λ (w : Stored). w.pending.file) is ∙ begun) in
       let there : pending_of now d g.files g.next ≡ with_end end (on_next_line (innermost f.files).rest p) =
       ap₂ (λ (w : HeldLists) (k : FilesLeft). pending_of w d k.files k.next) now_at file_at
-      ∙ same_pending [] plain.NewLine (next_number (innermost f.files).number) (innermost f.files).ends f.next _ _ _ _ _ _ _ _ _ _ line whole behind file outer in
+      ∙ same_pending [] NewLine (next_number (innermost f.files).number) (innermost f.files).ends f.next _ _ _ _ _ _ _ _ _ _ line whole behind file outer in
       subst (λ (w : Stored). TakesLine (line_taken w.pending w.pending.rest) end w.pending (pending_of now d g.files g.next)) is
       (record {
         next = on_next_line (innermost f.files).rest p;
@@ -145,7 +145,7 @@ module _ (h front now : HeldLists) (b d : List ℕ) (count kept used : ℕ) (byt
       let c : Covered = record { line = line_at (rooms_end f.files) count; puts = h.puts } in
       let outer : outer_in d (c ∷ h.below) f.files ≡ outer_in b (c ∷ h.below) f.files = beneath_same b d c c h.below f.files (rooms_end f.files) refl (rooms_in h.below f.files (rooms_end f.files) tied.lines (omega arith)) before in
       ap₂ (λ (w : HeldLists) (k : FilesLeft). pending_of w d k.files k.next) over_at file_is
-      ∙ same_pending [] plain.NewLine 1 false None _ _ _ _ _ _ _ _ _ _ line whole behind refl outer
+      ∙ same_pending [] NewLine 1 false None _ _ _ _ _ _ _ _ _ _ line whole behind refl outer
 
 -- The lists in front and the line were read.
 pub read_tied : (h now : HeldLists) (b c : List ℕ) (f : FilesLeft) (puts : List Put) → now ≡ record h { puts = puts; below = now.below; lists = now.lists } → GoFurther h.below now.below → length c ≡ length b → IsTied h b f → IsTied now c f

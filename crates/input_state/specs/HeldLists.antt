@@ -4,6 +4,8 @@ use Rattle.tex_defs.specs.declared.Token.{Token}
 use Rattle.tex_defs.specs.declared.Full.{Full}
 use Rattle.tex_defs.specs.declared.Sizes.{Sizes}
 use Rattle.tex_defs.specs.declared.Table.TheVariants.{InputStackSize, ParameterStackSize}
+use Rattle.plain_tokens.specs.declared.line_state.LineState.{LineState}
+use Rattle.plain_tokens.specs.declared.line_state.LineState.TheVariants.{NewLine}
 use Rattle.plain_tokens.specs.Lex as plain
 use Rattle.plain_tokens.specs.Puts.{Put, put_levels, put_parameters, without_ended, without_gaps, passed, first_item}
 use Rattle.plain_tokens.specs.Pending.{Pending, Source}
@@ -18,7 +20,7 @@ use Rattle.line_lexer.specs.declared.Line.{Line}
 use Rattle.input_state.specs.FileLeft.{FileLeft, innermost, progress_of}
 use Rattle.line_lexer.specs.declared.Ahead.{Ahead}
 use Rattle.line_lexer.specs.declared.Ahead.TheVariants as ahead
-use Rattle.line_lexer.specs.Answers.{state_of, rest_of, looks_of}
+use Rattle.line_lexer.specs.Answers.{rest_of, looks_of}
 
 -- A file that is begun, by what is left of its line, and the lists in front of what is beneath it.
 pub record Covered : Type 0 where
@@ -77,8 +79,8 @@ abbrev pub KeepsHeld : HeldLists → HeldLists → Type 0
 KeepsHeld old new = KeepsLists (lists_held new.groups) (puts_held new) old.lists new.lists
 
 -- the finished lists in front go
-abbrev pub settle_held : HeldLists → HeldLists
-settle_held s = record s { puts = without_ended s.puts }
+abbrev pub without_ended_held : HeldLists → HeldLists
+without_ended_held s = record s { puts = without_ended s.puts }
 
 -- a level more, beside those of the lists in front and of the files
 abbrev pub level_held : HeldLists → Demand
@@ -86,7 +88,7 @@ level_held s = record { table = InputStackSize; used = put_levels (puts_held s) 
 
 -- why a macro's body or another list isn't put, once the finished lists in front have gone
 abbrev pub call_refusal : Put → HeldLists → Option Full
-call_refusal p s = refused s.sizes (when_called p.items (level_held (settle_held s)))
+call_refusal p s = refused s.sizes (when_called p.items (level_held (without_ended_held s)))
 
 -- the arguments of a call
 abbrev pub parameters_held : Put → HeldLists → Demand
@@ -94,7 +96,7 @@ parameters_held p s = record { table = ParameterStackSize; used = put_parameters
 
 -- why a call with arguments isn't put, once the finished lists in front have gone: the arguments are asked for before the level
 abbrev pub put_refusal : Put → HeldLists → Option Full
-put_refusal p s = refused s.sizes (when_put p.items (parameters_held p (settle_held s) ∷ level_held (settle_held s) ∷ []))
+put_refusal p s = refused s.sizes (when_put p.items (parameters_held p (without_ended_held s) ∷ level_held (without_ended_held s) ∷ []))
 
 -- WHAT IS PENDING
 
@@ -103,9 +105,9 @@ abbrev pub line_rest : List ℕ → List Covered → List ℕ
 line_rest bytes [] = []
 line_rest bytes (b ∷ bs) = rest_of bytes b.line
 
-abbrev pub line_state : List Covered → plain.LineState
-line_state [] = plain.NewLine
-line_state (b ∷ bs) = state_of b.line.state
+abbrev pub line_state : List Covered → LineState
+line_state [] = NewLine
+line_state (b ∷ bs) = b.line.state
 
 -- these lists in front of these lines in a buffer, of these files
 abbrev pub source_in : List ℕ → List Put → List Covered → List FileLeft → Source

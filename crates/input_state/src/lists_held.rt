@@ -23,7 +23,7 @@ ghost use Rattle.token_lists.specs.Ids.{build_id, id_of, IsBuilding};
 ghost use Rattle.token_lists.specs.Accounts.{Moves, Keeps, Covers, none, holds};
 ghost use Rattle.token_lists.specs.Refusals.{IsFull};
 ghost use Rattle.input_state.specs.Counted.{HaveHolders};
-ghost use Rattle.input_state.specs.HeldLists.{HeldLists, KeepsHeld, call_refusal, put_refusal, first_list, is_empty, made, words_held, gathered_held, level_held, puts_held, settle_held, pending_of, outer_in, has_item, ahead_of, AreInBuffer, GoFurther, over_held, at_line, opened_over};
+ghost use Rattle.input_state.specs.HeldLists.{HeldLists, KeepsHeld, call_refusal, put_refusal, first_list, is_empty, made, words_held, gathered_held, level_held, puts_held, without_ended_held, pending_of, outer_in, has_item, ahead_of, AreInBuffer, GoFurther, over_held, at_line, opened_over};
 ghost use Rattle.input_state.specs.FileLeft.{FileLeft};
 ghost use Rattle.input_state.specs.HeldAppends.{HeldShort, held_appended, held_appended_made};
 ghost use Rattle.meanings.specs.Kept.{IsPlaced, without_list};

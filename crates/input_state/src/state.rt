@@ -16,7 +16,7 @@ ghost use Rattle.plain_tokens.specs.Puts.{without_ended, passed, token_put, grow
 ghost use Rattle.plain_tokens.specs.Pending.{Begun, Closed, bottom, beneath, ending, pulled, end_token_lists, all_puts, put_front, line_taken, from_file, with_begun, with_end, with_next};
 ghost use Rattle.plain_tokens.specs.Tables.{is_put, lists_words, memory, level, buffer, open_files, open_lines, lines_beneath, next_line, next_file, text_level, spelt_name, refused};
 ghost use Rattle.line_lexer.specs.declared.Ahead.TheVariants as ahead;
-ghost use Rattle.line_lexer.specs.declared.LineState.TheVariants.{NewLine};
+ghost use Rattle.plain_tokens.specs.declared.line_state.LineState.TheVariants.{NewLine};
 ghost use Rattle.tex_defs.specs.declared.Table.TheVariants.{BufferSize};
 ghost use Rattle.token_lists.specs.Table.{tokens_at, IsHeld};
 ghost use Rattle.token_lists.specs.Table as table;
@@ -47,7 +47,8 @@ use crate::lists_held::Held;
 use crate::places::{spell, spelt_length};
 use crate::{Call, CallKind, Pulled, Walk};
 use eqtb_save::{Glue, GroupKind, Loc, Val};
-use line_lexer::{Ahead, Line, LineState};
+use line_lexer::{Ahead, Line};
+use plain_tokens::LineState;
 use std::alloc::{AllocError, Global};
 use std::marker::Model;
 use tex_defs::{Full, Meaning, Name, Seen, Sizes, Table, Token};

@@ -1,8 +1,8 @@
 -- The name of letters that was written.
 use Rattle.std.proofs.Common.{◌≡◌, ℕ, ◌+◌, ◌-◌, ◌<◌, ◌≤◌, suc, List, [], ◌∷◌, take, drop, set, length, get_or, arith, refl, sym, ap, ◌∙◌, length-drop, length-take, get_or-take, get_or-set_same}
 use Rattle.std.proofs.lemmas.List.{drop-set-lt}
-use Rattle.plain_tokens.specs.Lex.{Lexeme, SingleName, WordName, Gives, name_of_letters, letters, behind_letters}
-use Rattle.plain_tokens.specs.Lex as plain
+use Rattle.plain_tokens.specs.Lex.{Lexeme, WordName, Gives, name_of_letters, letters, behind_letters}
+use Rattle.plain_tokens.specs.declared.line_state.LineState.TheVariants.{SkipBlanks}
 use Rattle.line_lexer.specs.Answers.{span}
 use Rattle.line_lexer.specs.Begins.{named}
 use Rattle.line_lexer.proofs.LineRests.{drop_at}
@@ -37,10 +37,10 @@ word_of line old name next end c pos within inside le ne same is =
 -- a word, and what is behind it
 pub word_gives : (cats line old : List ℕ) (next end rest c : ℕ) → 0 < next → next ≤ length old → end ≤ length line → next ≤ end → (end ≡ next → ⊥) → take next line ≡ take next (set old (next - 1) c) →
     take (end - next) (drop next line) ≡ letters cats (drop next (set old (next - 1) c)) → drop rest line ≡ behind_letters cats (drop next (set old (next - 1) c)) →
-    Gives (WordName (span line (next - 1) end)) plain.SkipBlanks (drop rest line) ≡ named cats c (drop next old)
+    Gives (WordName (span line (next - 1) end)) SkipBlanks (drop rest line) ≡ named cats c (drop next old)
 word_gives cats line old next end rest c pos within inside le ne same name behind =
     let u : drop next (set old (next - 1) c) ≡ drop next old = drop-set-lt next old (next - 1) c (omega arith) in
     let n : WordName (span line (next - 1) end) ≡ name_of_letters (c ∷ letters cats (drop next old)) =
     word_of line old (letters cats (drop next old)) next end c pos within inside le ne same (name ∙ ap (letters cats) u) in
     let b : drop rest line ≡ behind_letters cats (drop next old) = behind ∙ ap (behind_letters cats) u in
-    ap (λ (x : Lexeme). Gives x plain.SkipBlanks (drop rest line)) n ∙ ap (λ (xs : List ℕ). Gives (name_of_letters (c ∷ letters cats (drop next old))) plain.SkipBlanks xs) b
+    ap (λ (x : Lexeme). Gives x SkipBlanks (drop rest line)) n ∙ ap (λ (xs : List ℕ). Gives (name_of_letters (c ∷ letters cats (drop next old))) SkipBlanks xs) b

@@ -3,6 +3,7 @@ use Rattle.std.proofs.Common.{◌≡◌, ℕ, ◌+◌, ◌-◌, ◌≤◌, List,
 use Rattle.std.proofs.lemmas.List.{take-append-le, drop-append-le, drop-drop, take_rest, drop_at, length-take-le}
 use Rattle.std.proofs.lemmas.Slice.{drop-put_mid}
 use borrow.Rule.Slice.PartMut.{put_mid, post_of}
+use Rattle.plain_tokens.specs.declared.line_state.LineState.{LineState}
 use Rattle.plain_tokens.specs.Lex as plain
 use Rattle.line_lexer.specs.declared.Lexed.{Lexed}
 use Rattle.line_lexer.specs.declared.Lexed.TheVariants.{Char, Active, Single, Word, Empty, Par, Invalid, End}
@@ -25,7 +26,7 @@ module _ (bytes line : List ℕ) (at size : ℕ) (fits : at + size ≤ length by
   rest_in end next e h =
       ap (span (put_mid at size bytes line) (at + next)) e ∙ span_in next size h (omega arith) ∙ ap (λ (n : ℕ). take (n - next) (drop next line)) (sym long) ∙ take_rest line next
 
-  pub given_in : (answer : Lexed) (state : plain.LineState) (end next : ℕ) → end ≡ at + size → next ≤ size → Takes 0 next answer →
+  pub given_in : (answer : Lexed) (state : LineState) (end next : ℕ) → end ≡ at + size → next ≤ size → Takes 0 next answer →
       given (put_mid at size bytes line) state (span (put_mid at size bytes line) (at + next) end) (moved_by at answer) ≡ given line state (drop next line) answer
   given_in (Char category code) state end next e h t = ap (λ (rest : List ℕ). plain.Gives (plain.Character category code) state rest) (rest_in end next e h)
   given_in (Active code) state end next e h t = ap (λ (rest : List ℕ). plain.Gives (plain.ActiveName code) state rest) (rest_in end next e h)

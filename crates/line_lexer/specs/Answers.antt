@@ -2,17 +2,11 @@
 use Rattle.std.specs.Prelude.{◌≡◌, ℕ, ◌+◌, ◌-◌, max, ◌<◌, ◌≤◌, List, take, drop}
 use Rattle.plain_tokens.specs.Lex as plain
 use Rattle.line_lexer.specs.declared.Line.{Line}
-use Rattle.line_lexer.specs.declared.LineState.{LineState}
-use Rattle.line_lexer.specs.declared.LineState.TheVariants.{NewLine, Middle, SkipBlanks}
+use Rattle.plain_tokens.specs.declared.line_state.LineState.{LineState}
 use Rattle.line_lexer.specs.declared.Lexed.{Lexed}
 use Rattle.line_lexer.specs.declared.Lexed.TheVariants.{Char, Active, Single, Word, Empty, Par, Invalid, End}
 use Rattle.line_lexer.specs.declared.Ahead.{Ahead}
 use Rattle.line_lexer.specs.declared.Ahead.TheVariants as ahead
-
-abbrev pub state_of : LineState → plain.LineState
-state_of NewLine = plain.NewLine
-state_of Middle = plain.Middle
-state_of SkipBlanks = plain.SkipBlanks
 
 -- the bytes from one place to before another
 abbrev pub span : List ℕ → ℕ → ℕ → List ℕ
@@ -23,7 +17,7 @@ abbrev pub rest_of : List ℕ → Line → List ℕ
 rest_of bytes line = span bytes line.at line.end
 
 -- What an answer says, with the state and the rest of the line behind it, where a name stands in these bytes.
-abbrev pub given : List ℕ → plain.LineState → List ℕ → Lexed → plain.Lexed
+abbrev pub given : List ℕ → LineState → List ℕ → Lexed → plain.Lexed
 given bytes state rest (Char category code) = plain.Gives (plain.Character category code) state rest
 given bytes state rest (Active code) = plain.Gives (plain.ActiveName code) state rest
 given bytes state rest (Single code) = plain.Gives (plain.SingleName code) state rest

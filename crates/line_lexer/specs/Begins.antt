@@ -2,14 +2,12 @@
 use Rattle.std.specs.Prelude.{◌≡◌, ℕ, ◌<◌, ◌≤◌, List, ◌∷◌, drop, length, slice_index}
 use Rattle.plain_tokens.specs.Categories.{end_of_line, ignored, space, comment}
 use Rattle.plain_tokens.specs.Lex.{Lexed, Gives, headed, letters, behind_letters, name_of_letters, by_head, lexed}
-use Rattle.plain_tokens.specs.Lex as plain
-use Rattle.line_lexer.specs.declared.LineState.{LineState}
-use Rattle.line_lexer.specs.declared.LineState.TheVariants.{Middle, SkipBlanks}
+use Rattle.plain_tokens.specs.declared.line_state.LineState.{LineState}
+use Rattle.plain_tokens.specs.declared.line_state.LineState.TheVariants.{Middle, SkipBlanks}
 use Rattle.line_lexer.specs.declared.heads.Head.{Head}
 use Rattle.line_lexer.specs.declared.names.Answer.{Answer}
 use Rattle.line_lexer.specs.declared.Lexed as answers
 use Rattle.line_lexer.specs.declared.Lexed.TheVariants.{End}
-use Rattle.line_lexer.specs.Answers.{state_of}
 
 -- the head of the line from `at` on, and the place behind it
 pub record IsHead (categories line : List ℕ) (at : ℕ) (head : Head) : Type 0 where
@@ -26,14 +24,14 @@ pub record IsHere (categories : List ℕ) (state : LineState) (head : Head) : Ty
 
 -- what the line gives begins with this head
 pub record Begins (categories line : List ℕ) (state : LineState) (head : Head) : Type 0 where
-  pub gives : lexed categories (state_of state) line ≡ by_head categories (state_of state) (lexed categories (state_of state)) (head.code ∷ drop head.next line)
+  pub gives : lexed categories state line ≡ by_head categories state (lexed categories state) (head.code ∷ drop head.next line)
   pub here : IsHere categories state head
   pub further : 0 < head.next
   pub within : head.next ≤ length line
 
 -- the name that this letter begins, before these bytes
 abbrev pub named : List ℕ → ℕ → List ℕ → Lexed
-named categories c line = Gives (name_of_letters (c ∷ letters categories line)) plain.SkipBlanks (behind_letters categories line)
+named categories c line = Gives (name_of_letters (c ∷ letters categories line)) SkipBlanks (behind_letters categories line)
 
 -- at the end this line is used up, and its state stays
 abbrev pub UsesUpAs : ℕ → LineState → LineState → ℕ → answers.Lexed → Type 0

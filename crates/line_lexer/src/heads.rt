@@ -2,10 +2,9 @@
 ghost use Rattle.std.specs.Prelude.{◌≡◌, ◌+◌, ◌≤◌, ◌<◌, ◌∷◌, [], MatchOption, true, drop, length, slice_index};
 ghost use Rattle.plain_tokens.specs.Lex as plain;
 ghost use Rattle.plain_tokens.specs.Lex.{headed, lexed, behind_hats};
-ghost use Rattle.line_lexer.specs.Answers.{state_of};
 ghost use Rattle.line_lexer.specs.Begins.{IsHead, Begins};
 
-use crate::LineState;
+use plain_tokens::LineState;
 
 /// The head of a rest of a line: its code, and where what is behind it begins.
 #[derive(Clone, Copy)]
@@ -96,7 +95,7 @@ pub fn head_at(line: &[u8], at: usize, categories: &[u8; 256]) -> Option<Head>
 /// The head with which begins what the line gives, if it gives something.
 #[tactic(auto, using(crate::proofs::LineBegins::head_gives, crate::proofs::LineBegins::ignored_goes, crate::proofs::LineBegins::space_goes, crate::proofs::LineBegins::comment_ends, crate::proofs::LineBegins::line_ends, crate::proofs::LineBegins::nothing_left))]
 pub fn begin(line: &[u8], state: LineState, categories: &[u8; 256]) -> Option<Head>
-    ensures { MatchOption result (lexed categories.now (state_of state) line.now ≡ plain.UsedUp) (λ h. Begins categories.now line.now state h) }
+    ensures { MatchOption result (lexed categories.now state line.now ≡ plain.UsedUp) (λ h. Begins categories.now line.now state h) }
 {
     let mut at = 0;
     while let Some(head) = head_at(line, at, categories) {

@@ -2,16 +2,17 @@
 ghost use Rattle.std.specs.Prelude.{◌≡◌, ◌≤◌, [], drop, length};
 ghost use Rattle.plain_tokens.specs.Lex as plain;
 ghost use Rattle.plain_tokens.specs.Lex.{lexed};
-ghost use Rattle.line_lexer.specs.Answers.{state_of, given, Takes};
+ghost use Rattle.line_lexer.specs.Answers.{given, Takes};
 ghost use Rattle.line_lexer.specs.Begins.{UsesUp};
 
+use crate::Lexed;
 use crate::heads::begin;
 use crate::names::{Answer, escaped};
-use crate::{Lexed, LineState};
+use plain_tokens::LineState;
 
 /// What the end of a line gives.
 fn end_of_line(state: LineState) -> Lexed
-    ensures { given [] (state_of state) [] result ≡ plain.line_ended (state_of state) }
+    ensures { given [] state [] result ≡ plain.line_ended state }
 {
     match state {
         LineState::NewLine => Lexed::Par,
@@ -22,7 +23,7 @@ fn end_of_line(state: LineState) -> Lexed
 
 /// What this rest of a line gives, with the places in it.
 pub fn lex(line: &mut [u8], state: LineState, categories: &[u8; 256]) -> Answer
-    ensures gives { given line.new (state_of result.state) (drop result.next line.new) result.lexed ≡ lexed categories.now (state_of state) line.old }
+    ensures gives { given line.new result.state (drop result.next line.new) result.lexed ≡ lexed categories.now state line.old }
     ensures takes { Takes 0 result.next result.lexed }
     ensures ends { UsesUp (length line.new) state result }
     ensures inside { result.next ≤ length line.new }

@@ -10,18 +10,11 @@ mod names;
 
 ghost use Rattle.std.specs.Prelude.{◌≡◌, ◌+◌, ◌^◌, ◌<◌, ◌≤◌, length, take, drop};
 ghost use Rattle.plain_tokens.specs.Lex.{lexed};
-ghost use Rattle.line_lexer.specs.Answers.{state_of, rest_of, given, GoesOn, looks_of, last_place, moved_by};
+ghost use Rattle.line_lexer.specs.Answers.{rest_of, given, GoesOn, looks_of, last_place, moved_by};
 
 use heads::begin;
 use lex::lex;
-
-/// The state of a line's reading: at a new line, in the middle, or where blanks are skipped.
-#[derive(Clone, Copy, PartialEq, Eq)]
-pub enum LineState {
-    NewLine,
-    Middle,
-    SkipBlanks,
-}
+use plain_tokens::LineState;
 
 /// A line that is being read: its rest stands in a buffer from the byte `at` to the byte before `end`, its
 /// end character among them if it has one.
@@ -90,7 +83,7 @@ pub enum Ahead {
 pub fn next(bytes: &mut [u8], line: &mut Line, categories: &[u8; 256]) -> Lexed
     requires in_order { line.old.at ≤ line.old.end }
     requires within { line.old.end ≤ length bytes.old }
-    ensures gives { given bytes.new (state_of line.new.state) (rest_of bytes.new line.new) result ≡ lexed categories.now (state_of line.old.state) (rest_of bytes.old line.old) }
+    ensures gives { given bytes.new line.new.state (rest_of bytes.new line.new) result ≡ lexed categories.now line.old.state (rest_of bytes.old line.old) }
     ensures goes_on { GoesOn line.old line.new result }
     ensures before { take line.old.at bytes.new ≡ take line.old.at bytes.old }
     ensures behind { drop line.old.end bytes.new ≡ drop line.old.end bytes.old }
@@ -106,7 +99,7 @@ pub fn next(bytes: &mut [u8], line: &mut Line, categories: &[u8; 256]) -> Lexed
 pub fn looks(bytes: &[u8], line: &Line, categories: &[u8; 256]) -> Ahead
     requires in_order { line.now.at ≤ line.now.end }
     requires within { line.now.end ≤ length bytes.now }
-    ensures { result ≡ looks_of (lexed categories.now (state_of line.now.state) (rest_of bytes.now line.now)) }
+    ensures { result ≡ looks_of (lexed categories.now line.now.state (rest_of bytes.now line.now)) }
 {
     match begin(&bytes[line.at..line.end], line.state, categories) {
         None => Ahead::End,

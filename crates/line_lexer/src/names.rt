@@ -1,11 +1,12 @@
 // What an escape character begins.
 ghost use Rattle.std.specs.Prelude.{◌≡◌, ◌-◌, ◌≤◌, ◌<◌, ◌∷◌, take, drop, length};
 ghost use Rattle.plain_tokens.specs.Lex as plain;
-ghost use Rattle.line_lexer.specs.Answers.{state_of, given, Takes};
+ghost use Rattle.line_lexer.specs.Answers.{given, Takes};
 ghost use Rattle.line_lexer.specs.Begins.{named};
 
+use crate::Lexed;
 use crate::heads::{Head, head_at};
-use crate::{Lexed, LineState};
+use plain_tokens::LineState;
 
 /// What the rest of a line gives, with the state behind it and the place where what is left begins.
 #[derive(Clone, Copy)]
@@ -57,7 +58,7 @@ fn letters(line: &mut [u8], at: usize, categories: &[u8; 256]) -> Run
 fn name_of_letters(line: &mut [u8], first: Head, categories: &[u8; 256]) -> Answer
     requires further { 0 < first.next }
     requires within { first.next ≤ length line.old }
-    ensures gives { given line.new (state_of result.state) (drop result.next line.new) result.lexed ≡ named categories.now first.code (drop first.next line.old) }
+    ensures gives { given line.new result.state (drop result.next line.new) result.lexed ≡ named categories.now first.code (drop first.next line.old) }
     ensures takes { Takes 0 result.next result.lexed }
     ensures inside { result.next ≤ length line.new }
 {
@@ -83,7 +84,7 @@ fn name_of_letters(line: &mut [u8], first: Head, categories: &[u8; 256]) -> Answ
 pub fn escaped(line: &mut [u8], at: usize, state: LineState, categories: &[u8; 256]) -> Answer
     requires further { 0 < at }
     requires within { at ≤ length line.old }
-    ensures gives { given line.new (state_of result.state) (drop result.next line.new) result.lexed ≡ plain.escaped categories.now (state_of state) (drop at line.old) }
+    ensures gives { given line.new result.state (drop result.next line.new) result.lexed ≡ plain.escaped categories.now state (drop at line.old) }
     ensures takes { Takes 0 result.next result.lexed }
     ensures inside { result.next ≤ length line.new }
 {

@@ -13,7 +13,6 @@ use Rattle.plain_tokens.specs.Tokens.{has_category, means_category}
 use Rattle.list_builder.specs.declared.stage.Stage.{Stage}
 use Rattle.list_builder.specs.declared.stage.Stage.TheVariants.{InBody, Reference, Illegal}
 use Rattle.plain_state.specs.Definitions.{Fed, Tok, Noted, Given, Answer, Done, is_parameter, is_number, place_digit, is_reference, count_of, with_cell}
-use Rattle.list_builder.specs.Plain.{body_of}
 use Rattle.list_builder.specs.Stages.{resume}
 use Rattle.list_builder.specs.Forms.{closes, is_plain, are_plain, is_in_body, are_in_body, IsSeen, IsClean}
 use Rattle.list_builder.proofs.Groups.{both, both_left, both_right, closes_append, closes_inside, end_begins_not}
@@ -155,7 +154,7 @@ completed front m (InBody b d) list (Tok x ∷ fed) ts h clean e =
     (λ o i. chosen (d == 0) _ _ ts (λ z j. ended front _ d b.brace list ts h z j)
     (λ z j. completed front m (InBody b (d - 1)) (list ++ x.token ∷ []) fed ts (stood_on front _ d (d - 1) list _ h one (closes_end d x.token o z)) clean.1 j) i)
     (λ o i. let n : IsNoBrace x.token = record { begins = a; ends = o } in
-    chosen (is_reference (body_of b) x) _ _ ts (λ r j. completed front m (Reference b d x.token) list fed ts (h, p, n) clean.1 j)
+    chosen (is_reference b x) _ _ ts (λ r j. completed front m (Reference b d x.token) list fed ts (h, p, n) clean.1 j)
     (λ r j. completed front m (InBody b d) (list ++ x.token ∷ []) fed ts (stood_on front _ d d list _ h one (closes_other d x.token n)) clean.1 j) i) g) e
 completed front m (Reference b d c) list [] ts h clean e = absurd (cc)
 completed front m (Reference b d c) list (Noted ∷ fed) ts h clean e = completed front m (Reference b d c) list fed ts h clean e

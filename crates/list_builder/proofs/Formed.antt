@@ -12,11 +12,10 @@ use Rattle.plain_tokens.specs.Tokens.{has_category, means_category}
 use Rattle.list_builder.specs.declared.stage.Stage.{Stage}
 use Rattle.list_builder.specs.declared.stage.Stage.TheVariants.{First, FirstMissing, Parameters, Misnumbered, Tenth, BodyMissing, InBody}
 use Rattle.list_builder.specs.declared.stage.Stage.TheVariants as stage
-use Rattle.plain_state.specs.Definitions.{Fed, Tok, Noted, Given, Done, is_parameter, character_of, is_digit, with_cell}
+use Rattle.plain_state.specs.Definitions.{Fed, Tok, Noted, Given, Done, is_parameter, character_of, is_digit, with_cell, macro_body, text_body}
 use Rattle.list_builder.specs.Stages.{resume}
 use Rattle.list_builder.specs.Forms.{closes, is_plain, are_plain, are_in_front, is_place, places, is_in_body, are_in_body, IsBegin, IsMacro, IsText, IsSeen, IsClean}
 use Rattle.list_builder.proofs.Groups.{both, both_left, both_right}
-use Rattle.list_builder.proofs.Ends.{text_inside, macro_inside}
 use Rattle.list_builder.proofs.Bodies.{chosen, IsNoBrace, stood_begun, Completed, completed}
 
 -- TEXTS
@@ -56,10 +55,10 @@ texts m First (Noted ∷ fed) ts w clean e = texts m First fed ts tt clean e
 texts m First (Given us ∷ fed) ts w clean e = texts m First fed ts tt clean.1 e
 texts m First (Tok x ∷ fed) ts w clean e =
     chosen (means_category begin_group x.meaning) _ _ ts
-    (λ a i. text_of ts (completed [] m (InBody text_inside 0) [] fed ts (stood_begun [] 0) clean.1 i))
+    (λ a i. text_of ts (completed [] m (InBody text_body 0) [] fed ts (stood_begun [] 0) clean.1 i))
     (λ a i. texts m FirstMissing fed ts tt clean.1 i) e
 texts m FirstMissing [] ts w clean e = absurd (cc)
-texts m FirstMissing (Noted ∷ fed) ts w clean e = text_of ts (completed [] m (InBody text_inside 0) [] fed ts (stood_begun [] 0) clean e)
+texts m FirstMissing (Noted ∷ fed) ts w clean e = text_of ts (completed [] m (InBody text_body 0) [] fed ts (stood_begun [] 0) clean e)
 texts m FirstMissing (Given us ∷ fed) ts w clean e = texts m FirstMissing fed ts tt clean.1 e
 texts m FirstMissing (Tok x ∷ fed) ts w clean e = texts m FirstMissing fed ts tt clean.1 e
 texts m s fed ts w clean e = absurd w
@@ -142,7 +141,7 @@ definitions m (Parameters n) list (Noted ∷ fed) ts l clean e = definitions m (
 definitions m (Parameters n) list (Given us ∷ fed) ts l clean e = definitions m (Parameters n) list fed ts l clean.1 e
 definitions m (Parameters n) list (Tok x ∷ fed) ts l clean e =
     chosen (has_category begin_group x.token) _ _ ts
-    (λ a i. macro_of n list None ts l tt (completed _ m (InBody (macro_inside n None) 0) (list ++ EndPlaces ∷ []) fed ts (stood_begun _ n) clean.1 i))
+    (λ a i. macro_of n list None ts l tt (completed _ m (InBody (macro_body n None) 0) (list ++ EndPlaces ∷ []) fed ts (stood_begun _ n) clean.1 i))
     (λ a g. chosen (has_category end_group x.token) _ _ ts
     (λ o i. definitions m BodyMissing (list ++ EndPlaces ∷ []) fed ts (list, refl, record { tokens = l.tokens; counted = refl; few = omega (arith, l.counted, l.few) }) clean.1 i)
     (λ o i. chosen (is_parameter x) _ _ ts (λ p j. definitions m (stage.Place n (character_of x.meaning)) list fed ts l clean.1 j)
@@ -152,7 +151,7 @@ definitions m (stage.Place n c) list (Noted ∷ fed) ts l clean e = definitions 
 definitions m (stage.Place n c) list (Given us ∷ fed) ts l clean e = definitions m (stage.Place n c) list fed ts l clean.1 e
 definitions m (stage.Place n c) list (Tok y ∷ fed) ts l clean e =
     chosen (has_category begin_group y.token) _ _ ts
-    (λ a i. macro_of n list (Some y.token) ts l a (completed _ m (InBody (macro_inside n (Some y.token)) 0) ((list ++ y.token ∷ []) ++ EndPlaces ∷ []) fed ts (stood_begun _ n) clean.1 i))
+    (λ a i. macro_of n list (Some y.token) ts l a (completed _ m (InBody (macro_body n (Some y.token)) 0) ((list ++ y.token ∷ []) ++ EndPlaces ∷ []) fed ts (stood_begun _ n) clean.1 i))
     (λ a g. chosen (nat_le 9 n) _ _ ts (λ o i. definitions m (Tenth n) list fed ts l clean.1 i)
     (λ o i. chosen (is_digit (n + 1) y.token) _ _ ts
     (λ p j. definitions m (Parameters (n + 1)) (list ++ Place c ∷ []) fed ts (front_place n c list l (below_nine n o)) clean.1 j)

@@ -1,4 +1,3 @@
-pub mod Plain
 pub mod Stages
 pub mod Scans
 pub mod Forms

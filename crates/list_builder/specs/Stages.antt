@@ -5,15 +5,14 @@ use Rattle.tex_defs.specs.declared.Token.{Token}
 use Rattle.tex_defs.specs.declared.Seen.{Seen}
 use Rattle.plain_tokens.specs.Categories.{begin_group, end_group}
 use Rattle.plain_tokens.specs.Tokens.{has_category}
-use Rattle.list_builder.specs.Plain.{body_of}
 use Rattle.list_builder.specs.declared.ask.Due.{Due}
 use Rattle.list_builder.specs.declared.ask.Due.TheVariants as due
-use Rattle.list_builder.specs.declared.stage.Body.{Body}
 use Rattle.list_builder.specs.declared.stage.Stage.{Stage}
 use Rattle.list_builder.specs.declared.stage.Stage.TheVariants as stage
 use Rattle.list_builder.specs.declared.stage.Next.{Next}
 use Rattle.list_builder.specs.declared.stage.Next.TheVariants.{On, Finished}
 use Rattle.list_builder.specs.declared.stage.Step.{Step}
+use Rattle.plain_state.specs.declared.body.Body.{Body}
 use Rattle.plain_state.specs.Definitions.{Fed, Answer, More, Tells, Done, with_cell, body, reference, illegal, no_body, parameters, place, tenth, misnumbered, missing, first, is_reference}
 
 -- what is answered on what is still to come, where this list has been built
@@ -25,9 +24,9 @@ resume m (stage.Place count character) list fed = place m count character list f
 resume m (stage.Misnumbered count character) list fed = misnumbered m count character list fed
 resume m (stage.Tenth count) list fed = tenth m count list fed
 resume m stage.BodyMissing list fed = no_body list fed
-resume m (stage.InBody b depth) list fed = body m (body_of b) depth list fed
-resume m (stage.Reference b depth character) list fed = reference m (body_of b) depth character list fed
-resume m (stage.Illegal b depth character) list fed = illegal m (body_of b) depth character list fed
+resume m (stage.InBody b depth) list fed = body m b depth list fed
+resume m (stage.Reference b depth character) list fed = reference m b depth character list fed
+resume m (stage.Illegal b depth character) list fed = illegal m b depth character list fed
 
 -- what is due says, where this list has been built
 abbrev pub due_of : Due → List Token → Answer
@@ -43,7 +42,7 @@ depth_of s = 0
 
 -- a token of a body that is no brace and no parameter character that stands for a parameter
 abbrev pub is_kept : Body → Seen → Bool
-is_kept b x = (not (has_category begin_group x.token) && not (has_category end_group x.token)) && not (is_reference (body_of b) x)
+is_kept b x = (not (has_category begin_group x.token) && not (has_category end_group x.token)) && not (is_reference b x)
 
 -- a token of a body goes into the list as it is, and the stage stays; in other stages this is told of none
 abbrev pub keeps_token : Stage → Seen → Bool

@@ -15,5 +15,5 @@ mod text;
 pub use ask::{Ask, Due};
 pub use def::DefScan;
 pub use laws::{lists_are_formed, lists_end_at_once, plain_lists_are_themselves, worked_lists};
-pub use stage::{Body, Next, Stage, Step};
+pub use stage::{Next, Stage, Step};
 pub use text::TextScan;

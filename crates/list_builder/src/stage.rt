@@ -6,27 +6,18 @@ ghost use Rattle.tex_defs.specs.declared.Token.{Token};
 ghost use Rattle.token_lists.specs.Table.{Entry};
 ghost use Rattle.plain_tokens.specs.Tokens.{has_category, is_other, means_category};
 ghost use Rattle.plain_state.specs.Definitions.{Fed, Tok, Noted, is_parameter, character_of, is_number, place_digit, is_reference, first, parameters, place, body, reference};
-ghost use Rattle.list_builder.specs.Plain.{body_of};
 ghost use Rattle.list_builder.specs.Stages.{resume, depth_of, due_of, is_kept, keeps_token, IsReport, IsTelling, TellsNext, goes, depth_after, growth};
 ghost use Rattle.list_builder.specs.Scans.{answer_of, IsOpen};
 
 use crate::ask::{Ask, Due};
+use plain_state::Body;
 use tex_defs::{Meaning, Seen, Token};
 use tex_syntax::{Manner, Report, Want};
-
-/// What a body is, that of a macro or that of a balanced text.
-#[derive(Clone, Copy)]
-pub struct Body {
-    /// How many places a macro has; none in a balanced text, which has no parameters.
-    pub places: Option<u8>,
-    /// The brace that ended the parameter text behind a parameter character.
-    pub brace: Option<Token>,
-}
 
 /// Where a scanner stands: what it remembers of all that it was fed with, apart from the list that it builds.
 ///
 /// A definition begins at `Parameters(0)`, behind the name that is defined, and a balanced text at `First`. Whoever has
-/// the list elsewhere goes on from stage to stage by [`Stage::took`] and [`Stage::told`], and asks by [`Stage::due`].
+/// the list elsewhere goes on from stage to stage by [`Stage::took`] and [`Stage::noted`], and asks by [`Stage::due`].
 /// *The TeXbook*, chapters 20 and 24; *TeX: The Program*, part 27 (`scan_toks`).
 #[derive(Clone, Copy)]
 pub enum Stage {
@@ -131,20 +122,18 @@ fn place_digit(token: Token, count: u8) -> Option<u8>
     }
 }
 
-impl Body {
-    // Whether a token is a parameter character that stands for a parameter.
-    fn is_reference(self, x: Seen) -> bool
-        ensures { result ≡ is_reference (body_of self) x }
-    {
-        self.places.is_some() && is_parameter(x)
-    }
+// Whether a token of a body is a parameter character that stands for a parameter.
+fn is_reference(inside: Body, x: Seen) -> bool
+    ensures { result ≡ is_reference inside x }
+{
+    inside.places.is_some() && is_parameter(x)
+}
 
-    // Whether a token of it stands for itself, and is no brace.
-    fn keeps(self, x: Seen) -> bool
-        ensures { result ≡ is_kept self x }
-    {
-        !has_category(x.token, 1) && !has_category(x.token, 2) && !self.is_reference(x)
-    }
+// Whether a token of a body stands for itself, and is no brace.
+fn is_kept(inside: Body, x: Seen) -> bool
+    ensures { result ≡ is_kept inside x }
+{
+    !has_category(x.token, 1) && !has_category(x.token, 2) && !is_reference(inside, x)
 }
 
 impl Step {
@@ -278,7 +267,7 @@ impl Stage {
     // In a body.
     fn took_body(inside: Body, depth: usize, x: Seen) -> Step
         requires { depth + 1 < 2 ^ 64 }
-        ensures takes { (m : Manner) (list : List Token) (fed : List Fed) → body m (body_of inside) depth list (Tok x ∷ fed) ≡ goes result m list fed }
+        ensures takes { (m : Manner) (list : List Token) (fed : List Fed) → body m inside depth list (Tok x ∷ fed) ≡ goes result m list fed }
         ensures shallow { depth_after result.next ≤ depth + growth result }
     {
         if has_category(x.token, 1) {
@@ -294,7 +283,7 @@ impl Stage {
             }
             return Step::with(x.token, Stage::InBody(inside, depth - 1));
         }
-        if inside.is_reference(x) {
+        if is_reference(inside, x) {
             return Step::to(Stage::Reference(inside, depth, x.token));
         }
         Step::with(x.token, Stage::InBody(inside, depth))
@@ -302,7 +291,7 @@ impl Stage {
 
     // Behind a parameter character of a macro's body.
     fn took_reference(inside: Body, depth: usize, character: Token, y: Seen) -> Step
-        ensures takes { (m : Manner) (list : List Token) (fed : List Fed) → reference m (body_of inside) depth character list (Tok y ∷ fed) ≡ goes result m list fed }
+        ensures takes { (m : Manner) (list : List Token) (fed : List Fed) → reference m inside depth character list (Tok y ∷ fed) ≡ goes result m list fed }
         ensures shallow { depth_after result.next ≡ depth }
     {
         if is_parameter(y) {
@@ -325,7 +314,7 @@ impl Stage {
         ensures stays { IsTrue result → (m : Manner) (list : List Token) (fed : List Fed) → resume m self.now list (Tok x ∷ fed) ≡ resume m self.now (list ++ x.token ∷ []) fed }
     {
         match self {
-            Stage::InBody(inside, _) => inside.keeps(x),
+            Stage::InBody(inside, _) => is_kept(*inside, x),
             _ => false,
         }
     }

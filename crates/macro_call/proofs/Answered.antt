@@ -9,8 +9,8 @@ use Rattle.tex_defs.specs.declared.Token.{Token}
 use Rattle.token_lists.specs.Ids.{build_id, IsBuilding}
 use Rattle.token_lists.specs.Table.{Entry, tokens_at, holders_at}
 use Rattle.token_lists.specs.Accounts.{Moves, Keeps, none}
-use Rattle.macro_call.specs.declared.par_mode.ParMode.{ParMode}
-use Rattle.macro_call.specs.declared.par_mode.ParMode.TheVariants.{Short}
+use Rattle.plain_tokens.specs.declared.par_mode.ParMode.{ParMode}
+use Rattle.plain_tokens.specs.declared.par_mode.ParMode.TheVariants.{Short}
 use Rattle.plain_tokens.specs.Arguments.{Fed, Tok, Ended, arguments, is_checked, arguments_in, work_in, case_at}
 use Rattle.macro_call.specs.declared.cursor.Cursor.{Cursor}
 use Rattle.macro_call.specs.declared.present.Present.{Present}
@@ -21,7 +21,6 @@ use Rattle.macro_call.specs.declared.ask.CallAsk.{CallAsk}
 use Rattle.macro_call.specs.declared.ask.CallAsk.TheVariants as ask
 use Rattle.macro_args.specs.Args.{args_in}
 use Rattle.macro_call.specs.Cursors.{delimiter_at}
-use Rattle.macro_call.specs.Modes.{par_mode}
 use Rattle.macro_call.specs.Stages.{Stage, stage_of, kept_in, read_in, gained}
 use Rattle.macro_call.specs.Tables.{IsGrownByPart}
 use Rattle.macro_call.specs.PlainScans.{Scan, with_work, places_behind}
@@ -59,10 +58,10 @@ module _ (old_table table : List (Option Entry)) (macro : ℕ) (old : ArgScan) (
   braced t = goes old_table table macro old x t.p t.was sound t.took.2 account t.q n t.now t.took.0 t.took.1 Short true _ _ t.took.3.goes_on.2 t.took.3.goes_on.0 t.took.3.goes_on.1 t.took.4 ask.ExtraBrace refl (λ args ts. refl)
       (case_on old_table table macro old x t.p t.was sound t.took.2 account _ t.took.3.met)
 
-  pub ended : (silent : Bool) → silent ≡ is_checked (par_mode old.mode) → Parts old_table table macro old.cursor old.mode x step.ParEnded old.present n → Answers old_table table macro old (record { cursor = old.cursor; mode = old.mode; braced = false; present = n; args = old.args }) x (ask.ParEnded silent)
+  pub ended : (silent : Bool) → silent ≡ is_checked old.mode → Parts old_table table macro old.cursor old.mode x step.ParEnded old.present n → Answers old_table table macro old (record { cursor = old.cursor; mode = old.mode; braced = false; present = n; args = old.args }) x (ask.ParEnded silent)
   ended silent is t = record {
     answers = ap₂ (λ (b : Bool) (ts : List Token). Ended b (args_in table old.args) ts) is (ap (λ (o : Option Present). unwrap_or (work_by table o) []) t.now ∙ t.took.3.goes_on)
-        ∙ ap (λ (us : List (List Token)). Ended (is_checked (par_mode old.mode)) us (kept_in (stage_of old_table t.p) ++ read_in (delimiter_at old_table macro old.cursor) (stage_of old_table t.p)))
+        ∙ ap (λ (us : List (List Token)). Ended (is_checked old.mode) us (kept_in (stage_of old_table t.p) ++ read_in (delimiter_at old_table macro old.cursor) (stage_of old_table t.p)))
         (args_stay old_table table macro old t.p t.was (here old_table table macro old x t.p t.was sound t.took.2 account).0 sound.owns sound.outside t.took.2)
         ∙ sym (case_on old_table table macro old x t.p t.was sound t.took.2 account _ t.took.3.met []);
     args = args_stay old_table table macro old t.p t.was (here old_table table macro old x t.p t.was sound t.took.2 account).0 sound.owns sound.outside t.took.2
@@ -122,11 +121,11 @@ module _ (old_table table : List (Option Entry)) (macro : ℕ) (old : ArgScan) (
       places = λ h l. done.kept.places h (omega (arith, taken_moves h, l)) ∙ taken_kept.places h l;
     }
 
-    whole_on : (fed : List Fed) → resume old_table macro old (Tok x ∷ fed) ≡ arguments (par_mode mid.mode) (args_in between_table mid.args) (left_at between_table macro mid) fed
+    whole_on : (fed : List Fed) → resume old_table macro old (Tok x ∷ fed) ≡ arguments mid.mode (args_in between_table mid.args) (left_at between_table macro mid) fed
     whole_on fed =
         case_on old_table table macro old x t.p t.was sound t.took.2 account _ t.took.3.met fed
-        ∙ ap (λ (m : ParMode). arguments (par_mode m) (args_in old_table old.args ++ tokens_at table (build_id t.q.build) ∷ []) (behind_at old_table macro old) fed) (sym taken_mode)
-        ∙ ap₂ (λ (us ps : List (List Token)). arguments (par_mode mid.mode) us ps fed) (sym mid_args) (sym (done.places ∙ taken_places))
+        ∙ ap (λ (m : ParMode). arguments m (args_in old_table old.args ++ tokens_at table (build_id t.q.build) ∷ []) (behind_at old_table macro old) fed) (sym taken_mode)
+        ∙ ap₂ (λ (us ps : List (List Token)). arguments mid.mode us ps fed) (sym mid_args) (sym (done.places ∙ taken_places))
 
     pub whole_answers : (new_table : List (Option Entry)) (new : ArgScan) (a : CallAsk) → Enters between_table new_table macro mid new a → Answers old_table new_table macro old new x a
     whole_answers new_table new a e = record {
@@ -166,7 +165,7 @@ module _ (old_table table : List (Option Entry)) (macro : ℕ) (old : ArgScan) (
         args = mid_args
             ∙ ap (λ (a : List Token). args_in old_table old.args ++ a ∷ []) (sym (target old_table table macro old x t.p t.was sound t.took.2 account (tokens_at table (build_id t.q.build)) t.took.3.met))
             ∙ sym (ap (λ (o : Option Present). args_with (option_map (λ s. stage_of old_table s) o) (args_in old_table old.args) (target_of (resume old_table macro old []) (resume old_table macro old (Tok x ∷ [])))) t.was);
-        due = whole_on [] ∙ arguments-more (par_mode mid.mode) (args_in between_table mid.args) (left_at between_table macro mid) some;
+        due = whole_on [] ∙ arguments-more mid.mode (args_in between_table mid.args) (left_at between_table macro mid) some;
         same = whole_on;
       });
     }
@@ -187,10 +186,10 @@ module _ (old_table table : List (Option Entry)) (macro : ℕ) (old : ArgScan) (
 
 -- a scanner as plain data, where the argument stands so
 abbrev seen : ArgScan → Stage → List (List Token) → Scan
-seen scan s us = record { at = scan.cursor.index; mode = par_mode scan.mode; braced = scan.braced; present = Some s; args = us }
+seen scan s us = record { at = scan.cursor.index; mode = scan.mode; braced = scan.braced; present = Some s; args = us }
 
 abbrev seen_at : List (Option Entry) → ArgScan → Option Present → Scan
-seen_at table scan o = record { at = scan.cursor.index; mode = par_mode scan.mode; braced = scan.braced; present = option_map (λ p. stage_of table p) o; args = args_in table scan.args }
+seen_at table scan o = record { at = scan.cursor.index; mode = scan.mode; braced = scan.braced; present = option_map (λ p. stage_of table p) o; args = args_in table scan.args }
 
 -- the memory is full at a step
 pub cut_step : (old_table table : List (Option Entry)) (macro : ℕ) (old : ArgScan) (x : Token) (o n : Option Present) → old.present ≡ o → IsSound old_table macro old → Moves old_table table none none → CutIn old_table table macro old.cursor old.mode x o n →
@@ -202,7 +201,7 @@ cut_step old_table table macro old x (Some p) (Some q) e sound account h =
     let same_stage : stage_of table q ≡ record { list = tokens_at table (build_id q.build); from = p.from; matched = p.matched; depth = p.depth } =
     ap₂ (λ (f m : ℕ). record { list = tokens_at table (build_id q.build); from = f; matched = m; depth = q.depth }) h.3.from h.3.matched
     ∙ ap (λ (d : ℕ). record { list = tokens_at table (build_id q.build); from = p.from; matched = p.matched; depth = d }) h.3.depth in
-    let met = case_at (delimiter_at old_table macro old.cursor) (par_mode old.mode) (kept_in (stage_of old_table p)) (read_in (delimiter_at old_table macro old.cursor) (stage_of old_table p)) x in
+    let met = case_at (delimiter_at old_table macro old.cursor) old.mode (kept_in (stage_of old_table p)) (read_in (delimiter_at old_table macro old.cursor) (stage_of old_table p)) x in
     record {
       owns = now_owns old_table table macro old x p e sound h.2 account q (Some q) refl h.0 h.1 old.mode old.braced;
       moves = now_moves old_table table macro old x p e sound h.2 account q (Some q) refl h.0 h.1 old.mode old.braced;

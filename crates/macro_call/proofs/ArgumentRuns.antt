@@ -2,7 +2,9 @@
 use Rattle.std.proofs.Common.{◌≡◌, List, [], ◌∷◌, ◌++◌, refl, sym, ap, subst, ◌∙◌, Bool, true, false}
 use Rattle.std.specs.Prelude.{if◌then◌else◌}
 use Rattle.tex_defs.specs.declared.Token.{Token}
-use Rattle.plain_tokens.specs.Arguments.{ParMode, Short, Checked, same, Case, Argument, ExtraBrace, ParEnded, Skipped, Going, Fed, Tok, Cut, Noted, Answer, Mismatch, Ended, Found, Sought, Gathered, Failed, case_at, search, sought, arguments, behind, call, is_checked}
+use Rattle.plain_tokens.specs.declared.par_mode.ParMode.{ParMode}
+use Rattle.plain_tokens.specs.declared.par_mode.ParMode.TheVariants.{Short, Checked}
+use Rattle.plain_tokens.specs.Arguments.{same, Case, Argument, ExtraBrace, ParEnded, Skipped, Going, Fed, Tok, Cut, Noted, Answer, Mismatch, Ended, Found, Sought, Gathered, Failed, case_at, search, sought, arguments, behind, call, is_checked}
 use Rattle.macro_call.specs.ArgumentLaws.{IsClosed}
 
 pub arguments_behind : (mode : ParMode) (args places : List (List Token)) (ds : List Token) (fed : List Fed) → arguments mode args (ds ∷ places) fed ≡ behind args places (search ds false mode [] [] fed)

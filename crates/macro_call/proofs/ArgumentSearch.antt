@@ -4,7 +4,8 @@ use Rattle.std.specs.Prelude.{◌==◌}
 use Rattle.std.proofs.lemmas.Bool.{and_parts, false_from_ne_true, not-true}
 use Rattle.std.proofs.lemmas.List.{take_at}
 use Rattle.tex_defs.specs.declared.Token.{Token}
-use Rattle.plain_tokens.specs.Arguments.{is_end, open_after, open_behind, all_close, is_delimited, is_extra, front, without_braces, delimited_case, Long, Argument, Going, Gathered, search}
+use Rattle.plain_tokens.specs.declared.par_mode.ParMode.TheVariants.{Long}
+use Rattle.plain_tokens.specs.Arguments.{is_end, open_after, open_behind, all_close, is_delimited, is_extra, front, without_braces, delimited_case, Argument, Going, Gathered, search}
 use Rattle.macro_call.specs.ArgumentLaws.{IsShortest, ArgumentsAreShortest, fed_with}
 use Rattle.macro_call.proofs.ArgumentMatches.{delimited_is, is_delimited_by}
 use Rattle.macro_call.proofs.ArgumentRuns.{search_at}

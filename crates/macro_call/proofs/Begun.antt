@@ -7,10 +7,8 @@ use Rattle.tex_defs.specs.declared.Token.TheVariants.{Place}
 use Rattle.token_lists.specs.declared.Build.{Build}
 use Rattle.token_lists.specs.Ids.{build_id}
 use Rattle.token_lists.specs.Table.{Entry, entry_at, tokens_of, tokens_at, holders_at, holders_of, empty}
-use Rattle.macro_call.specs.declared.par_mode.ParMode.{ParMode}
-use Rattle.macro_call.specs.Modes.{par_mode}
+use Rattle.plain_tokens.specs.declared.par_mode.ParMode.{ParMode}
 use Rattle.plain_tokens.specs.Arguments.{begins_with_place, Fed, gathering}
-use Rattle.plain_tokens.specs.Arguments as plain
 use Rattle.macro_args.specs.declared.args.Args.{Args}
 use Rattle.macro_call.specs.declared.cursor.Cursor.{Cursor}
 use Rattle.macro_call.specs.declared.present.Present.{Present}
@@ -26,7 +24,7 @@ use Rattle.macro_call.proofs.Tables.{only_set, tokens_kept}
 abbrev stage : List Token → ℕ → ℕ → ℕ → Stage
 stage list from matched depth = record { list = list; from = from; matched = matched; depth = depth }
 
-abbrev begun : plain.ParMode → ℕ → Option Stage → List (List Token) → Scan
+abbrev begun : ParMode → ℕ → Option Stage → List (List Token) → Scan
 begun mode i o us = record { at = i; mode = mode; braced = false; present = o; args = us }
 
 module _ (table : List (Option Entry)) (macro : ℕ) (first : Cursor) (mode : ParMode) (args : Args) (count : args.count ≡ 0) (at : first.index ≡ 0) where
@@ -37,10 +35,10 @@ module _ (table : List (Option Entry)) (macro : ℕ) (first : Cursor) (mode : Pa
   no_args t = ap (λ (n : ℕ). map (λ cell. cell_tokens t cell) (take n args.lists)) count
 
   -- in front of the first place
-  pub begun_start : begins_with_place (rest_at table macro first) ≡ false → scan_of table (record { cursor = first; mode = mode; braced = false; present = None; args = args }) ≡ first_scan (tokens_at table macro) (par_mode mode)
+  pub begun_start : begins_with_place (rest_at table macro first) ≡ false → scan_of table (record { cursor = first; mode = mode; braced = false; present = None; args = args }) ≡ first_scan (tokens_at table macro) mode
   begun_start none =
-      ap₂ (λ (i : ℕ) (us : List (List Token)). begun (par_mode mode) i None us) at (no_args table)
-      ∙ sym (ap (λ (b : Bool). first_by b (par_mode mode)) (sym (ap begins_with_place whole) ∙ none))
+      ap₂ (λ (i : ℕ) (us : List (List Token)). begun mode i None us) at (no_args table)
+      ∙ sym (ap (λ (b : Bool). first_by b mode) (sym (ap begins_with_place whole) ∙ none))
 
   -- in the first place
   module _ (new_table : List (Option Entry)) (next : Cursor) (c : ℕ) (b : Build) (p : Present) (step : rest_at table macro first ≡ Place c ∷ rest_at table macro next) (one : next.index ≡ first.index + 1)
@@ -55,11 +53,11 @@ module _ (table : List (Option Entry)) (macro : ℕ) (first : Cursor) (mode : Pa
         ∙ ap (λ (n : ℕ). stage [] n p.matched p.depth) zeros.0
         ∙ ap₂ (λ (m d : ℕ). stage [] 0 m d) zeros.1 zeros.2
 
-    pub begun_place : scan_of new_table (record { cursor = next; mode = mode; braced = false; present = Some p; args = args }) ≡ first_scan (tokens_at table macro) (par_mode mode)
+    pub begun_place : scan_of new_table (record { cursor = next; mode = mode; braced = false; present = Some p; args = args }) ≡ first_scan (tokens_at table macro) mode
     begun_place =
-        ap₂ (λ (i : ℕ) (us : List (List Token)). begun (par_mode mode) i (Some (stage_of new_table p)) us) (omega (arith, at, one)) (no_args new_table)
-        ∙ ap (λ (s : Stage). begun (par_mode mode) 1 (Some s) []) fresh
-        ∙ sym (ap (λ (b : Bool). first_by b (par_mode mode)) (sym (ap begins_with_place whole) ∙ ap begins_with_place step))
+        ap₂ (λ (i : ℕ) (us : List (List Token)). begun mode i (Some (stage_of new_table p)) us) (omega (arith, at, one)) (no_args new_table)
+        ∙ ap (λ (s : Stage). begun mode 1 (Some s) []) fresh
+        ∙ sym (ap (λ (b : Bool). first_by b mode) (sym (ap begins_with_place whole) ∙ ap begins_with_place step))
 
 -- the same data
 pub told_at : (t u : List (Option Entry)) (cursor k : Cursor) (o q : Option Present) (mode : ParMode) (args : Args) → t ≡ u → cursor ≡ k → o ≡ q →
@@ -74,7 +72,7 @@ new_text table new_table macro b held fresh set =
     tokens_kept table new_table (build_id b) macro (only_set table new_table (build_id b) (Some empty) set) (λ e. omega (arith, held, ap (holders_at table) e, ap holders_of fresh))
 
 -- as the definition begins
-pub new_gathers : (table new_table : List (Option Entry)) (macro : ℕ) (scan : ArgScan) (mode : plain.ParMode) → tokens_at new_table macro ≡ tokens_at table macro → scan_of new_table scan ≡ first_scan (tokens_at table macro) mode → (fed : List Fed) →
+pub new_gathers : (table new_table : List (Option Entry)) (macro : ℕ) (scan : ArgScan) (mode : ParMode) → tokens_at new_table macro ≡ tokens_at table macro → scan_of new_table scan ≡ first_scan (tokens_at table macro) mode → (fed : List Fed) →
     resume new_table macro scan fed ≡ gathering (tokens_at table macro) mode fed
 new_gathers table new_table macro scan mode text is fed =
     ap₂ (λ (ts : List Token) (s : Scan). resume_scan ts s fed) text is ∙ first_gathers (tokens_at table macro) mode fed

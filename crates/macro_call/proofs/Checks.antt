@@ -3,7 +3,9 @@ use Rattle.std.proofs.Common.{◌≡◌, List, [], ◌∷◌, ◌++◌, drop, Op
 use Rattle.std.specs.Prelude.{◌&&◌, if◌then◌else◌}
 use Rattle.tex_defs.specs.declared.Token.{Token}
 use Rattle.plain_tokens.specs.Tokens.{is_space_token}
-use Rattle.plain_tokens.specs.Arguments.{ParMode, Long, Short, Checked, start_of, places_of, same, is_par, is_nil, is_short, is_extra, is_single, is_group, is_delimited, inner, front, partial, without_braces, Case, Argument, ExtraBrace, ParEnded, Skipped, Going, Tok, Answer, Mismatch, case_at, in_work, search, arguments, behind, call, arguments_in, work_in}
+use Rattle.plain_tokens.specs.declared.par_mode.ParMode.{ParMode}
+use Rattle.plain_tokens.specs.declared.par_mode.ParMode.TheVariants.{Long, Short, Checked}
+use Rattle.plain_tokens.specs.Arguments.{start_of, places_of, same, is_par, is_nil, is_short, is_extra, is_single, is_group, is_delimited, inner, front, partial, without_braces, Case, Argument, ExtraBrace, ParEnded, Skipped, Going, Tok, Answer, Mismatch, case_at, in_work, search, arguments, behind, call, arguments_in, work_in}
 use Rattle.macro_call.specs.Stages.{Stage, kept_in, read_in}
 use Rattle.macro_call.specs.PlainScans.{Scan, ChecksShowAtPars, cut_scan, resume_at, places_behind}
 use Rattle.macro_call.proofs.ArgumentRuns.{arguments_behind, found_after, search_at}

@@ -4,7 +4,8 @@ use Rattle.std.specs.Prelude.{◌==◌}
 use Rattle.std.proofs.lemmas.Bool.{and_parts, and_from, eq-eqb, eqb-true, false_from_ne_true}
 use Rattle.std.proofs.lemmas.List.{take-append-drop, append-nil, length-take-le, take_all, take_at}
 use Rattle.tex_defs.specs.declared.Token.{Token}
-use Rattle.plain_tokens.specs.Arguments.{ParMode, is_end, is_par, is_short, open_behind, open_after, all_close, is_balanced, is_prefix, is_nil, partial, unmatched, front, is_delimited, is_extra, ends_par, delimited_case, without_braces, Argument, ExtraBrace, ParEnded, Going}
+use Rattle.plain_tokens.specs.declared.par_mode.ParMode.{ParMode}
+use Rattle.plain_tokens.specs.Arguments.{is_end, is_par, is_short, open_behind, open_after, all_close, is_balanced, is_prefix, is_nil, partial, unmatched, front, is_delimited, is_extra, ends_par, delimited_case, without_braces, Argument, ExtraBrace, ParEnded, Going}
 use Rattle.macro_call.proofs.ArgumentMatches.{partial_on, unmatched_on, front_is_take, is_match, begins_outside, open_after_on, all_close_on, all_close_front, delimited_is, is_delimited_by, partial_of}
 use Rattle.macro_call.specs.Stages.{IsAt, Stage, IsDelimitedStage, IsStage}
 

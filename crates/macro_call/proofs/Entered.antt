@@ -20,7 +20,6 @@ use Rattle.macro_call.specs.declared.ask.CallAsk.TheVariants as ask
 use Rattle.macro_args.specs.Args.{cell_tokens, args_in, args_hold}
 use Rattle.macro_call.specs.Cursors.{IsOn, IsAhead, rest_at, delimiter_at}
 use Rattle.macro_call.specs.Holds.{present_holds}
-use Rattle.macro_call.specs.Modes.{par_mode}
 use Rattle.macro_call.specs.Stages.{IsStage, stage_of, kept_in, read_in}
 use Rattle.macro_call.specs.Tables.{IsOnly}
 use Rattle.macro_call.specs.PlainScans.{places_behind}
@@ -135,21 +134,21 @@ module _ (old_table table : List (Option Entry)) (macro : ℕ) (old : ArgScan) (
   read_none : read_in (delimiter_at table macro next) (stage_of table p) ≡ []
   read_none = ap₂ (λ (k : ℕ) (ts : List Token). drop k ts ++ take p.matched (delimiter_at table macro next)) zeros.0 nothing ∙ take_nothing p.matched (delimiter_at table macro next) zeros.1
 
-  goes_on : (fed : List Fed) → arguments (par_mode old.mode) (args_in old_table old.args) (left_at old_table macro old) fed
+  goes_on : (fed : List Fed) → arguments old.mode (args_in old_table old.args) (left_at old_table macro old) fed
       ≡ resume table macro (record { cursor = next; mode = old.mode; braced = old.braced; present = Some p; args = old.args }) fed
   goes_on fed =
-      ap (λ (ps : List (List Token)). arguments (par_mode old.mode) (args_in old_table old.args) ps fed) places
-      ∙ arguments_behind (par_mode old.mode) (args_in old_table old.args) (places_behind (args_in table old.args) (rest_at table macro next)) (delimiter_at table macro next) fed
-      ∙ ap (λ (args : List (List Token)). behind args (places_behind (args_in table old.args) (rest_at table macro next)) (search (delimiter_at table macro next) false (par_mode old.mode) [] [] fed)) (sym same_args)
-      ∙ ap (λ (k : List Token). behind (args_in table old.args) (places_behind (args_in table old.args) (rest_at table macro next)) (search (delimiter_at table macro next) false (par_mode old.mode) k [] fed)) (sym kept_none)
-      ∙ ap (λ (t : List Token). behind (args_in table old.args) (places_behind (args_in table old.args) (rest_at table macro next)) (search (delimiter_at table macro next) false (par_mode old.mode) (kept_in (stage_of table p)) t fed)) (sym read_none)
-      ∙ ap (λ (s : Bool). behind (args_in table old.args) (places_behind (args_in table old.args) (rest_at table macro next)) (search (delimiter_at table macro next) s (par_mode old.mode) (kept_in (stage_of table p)) (read_in (delimiter_at table macro next) (stage_of table p)) fed)) (sym between.unbraced)
+      ap (λ (ps : List (List Token)). arguments old.mode (args_in old_table old.args) ps fed) places
+      ∙ arguments_behind old.mode (args_in old_table old.args) (places_behind (args_in table old.args) (rest_at table macro next)) (delimiter_at table macro next) fed
+      ∙ ap (λ (args : List (List Token)). behind args (places_behind (args_in table old.args) (rest_at table macro next)) (search (delimiter_at table macro next) false old.mode [] [] fed)) (sym same_args)
+      ∙ ap (λ (k : List Token). behind (args_in table old.args) (places_behind (args_in table old.args) (rest_at table macro next)) (search (delimiter_at table macro next) false old.mode k [] fed)) (sym kept_none)
+      ∙ ap (λ (t : List Token). behind (args_in table old.args) (places_behind (args_in table old.args) (rest_at table macro next)) (search (delimiter_at table macro next) false old.mode (kept_in (stage_of table p)) t fed)) (sym read_none)
+      ∙ ap (λ (s : Bool). behind (args_in table old.args) (places_behind (args_in table old.args) (rest_at table macro next)) (search (delimiter_at table macro next) s old.mode (kept_in (stage_of table p)) (read_in (delimiter_at table macro next) (stage_of table p)) fed)) (sym between.unbraced)
 
   pub entered : Enters old_table table macro old (record { cursor = next; mode = old.mode; braced = old.braced; present = Some p; args = old.args }) ask.More
   entered = record {
-    answers = ap₂ (λ (us : List (List Token)) (ts : List Token). More us (Some ts)) same_args nothing ∙ sym (ap (λ (ps : List (List Token)). arguments (par_mode old.mode) (args_in old_table old.args) ps []) places);
-    args = same_args ∙ sym (ap (λ (ps : List (List Token)). arguments_in (arguments (par_mode old.mode) (args_in old_table old.args) ps [])) places);
-    work = ap Some nothing ∙ sym (ap (λ (ps : List (List Token)). work_in (arguments (par_mode old.mode) (args_in old_table old.args) ps [])) places);
+    answers = ap₂ (λ (us : List (List Token)) (ts : List Token). More us (Some ts)) same_args nothing ∙ sym (ap (λ (ps : List (List Token)). arguments old.mode (args_in old_table old.args) ps []) places);
+    args = same_args ∙ sym (ap (λ (ps : List (List Token)). arguments_in (arguments old.mode (args_in old_table old.args) ps [])) places);
+    work = ap Some nothing ∙ sym (ap (λ (ps : List (List Token)). work_in (arguments old.mode (args_in old_table old.args) ps [])) places);
     braced = between.unbraced;
     sound = λ o. is_sound;
     same = λ o. goes_on;

@@ -2,7 +2,8 @@
 use Rattle.std.proofs.Common.{◌≡◌, ◌<◌, List, [], ◌∷◌, ◌++◌, length, drop, Bool, true, false, Some, refl, ap, ◌∙◌, arith}
 use Rattle.std.proofs.lemmas.List.{drop_at, drop_all, append-nil}
 use Rattle.tex_defs.specs.declared.Token.{Token}
-use Rattle.plain_tokens.specs.Arguments.{ParMode, Case, Argument, ExtraBrace, ParEnded, Skipped, Going, in_work, More, sought, arguments, behind, arguments_in, work_in}
+use Rattle.plain_tokens.specs.declared.par_mode.ParMode.{ParMode}
+use Rattle.plain_tokens.specs.Arguments.{Case, Argument, ExtraBrace, ParEnded, Skipped, Going, in_work, More, sought, arguments, behind, arguments_in, work_in}
 use Rattle.macro_call.specs.Growths.{target_by, target_of, growth_of}
 use Rattle.macro_call.specs.Stages.{target_at}
 use Rattle.macro_call.proofs.ArgumentRuns.{found_after}

@@ -2,7 +2,9 @@
 use Rattle.std.proofs.Common.{◌≡◌, List, [], ◌∷◌, drop, Option, None, Some, refl, sym}
 use Rattle.tex_defs.specs.declared.Token.{Token}
 use Rattle.tex_defs.specs.declared.Token.TheVariants.{Char, Named, Marked, Place, Number, EndPlaces}
-use Rattle.plain_tokens.specs.Arguments.{ParMode, Checked, start_of, places_of, Fed, Cut, Noted, call, gathering}
+use Rattle.plain_tokens.specs.declared.par_mode.ParMode.{ParMode}
+use Rattle.plain_tokens.specs.declared.par_mode.ParMode.TheVariants.{Checked}
+use Rattle.plain_tokens.specs.Arguments.{start_of, places_of, Fed, Cut, Noted, call, gathering}
 use Rattle.macro_call.specs.Stages.{Stage}
 use Rattle.macro_call.specs.PlainScans.{Scan, ScansGather, first_scan, cut_scan, noted_scan, resume_scan, resume_at, places_behind}
 use Rattle.macro_call.proofs.ArgumentRuns.{arguments_behind}

@@ -7,7 +7,7 @@ use Rattle.tex_defs.specs.declared.Token.{Token}
 use Rattle.token_lists.specs.Ids.{build_id, IsBuilding}
 use Rattle.token_lists.specs.Table.{Entry}
 use Rattle.token_lists.specs.Accounts.{Moves, none, holds}
-use Rattle.macro_call.specs.declared.par_mode.ParMode.{ParMode}
+use Rattle.plain_tokens.specs.declared.par_mode.ParMode.{ParMode}
 use Rattle.plain_tokens.specs.Arguments.{start_of, unmatched, Case, Argument, Fed, Tok, Answer, search, behind, call, case_at, in_work, More, sought, arguments_in, work_in}
 use Rattle.plain_tokens.specs.Arguments as plain
 use Rattle.macro_call.proofs.ArgumentRuns.{search_at, found_after}
@@ -17,7 +17,6 @@ use Rattle.macro_call.specs.declared.ask.CallAsk.{CallAsk}
 use Rattle.macro_args.specs.Args.{cell_tokens, args_in, args_hold}
 use Rattle.macro_call.specs.Cursors.{IsAhead, rest_at, delimiter_at}
 use Rattle.macro_call.specs.Holds.{present_holds}
-use Rattle.macro_call.specs.Modes.{par_mode}
 use Rattle.macro_call.specs.Growths.{target_of, growth_of}
 use Rattle.macro_call.specs.Stages.{Stage, IsStage, stage_of, kept_in, read_in, target_at, gained}
 use Rattle.macro_call.specs.Tables.{IsOnly}
@@ -41,14 +40,14 @@ in_place_by : (table : List (Option Entry)) (macro : ℕ) (scan : ArgScan) (o : 
 in_place_by table macro scan o p e h = subst (IsInPlace table macro scan) e h
 
 -- in front of the first place there is no list yet
-front_more : (mode : plain.ParMode) (start : List Token) (places : List (List Token)) → 0 < length start → call mode start places [] ≡ More [] None
+front_more : (mode : ParMode) (start : List Token) (places : List (List Token)) → 0 < length start → call mode start places [] ≡ More [] None
 front_more mode [] places some = absurd (omega arith)
 front_more mode (d ∷ ds) places some = refl
 
 lists_by : (table : List (Option Entry)) (macro : ℕ) (scan : ArgScan) (o : Option Present) → IsInPlace table macro scan o →
     (args_in table scan.args ≡ arguments_in (resume_by table macro scan o [])) × (work_by table o ≡ work_in (resume_by table macro scan o []))
 lists_by table macro scan None h =
-    let more = front_more (par_mode scan.mode) (start_of (rest_at table macro scan.cursor)) (plain.places_of (rest_at table macro scan.cursor)) h.2 in
+    let more = front_more scan.mode (start_of (rest_at table macro scan.cursor)) (plain.places_of (rest_at table macro scan.cursor)) h.2 in
     (ap (λ (n : ℕ). map (λ cell. cell_tokens table cell) (take n scan.args.lists)) h.0 ∙ sym (ap arguments_in more), sym (ap work_in more))
 lists_by table macro scan (Some p) h =
     let list = in_work (delimiter_at table macro scan.cursor) (kept_in (stage_of table p)) (read_in (delimiter_at table macro scan.cursor) (stage_of table p)) in (
@@ -73,28 +72,28 @@ module _ (old_table table : List (Option Entry)) (macro : ℕ) (old : ArgScan) (
   old_rest = ap (drop old.cursor.index) (macro_tokens old_table table macro old p present here.0 sound.owns sound.outside others)
 
   -- what is answered once the case is known
-  pub case_on : (c : Case) → c ≡ case_at (delimiter_at old_table macro old.cursor) (par_mode old.mode) (kept_in (stage_of old_table p)) (read_in (delimiter_at old_table macro old.cursor) (stage_of old_table p)) x → (fed : List Fed) →
+  pub case_on : (c : Case) → c ≡ case_at (delimiter_at old_table macro old.cursor) old.mode (kept_in (stage_of old_table p)) (read_in (delimiter_at old_table macro old.cursor) (stage_of old_table p)) x → (fed : List Fed) →
       resume old_table macro old (Tok x ∷ fed) ≡ behind (args_in old_table old.args) (behind_at old_table macro old)
-      (found_after (delimiter_at old_table macro old.cursor) (par_mode old.mode) (kept_in (stage_of old_table p)) (read_in (delimiter_at old_table macro old.cursor) (stage_of old_table p)) x fed c)
+      (found_after (delimiter_at old_table macro old.cursor) old.mode (kept_in (stage_of old_table p)) (read_in (delimiter_at old_table macro old.cursor) (stage_of old_table p)) x fed c)
   case_on c is fed =
       ap (λ (o : Option Present). resume_by old_table macro old o (Tok x ∷ fed)) present
       ∙ ap (behind (args_in old_table old.args) (behind_at old_table macro old))
-      (search_at (delimiter_at old_table macro old.cursor) old.braced (par_mode old.mode) (kept_in (stage_of old_table p)) (read_in (delimiter_at old_table macro old.cursor) (stage_of old_table p)) x fed c is)
+      (search_at (delimiter_at old_table macro old.cursor) old.braced old.mode (kept_in (stage_of old_table p)) (read_in (delimiter_at old_table macro old.cursor) (stage_of old_table p)) x fed c is)
 
   -- what it becomes
-  pub target : (a : List Token) → Argument a ≡ case_at (delimiter_at old_table macro old.cursor) (par_mode old.mode) (kept_in (stage_of old_table p)) (read_in (delimiter_at old_table macro old.cursor) (stage_of old_table p)) x →
+  pub target : (a : List Token) → Argument a ≡ case_at (delimiter_at old_table macro old.cursor) old.mode (kept_in (stage_of old_table p)) (read_in (delimiter_at old_table macro old.cursor) (stage_of old_table p)) x →
       target_of (resume old_table macro old []) (resume old_table macro old (Tok x ∷ [])) ≡ a
   target a is =
       ap₂ target_of (ap (λ (o : Option Present). resume_by old_table macro old o []) present) (case_on (Argument a) is [])
-      ∙ whole_met (delimiter_at old_table macro old.cursor) (par_mode old.mode) (kept_in (stage_of old_table p)) (read_in (delimiter_at old_table macro old.cursor) (stage_of old_table p)) x
+      ∙ whole_met (delimiter_at old_table macro old.cursor) old.mode (kept_in (stage_of old_table p)) (read_in (delimiter_at old_table macro old.cursor) (stage_of old_table p)) x
       (args_in old_table old.args) (behind_at old_table macro old) old.braced a
 
   -- what goes into the list in work
-  pub growth : (met : Case) → met ≡ case_at (delimiter_at old_table macro old.cursor) (par_mode old.mode) (kept_in (stage_of old_table p)) (read_in (delimiter_at old_table macro old.cursor) (stage_of old_table p)) x →
+  pub growth : (met : Case) → met ≡ case_at (delimiter_at old_table macro old.cursor) old.mode (kept_in (stage_of old_table p)) (read_in (delimiter_at old_table macro old.cursor) (stage_of old_table p)) x →
       growth_of (resume old_table macro old []) (resume old_table macro old (Tok x ∷ [])) ≡ gained (delimiter_at old_table macro old.cursor) (stage_of old_table p) x met
   growth met is =
       ap₂ growth_of (ap (λ (o : Option Present). resume_by old_table macro old o []) present) (case_on met is [])
-      ∙ growth_met (delimiter_at old_table macro old.cursor) (par_mode old.mode) (kept_in (stage_of old_table p)) (read_in (delimiter_at old_table macro old.cursor) (stage_of old_table p)) x
+      ∙ growth_met (delimiter_at old_table macro old.cursor) old.mode (kept_in (stage_of old_table p)) (read_in (delimiter_at old_table macro old.cursor) (stage_of old_table p)) x
       (args_in old_table old.args) (behind_at old_table macro old) old.braced met
       ∙ ap (λ (ts : List Token). drop (length ts) (target_at (delimiter_at old_table macro old.cursor) (kept_in (stage_of old_table p)) (read_in (delimiter_at old_table macro old.cursor) (stage_of old_table p)) x met))
       (works (delimiter_at old_table macro old.cursor) (stage_of old_table p) here.1)
@@ -120,11 +119,11 @@ module _ (old_table table : List (Option Entry)) (macro : ℕ) (old : ArgScan) (
 
     module _ (mode : ParMode) (braced : Bool) (kept t : List Token) (stands : IsStage (delimiter_at old_table macro old.cursor) (stage_of table q)) (k : kept_in (stage_of table q) ≡ kept) (r : read_in (delimiter_at old_table macro old.cursor) (stage_of table q) ≡ t) (ahead : IsAhead table macro old.cursor q.matched q.next) where
       resumed : (fed : List Fed) → resume_by table macro (record { cursor = old.cursor; mode = mode; braced = braced; present = n; args = old.args }) n fed
-          ≡ behind (args_in old_table old.args) (behind_at old_table macro old) (search (delimiter_at old_table macro old.cursor) braced (par_mode mode) kept t fed)
+          ≡ behind (args_in old_table old.args) (behind_at old_table macro old) (search (delimiter_at old_table macro old.cursor) braced mode kept t fed)
       resumed fed =
           ap (λ (o : Option Present). resume_by table macro (record { cursor = old.cursor; mode = mode; braced = braced; present = n; args = old.args }) o fed) now_present
-          ∙ ap₂ (λ (args : List (List Token)) (rest : List Token). behind args (places_behind args rest) (search (start_of rest) braced (par_mode mode) (kept_in (stage_of table q)) (read_in (start_of rest) (stage_of table q)) fed)) old_args old_rest
-          ∙ ap₂ (λ (u v : List Token). behind (args_in old_table old.args) (behind_at old_table macro old) (search (delimiter_at old_table macro old.cursor) braced (par_mode mode) u v fed)) k r
+          ∙ ap₂ (λ (args : List (List Token)) (rest : List Token). behind args (places_behind args rest) (search (start_of rest) braced mode (kept_in (stage_of table q)) (read_in (start_of rest) (stage_of table q)) fed)) old_args old_rest
+          ∙ ap₂ (λ (u v : List Token). behind (args_in old_table old.args) (behind_at old_table macro old) (search (delimiter_at old_table macro old.cursor) braced mode u v fed)) k r
 
       now_in_place : IsInPlace table macro (record { cursor = old.cursor; mode = mode; braced = braced; present = n; args = old.args }) (Some q)
       now_in_place = (
@@ -149,7 +148,7 @@ module _ (old_table table : List (Option Entry)) (macro : ℕ) (old : ArgScan) (
           ∙ ap Some (sym (works (delimiter_at old_table macro old.cursor) (stage_of table q) stands) ∙ ap₂ (λ (u v : List Token). in_work (delimiter_at old_table macro old.cursor) u v) k r)
 
       pub goes : (a : CallAsk) → braced ≡ asks_brace a → ((args : List (List Token)) (ts : List Token) → answer_of a args (Some ts) ≡ sought args braced ts) →
-          ((fed : List Fed) → resume old_table macro old (Tok x ∷ fed) ≡ behind (args_in old_table old.args) (behind_at old_table macro old) (search (delimiter_at old_table macro old.cursor) braced (par_mode mode) kept t fed)) →
+          ((fed : List Fed) → resume old_table macro old (Tok x ∷ fed) ≡ behind (args_in old_table old.args) (behind_at old_table macro old) (search (delimiter_at old_table macro old.cursor) braced mode kept t fed)) →
           Answers old_table table macro old (record { cursor = old.cursor; mode = mode; braced = braced; present = n; args = old.args }) x a
       goes a asked is on = record {
         answers = ap₂ (answer_of a) old_args work ∙ is (args_in old_table old.args) (in_work (delimiter_at old_table macro old.cursor) kept t) ∙ sym (on []);

@@ -4,7 +4,8 @@ use Rattle.std.specs.Prelude.{◌==◌, IsTrue, ◌↔◌}
 use Rattle.std.proofs.lemmas.Bool.{cases_lt, true≢false}
 use Rattle.std.proofs.lemmas.List.{take-append-drop, append-nil, take-append-le, drop-append-le, take_all, drop_all, length-take-le}
 use Rattle.tex_defs.specs.declared.Token.{Token}
-use Rattle.plain_tokens.specs.Arguments.{ParMode, is_end, is_par, is_short, open_behind, open_after, partial, unmatched, in_work, delimited_case, without_braces, Case, Argument, ExtraBrace, ParEnded, Going}
+use Rattle.plain_tokens.specs.declared.par_mode.ParMode.{ParMode}
+use Rattle.plain_tokens.specs.Arguments.{is_end, is_par, is_short, open_behind, open_after, partial, unmatched, in_work, delimited_case, without_braces, Case, Argument, ExtraBrace, ParEnded, Going}
 use Rattle.macro_call.specs.Stages.{IsAt, Stage, IsDelimitedStage, Took, Releases, kept_in, read_in, target_at, gained}
 use Rattle.macro_call.specs.Tables.{IsGrownByPart}
 use Rattle.macro_call.specs.declared.present.Step.TheVariants as step

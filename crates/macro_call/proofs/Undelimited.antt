@@ -5,7 +5,9 @@ use Rattle.std.proofs.lemmas.Bool.{and_parts, and_right, eq-eqb, ne_eqb, true≢
 use Rattle.std.proofs.lemmas.List.{append-nil}
 use Rattle.tex_defs.specs.declared.Token.{Token}
 use Rattle.plain_tokens.specs.Tokens.{is_space_token}
-use Rattle.plain_tokens.specs.Arguments.{ParMode, Long, is_begin, is_end, is_par, is_short, open_behind, open_after, unmatched, all_close, is_group, inner, undelimited_case, is_single, is_extra, Case, Argument, ExtraBrace, ParEnded, Skipped, Going}
+use Rattle.plain_tokens.specs.declared.par_mode.ParMode.{ParMode}
+use Rattle.plain_tokens.specs.declared.par_mode.ParMode.TheVariants.{Long}
+use Rattle.plain_tokens.specs.Arguments.{is_begin, is_end, is_par, is_short, open_behind, open_after, unmatched, all_close, is_group, inner, undelimited_case, is_single, is_extra, Case, Argument, ExtraBrace, ParEnded, Skipped, Going}
 use Rattle.macro_call.proofs.ArgumentTokens.{no_par_end}
 use Rattle.macro_call.proofs.ArgumentGroups.{without_last_on, ends_in_brace_on}
 use Rattle.macro_call.proofs.ArgumentMatches.{open_after_on, all_close_on}

@@ -1,7 +1,9 @@
 -- What an argument is, said without the search for it.
 use Rattle.std.specs.Prelude.{[], ◌∷◌, ◌≡◌, ◌≢◌, ◌↔◌, ◌≤◌, ◌<◌, true, false, List, ◌++◌, length}
 use Rattle.tex_defs.specs.declared.Token.{Token}
-use Rattle.plain_tokens.specs.Arguments.{ParMode, Long, is_begin, is_end, open_after, all_close, is_balanced, is_prefix, partial, unmatched, is_delimited, without_braces, Fed, Tok, Answer, More, ExtraBraceFound, Called, Mismatch, Ended, Gathered, search, gathering}
+use Rattle.plain_tokens.specs.declared.par_mode.ParMode.{ParMode}
+use Rattle.plain_tokens.specs.declared.par_mode.ParMode.TheVariants.{Long}
+use Rattle.plain_tokens.specs.Arguments.{is_begin, is_end, open_after, all_close, is_balanced, is_prefix, partial, unmatched, is_delimited, without_braces, Fed, Tok, Answer, More, ExtraBraceFound, Called, Mismatch, Ended, Gathered, search, gathering}
 
 abbrev pub IsClosed : Answer → Type 0
 IsClosed (More args work) = ⊥

@@ -4,7 +4,6 @@ pub mod Rows
 pub mod Cursors
 pub mod Tables
 pub mod Braces
-pub mod Modes
 pub mod Stages
 pub mod PlainScans
 pub mod Holds

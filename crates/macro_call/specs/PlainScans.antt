@@ -1,7 +1,9 @@
 -- A scanner as plain data, and what it will answer on what is still to come.
 use Rattle.std.specs.Prelude.{◌≡◌, ℕ, ◌-◌, Bool, true, false, List, [], ◌∷◌, length, take, drop, Option, None, Some, option_map}
 use Rattle.tex_defs.specs.declared.Token.{Token}
-use Rattle.plain_tokens.specs.Arguments.{ParMode, Checked, start_of, delimiters_of, begins_with_place, is_par, Fed, Tok, Cut, Noted, Answer, search, behind, gathering, arguments_in, work_in}
+use Rattle.plain_tokens.specs.declared.par_mode.ParMode.{ParMode}
+use Rattle.plain_tokens.specs.declared.par_mode.ParMode.TheVariants.{Checked}
+use Rattle.plain_tokens.specs.Arguments.{start_of, delimiters_of, begins_with_place, is_par, Fed, Tok, Cut, Noted, Answer, search, behind, gathering, arguments_in, work_in}
 use Rattle.macro_call.specs.Stages.{Stage, kept_in, read_in}
 
 -- In front of the first place, the index of the token that must come next; in a place, that of its delimiter. Then how a

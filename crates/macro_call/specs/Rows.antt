@@ -5,7 +5,8 @@ use Rattle.tex_defs.specs.declared.Token.TheVariants.{Char, Named, Place, EndPla
 use Rattle.tex_defs.specs.declared.Name.TheVariants.{Word}
 use Rattle.plain_tokens.specs.Names.{par_primitive}
 use Rattle.macro_call.specs.Growths.{growth_of}
-use Rattle.plain_tokens.specs.Arguments.{Long, Short, Fed, Tok, Cut, Noted, More, ExtraBraceFound, Called, Ended, gathering}
+use Rattle.plain_tokens.specs.declared.par_mode.ParMode.TheVariants.{Long, Short}
+use Rattle.plain_tokens.specs.Arguments.{Fed, Tok, Cut, Noted, More, ExtraBraceFound, Called, Ended, gathering}
 
 abbrev pub letter : ℕ → Token
 letter code = Char 11 code

@@ -6,7 +6,7 @@ use Rattle.token_lists.specs.Accounts.{Covers, Moves, Keeps}
 use Rattle.token_lists.specs.Ids.{build_id, IsBuilding}
 use Rattle.macro_call.specs.declared.ask.CallAsk.{CallAsk}
 use Rattle.macro_call.specs.declared.ask.CallAsk.TheVariants as ask
-use Rattle.macro_call.specs.declared.par_mode.ParMode.{ParMode}
+use Rattle.plain_tokens.specs.declared.par_mode.ParMode.{ParMode}
 use Rattle.plain_tokens.specs.Arguments.{Fed, Tok, Answer, More, ExtraBraceFound, Called, Mismatch, Ended, case_at, arguments, arguments_in, work_in}
 use Rattle.macro_call.specs.declared.cursor.Cursor.{Cursor}
 use Rattle.macro_call.specs.declared.present.Present.{Present}
@@ -16,7 +16,6 @@ use Rattle.macro_args.specs.Args.{args_in, args_hold, IsFilled}
 use Rattle.macro_call.specs.Cursors.{IsOn, IsAhead, rest_at, delimiter_at}
 use Rattle.macro_call.specs.Holds.{present_holds}
 use Rattle.macro_call.specs.Listed.{AreListed}
-use Rattle.macro_call.specs.Modes.{par_mode}
 use Rattle.macro_call.specs.Tables.{IsGrownByPart, IsOnly}
 use Rattle.macro_call.specs.Growths.{target_of, growth_of}
 use Rattle.macro_call.specs.Stages.{Stage, stage_of, IsSamePoint, IsStage, Took, gained, kept_in, read_in}
@@ -24,7 +23,7 @@ use Rattle.macro_call.specs.PlainScans.{Scan, with_work, resume_scan, scan_work,
 
 -- the scanner as plain data
 abbrev pub scan_of : List (Option Entry) → ArgScan → Scan
-scan_of table scan = record { at = scan.cursor.index; mode = par_mode scan.mode; braced = scan.braced; present = option_map (λ p. stage_of table p) scan.present; args = args_in table scan.args }
+scan_of table scan = record { at = scan.cursor.index; mode = scan.mode; braced = scan.braced; present = option_map (λ p. stage_of table p) scan.present; args = args_in table scan.args }
 
 abbrev pub resume : List (Option Entry) → (macro : ℕ) → ArgScan → List Fed → Answer
 resume table macro scan fed = resume_scan (tokens_at table macro) (scan_of table scan) fed
@@ -113,12 +112,12 @@ pub record Gains (old_table : List (Option Entry)) (before after : ℕ → ℕ) 
 
 -- Behind the tokens in front of the first place, or behind a delimiter: the next place is entered, or the call is made.
 pub record Enters (old_table new_table : List (Option Entry)) (macro : ℕ) (old new : ArgScan) (answer : CallAsk) : Type 0 where
-  pub answers : answer_of answer (args_in new_table new.args) (work_of new_table new) ≡ arguments (par_mode old.mode) (args_in old_table old.args) (left_at old_table macro old) []
-  pub args : args_in new_table new.args ≡ arguments_in (arguments (par_mode old.mode) (args_in old_table old.args) (left_at old_table macro old) [])
-  pub work : work_of new_table new ≡ work_in (arguments (par_mode old.mode) (args_in old_table old.args) (left_at old_table macro old) [])
+  pub answers : answer_of answer (args_in new_table new.args) (work_of new_table new) ≡ arguments old.mode (args_in old_table old.args) (left_at old_table macro old) []
+  pub args : args_in new_table new.args ≡ arguments_in (arguments old.mode (args_in old_table old.args) (left_at old_table macro old) [])
+  pub work : work_of new_table new ≡ work_in (arguments old.mode (args_in old_table old.args) (left_at old_table macro old) [])
   pub braced : new.braced ≡ asks_brace answer
   pub sound : IsOpen answer → IsSound new_table macro new
-  pub same : IsOpen answer → (fed : List Fed) → arguments (par_mode old.mode) (args_in old_table old.args) (left_at old_table macro old) fed ≡ resume new_table macro new fed
+  pub same : IsOpen answer → (fed : List Fed) → arguments old.mode (args_in old_table old.args) (left_at old_table macro old) fed ≡ resume new_table macro new fed
   pub owns : Owns new_table new
   pub moves : Moves old_table new_table (scan_holds old) (scan_holds new)
   pub gains : Gains old_table (scan_holds old) (scan_holds new)
@@ -178,7 +177,7 @@ pub record IsCutBetween (old_table new_table : List (Option Entry)) (macro : ℕ
   pub unbraced : new.braced ≡ false
   pub args : args_in new_table new.args ≡ args_with (scan_of old_table old).present (args_in old_table old.args) (target_of (resume old_table macro old []) (resume old_table macro old (Tok x ∷ [])))
   pub due : resume old_table macro old (Tok x ∷ []) ≡ More (args_in new_table new.args) (Some [])
-  pub same : (fed : List Fed) → resume old_table macro old (Tok x ∷ fed) ≡ arguments (par_mode new.mode) (args_in new_table new.args) (left_at new_table macro new) fed
+  pub same : (fed : List Fed) → resume old_table macro old (Tok x ∷ fed) ≡ arguments new.mode (args_in new_table new.args) (left_at new_table macro new) fed
 
 -- The memory is full: within a growth, or in front of a place.
 pub record IsCutShort (old_table new_table : List (Option Entry)) (macro : ℕ) (old new : ArgScan) (x : Token) : Type 0 where
@@ -199,7 +198,7 @@ TookIn old_table new_table macro cursor mode x taken None new = ⊥
 TookIn old_table new_table macro cursor mode x taken (Some p) None = ⊥
 TookIn old_table new_table macro cursor mode x taken (Some p) (Some q) =
     (build_id q.build ≡ build_id p.build) × IsBuilding new_table q.build × IsOnly old_table new_table (build_id p.build)
-    × Took (delimiter_at old_table macro cursor) (stage_of old_table p) x taken (stage_of new_table q) (case_at (delimiter_at old_table macro cursor) (par_mode mode) (kept_in (stage_of old_table p)) (read_in (delimiter_at old_table macro cursor) (stage_of old_table p)) x)
+    × Took (delimiter_at old_table macro cursor) (stage_of old_table p) x taken (stage_of new_table q) (case_at (delimiter_at old_table macro cursor) mode (kept_in (stage_of old_table p)) (read_in (delimiter_at old_table macro cursor) (stage_of old_table p)) x)
     × IsAhead new_table macro cursor q.matched q.next
 
 -- the same where the memory is full
@@ -209,7 +208,7 @@ CutIn old_table new_table macro cursor mode x (Some p) None = ⊥
 CutIn old_table new_table macro cursor mode x (Some p) (Some q) =
     (build_id q.build ≡ build_id p.build) × IsBuilding new_table q.build × IsOnly old_table new_table (build_id p.build)
     × IsSamePoint p q × IsGrownByPart (tokens_at old_table (build_id p.build)) (tokens_at new_table (build_id p.build))
-    (gained (delimiter_at old_table macro cursor) (stage_of old_table p) x (case_at (delimiter_at old_table macro cursor) (par_mode mode) (kept_in (stage_of old_table p)) (read_in (delimiter_at old_table macro cursor) (stage_of old_table p)) x))
+    (gained (delimiter_at old_table macro cursor) (stage_of old_table p) x (case_at (delimiter_at old_table macro cursor) mode (kept_in (stage_of old_table p)) (read_in (delimiter_at old_table macro cursor) (stage_of old_table p)) x))
 
 abbrev pub IsBuildingIn : List (Option Entry) → Option Present → Type 0
 IsBuildingIn table None = ⊥

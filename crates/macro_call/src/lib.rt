@@ -10,7 +10,6 @@ mod builds;
 mod cursor;
 mod laws;
 mod matches;
-mod par_mode;
 mod present;
 mod scan;
 mod tokens;
@@ -22,6 +21,5 @@ pub use laws::{
     matches_restart, one_group_loses_braces, scanners_have_lists, scans_gather, worked_calls,
     worked_growths,
 };
-pub use par_mode::ParMode;
 pub use present::{Present, Step};
 pub use scan::ArgScan;

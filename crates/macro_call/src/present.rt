@@ -9,7 +9,6 @@ ghost use Rattle.token_lists.specs.Ids.{id_of, build_id, IsBuilding};
 ghost use Rattle.token_lists.specs.Refusals.{IsFull};
 ghost use Rattle.plain_tokens.specs.Arguments.{is_end, delimited_case, undelimited_case, case_at};
 ghost use Rattle.macro_call.specs.Cursors.{IsOn, IsAhead, delimiter_at};
-ghost use Rattle.macro_call.specs.Modes.{par_mode};
 ghost use Rattle.macro_call.specs.Stages.{stage_of, kept_in, read_in, gained, IsSamePoint, IsStage, IsDelimitedStage, IsPlainStage, Releases, Took};
 ghost use Rattle.macro_call.specs.Tables.{IsOnly, IsGrownByPart};
 
@@ -17,8 +16,8 @@ use crate::braces::without_braces;
 use crate::builds::{store, store_front};
 use crate::cursor::{Cursor, at_first_built};
 use crate::matches::{advance_match, behind};
-use crate::par_mode::ParMode;
 use crate::tokens::{is_begin, is_end, is_par, is_space};
+use plain_tokens::ParMode;
 use tex_defs::{Full, Token};
 use token_lists::{Build, ListRef, Lists};
 
@@ -129,10 +128,10 @@ impl Present {
         ensures others { IsOnly lists.old lists.new (build_id self.old.build) }
         ensures account { Moves lists.old lists.new none none }
         ensures point { (self.new.matched ≡ self.old.matched) × (self.new.next ≡ self.old.next) }
-        ensures took { IfOk result (λ step. Took [] (stage_of lists.old self.old) x step (stage_of lists.new self.new) (undelimited_case (par_mode mode) (tokens_at lists.old (build_id self.old.build)) x)) }
+        ensures took { IfOk result (λ step. Took [] (stage_of lists.old self.old) x step (stage_of lists.new self.new) (undelimited_case mode (tokens_at lists.old (build_id self.old.build)) x)) }
         ensures full { IfErr result (λ f. IsFull f lists.new) }
         ensures unchanged { OnErr result (tokens_at lists.new (build_id self.old.build) ≡ tokens_at lists.old (build_id self.old.build)) }
-        ensures cut_short { OnErr result (IsGrownByPart (tokens_at lists.old (build_id self.old.build)) (tokens_at lists.new (build_id self.old.build)) (gained [] (stage_of lists.old self.old) x (undelimited_case (par_mode mode) (tokens_at lists.old (build_id self.old.build)) x))) }
+        ensures cut_short { OnErr result (IsGrownByPart (tokens_at lists.old (build_id self.old.build)) (tokens_at lists.new (build_id self.old.build)) (gained [] (stage_of lists.old self.old) x (undelimited_case mode (tokens_at lists.old (build_id self.old.build)) x))) }
         ensures stays { OnErr result (IsSamePoint self.old self.new) }
         ensures length { length lists.new ≡ length lists.old }
     {
@@ -162,10 +161,10 @@ impl Present {
         ensures others { IsOnly lists.old lists.new (build_id self.old.build) }
         ensures account { Moves lists.old lists.new none none }
         ensures point { (self.new.matched ≡ self.old.matched) × (self.new.next ≡ self.old.next) }
-        ensures took { IfOk result (λ step. Took [] (stage_of lists.old self.old) x step (stage_of lists.new self.new) (undelimited_case (par_mode mode) (tokens_at lists.old (build_id self.old.build)) x)) }
+        ensures took { IfOk result (λ step. Took [] (stage_of lists.old self.old) x step (stage_of lists.new self.new) (undelimited_case mode (tokens_at lists.old (build_id self.old.build)) x)) }
         ensures full { IfErr result (λ f. IsFull f lists.new) }
         ensures unchanged { OnErr result (tokens_at lists.new (build_id self.old.build) ≡ tokens_at lists.old (build_id self.old.build)) }
-        ensures cut_short { OnErr result (IsGrownByPart (tokens_at lists.old (build_id self.old.build)) (tokens_at lists.new (build_id self.old.build)) (gained [] (stage_of lists.old self.old) x (undelimited_case (par_mode mode) (tokens_at lists.old (build_id self.old.build)) x))) }
+        ensures cut_short { OnErr result (IsGrownByPart (tokens_at lists.old (build_id self.old.build)) (tokens_at lists.new (build_id self.old.build)) (gained [] (stage_of lists.old self.old) x (undelimited_case mode (tokens_at lists.old (build_id self.old.build)) x))) }
         ensures stays { OnErr result (IsSamePoint self.old self.new) }
         ensures length { length lists.new ≡ length lists.old }
     {
@@ -216,9 +215,9 @@ impl Present {
         ensures others { IsOnly lists.old lists.new (build_id self.old.build) }
         ensures account { Moves lists.old lists.new none none }
         ensures follows { IfOk result (λ step. IsAhead lists.new (id_of list.now) delimiter self.new.matched self.new.next) }
-        ensures took { IfOk result (λ step. Took (delimiter_at lists.old (id_of list.now) delimiter) (stage_of lists.old self.old) x step (stage_of lists.new self.new) (delimited_case (delimiter_at lists.old (id_of list.now) delimiter) (par_mode mode) (kept_in (stage_of lists.old self.old)) (read_in (delimiter_at lists.old (id_of list.now) delimiter) (stage_of lists.old self.old)) x)) }
+        ensures took { IfOk result (λ step. Took (delimiter_at lists.old (id_of list.now) delimiter) (stage_of lists.old self.old) x step (stage_of lists.new self.new) (delimited_case (delimiter_at lists.old (id_of list.now) delimiter) mode (kept_in (stage_of lists.old self.old)) (read_in (delimiter_at lists.old (id_of list.now) delimiter) (stage_of lists.old self.old)) x)) }
         ensures full { IfErr result (λ f. IsFull f lists.new) }
-        ensures cut_short { OnErr result (IsGrownByPart (tokens_at lists.old (build_id self.old.build)) (tokens_at lists.new (build_id self.old.build)) (gained (delimiter_at lists.old (id_of list.now) delimiter) (stage_of lists.old self.old) x (delimited_case (delimiter_at lists.old (id_of list.now) delimiter) (par_mode mode) (kept_in (stage_of lists.old self.old)) (read_in (delimiter_at lists.old (id_of list.now) delimiter) (stage_of lists.old self.old)) x))) }
+        ensures cut_short { OnErr result (IsGrownByPart (tokens_at lists.old (build_id self.old.build)) (tokens_at lists.new (build_id self.old.build)) (gained (delimiter_at lists.old (id_of list.now) delimiter) (stage_of lists.old self.old) x (delimited_case (delimiter_at lists.old (id_of list.now) delimiter) mode (kept_in (stage_of lists.old self.old)) (read_in (delimiter_at lists.old (id_of list.now) delimiter) (stage_of lists.old self.old)) x))) }
         ensures stays { OnErr result (IsSamePoint self.old self.new) }
         ensures length { length lists.new ≡ length lists.old }
     {
@@ -267,9 +266,9 @@ impl Present {
         ensures others { IsOnly lists.old lists.new (build_id self.old.build) }
         ensures account { Moves lists.old lists.new none none }
         ensures follows { IfOk result (λ step. IsAhead lists.new (id_of list.now) delimiter self.new.matched self.new.next) }
-        ensures took { IfOk result (λ step. Took (delimiter_at lists.old (id_of list.now) delimiter) (stage_of lists.old self.old) x step (stage_of lists.new self.new) (delimited_case (delimiter_at lists.old (id_of list.now) delimiter) (par_mode mode) (kept_in (stage_of lists.old self.old)) (read_in (delimiter_at lists.old (id_of list.now) delimiter) (stage_of lists.old self.old)) x)) }
+        ensures took { IfOk result (λ step. Took (delimiter_at lists.old (id_of list.now) delimiter) (stage_of lists.old self.old) x step (stage_of lists.new self.new) (delimited_case (delimiter_at lists.old (id_of list.now) delimiter) mode (kept_in (stage_of lists.old self.old)) (read_in (delimiter_at lists.old (id_of list.now) delimiter) (stage_of lists.old self.old)) x)) }
         ensures full { IfErr result (λ f. IsFull f lists.new) }
-        ensures cut_short { OnErr result (IsGrownByPart (tokens_at lists.old (build_id self.old.build)) (tokens_at lists.new (build_id self.old.build)) (gained (delimiter_at lists.old (id_of list.now) delimiter) (stage_of lists.old self.old) x (delimited_case (delimiter_at lists.old (id_of list.now) delimiter) (par_mode mode) (kept_in (stage_of lists.old self.old)) (read_in (delimiter_at lists.old (id_of list.now) delimiter) (stage_of lists.old self.old)) x))) }
+        ensures cut_short { OnErr result (IsGrownByPart (tokens_at lists.old (build_id self.old.build)) (tokens_at lists.new (build_id self.old.build)) (gained (delimiter_at lists.old (id_of list.now) delimiter) (stage_of lists.old self.old) x (delimited_case (delimiter_at lists.old (id_of list.now) delimiter) mode (kept_in (stage_of lists.old self.old)) (read_in (delimiter_at lists.old (id_of list.now) delimiter) (stage_of lists.old self.old)) x))) }
         ensures stays { OnErr result (IsSamePoint self.old self.new) }
         ensures length { length lists.new ≡ length lists.old }
     {
@@ -311,9 +310,9 @@ impl Present {
         ensures others { IsOnly lists.old lists.new (build_id self.old.build) }
         ensures account { Moves lists.old lists.new none none }
         ensures follows { IfOk result (λ step. IsAhead lists.new (id_of list.now) delimiter self.new.matched self.new.next) }
-        ensures took { IfOk result (λ step. Took (delimiter_at lists.old (id_of list.now) delimiter) (stage_of lists.old self.old) x step (stage_of lists.new self.new) (case_at (delimiter_at lists.old (id_of list.now) delimiter) (par_mode mode) (kept_in (stage_of lists.old self.old)) (read_in (delimiter_at lists.old (id_of list.now) delimiter) (stage_of lists.old self.old)) x)) }
+        ensures took { IfOk result (λ step. Took (delimiter_at lists.old (id_of list.now) delimiter) (stage_of lists.old self.old) x step (stage_of lists.new self.new) (case_at (delimiter_at lists.old (id_of list.now) delimiter) mode (kept_in (stage_of lists.old self.old)) (read_in (delimiter_at lists.old (id_of list.now) delimiter) (stage_of lists.old self.old)) x)) }
         ensures full { IfErr result (λ f. IsFull f lists.new) }
-        ensures cut_short { OnErr result (IsGrownByPart (tokens_at lists.old (build_id self.old.build)) (tokens_at lists.new (build_id self.old.build)) (gained (delimiter_at lists.old (id_of list.now) delimiter) (stage_of lists.old self.old) x (case_at (delimiter_at lists.old (id_of list.now) delimiter) (par_mode mode) (kept_in (stage_of lists.old self.old)) (read_in (delimiter_at lists.old (id_of list.now) delimiter) (stage_of lists.old self.old)) x))) }
+        ensures cut_short { OnErr result (IsGrownByPart (tokens_at lists.old (build_id self.old.build)) (tokens_at lists.new (build_id self.old.build)) (gained (delimiter_at lists.old (id_of list.now) delimiter) (stage_of lists.old self.old) x (case_at (delimiter_at lists.old (id_of list.now) delimiter) mode (kept_in (stage_of lists.old self.old)) (read_in (delimiter_at lists.old (id_of list.now) delimiter) (stage_of lists.old self.old)) x))) }
         ensures stays { OnErr result (IsSamePoint self.old self.new) }
         ensures length { length lists.new ≡ length lists.old }
     {

@@ -13,10 +13,10 @@ ghost use Rattle.macro_call.specs.Scans.{scan_of, resume, scan_holds, Owns, IsSo
 
 use crate::ask::CallAsk;
 use crate::cursor::{Cursor, at_first};
-use crate::par_mode::ParMode;
 use crate::present::{Present, Step, abandon};
 use crate::tokens::same;
 use macro_args::Args;
+use plain_tokens::ParMode;
 use std::mem;
 use tex_defs::{Full, Token};
 use token_lists::{Build, ListRef, Lists};

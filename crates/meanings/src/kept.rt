@@ -8,6 +8,7 @@ ghost use Rattle.meanings.specs.Kept.{numbered_meaning, numbered_list, without_l
 ghost use Rattle.equivalents.specs.Holding.{list_of};
 ghost use Rattle.meanings.specs.Holding.{list_holds, meaning_holds, with_holder, without_holder, Lasts};
 
+use prim_table::is_expanded;
 use tex_defs::Meaning;
 use token_lists::{ListRef, Lists};
 
@@ -104,7 +105,7 @@ fn is_expandable(meaning: Meaning<()>) -> bool
             outer: _,
             list: (),
         } => true,
-        Meaning::Prim(number) => 54 <= number && number <= 84,
+        Meaning::Prim(number) => is_expanded(number),
         _ => false,
     }
 }

@@ -6,7 +6,8 @@ ghost use Rattle.token_lists.specs.Ids.{id_of};
 ghost use Rattle.list_builder.specs.Scans.{IsSound, IsOpen, IsSpent, Owns, handed, scan_holds};
 
 use crate::token_lists_tests::release_cell;
-use list_builder::{Ask, Body, DefScan, Due, Next, Stage, TextScan};
+use list_builder::{Ask, DefScan, Due, Next, Stage, TextScan};
+use plain_state::Body;
 use tex_defs::{Full, Meaning, Name, Seen, Table, Token};
 use tex_syntax::{Manner, Report, Want};
 use token_lists::{ListRef, Lists};

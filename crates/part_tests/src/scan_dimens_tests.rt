@@ -1,8 +1,9 @@
 //! Optional keywords and dimensions, by their scanners alone.
 
 use equivalents::{Loc, Val};
+use plain_readings::{DimenAsk, DimenInner, KeywordAsk};
 use rows::{Datum, DimenKind, Keyword, Value};
-use scan_dimens::{DimenAsk, DimenScan, Inner, KeywordAsk, KeywordScan};
+use scan_dimens::{DimenScan, KeywordScan};
 use tex_defs::{Meaning, Name, RegisterKind, Seen, Token};
 use tex_syntax::{Report, UnitTaken};
 
@@ -91,7 +92,7 @@ fn location(scan: &DimenScan) -> Option<Loc> {
 
 /// Whether a keyword is read within.
 fn is_keyed(scan: &DimenScan) -> bool {
-    matches!(scan.ask(), DimenAsk::Begins(Inner::Key(_), _))
+    matches!(scan.ask(), DimenAsk::Begins(DimenInner::Key(_), _))
 }
 
 /// The keywords from `em` on aren't there, so many of them.
@@ -106,7 +107,7 @@ fn with_unit(count: u8) -> Option<(i32, u8, bool)> {
     let mut scan = finite();
     scan.feed(other(b'-'));
     scan.feed(other(b'1'));
-    if !matches!(scan.ask(), DimenAsk::Begins(Inner::Factor, true)) {
+    if !matches!(scan.ask(), DimenAsk::Begins(DimenInner::Factor, true)) {
         return None;
     }
     scan.factored(1, true);
@@ -161,7 +162,7 @@ fn is_internal() -> bool {
     let mut scan = finite();
     scan.feed(other(b'-'));
     scan.feed(named(Meaning::Prim(42)));
-    let numbered = matches!(scan.ask(), DimenAsk::Begins(Inner::Number, false));
+    let numbered = matches!(scan.ask(), DimenAsk::Begins(DimenInner::Number, false));
     scan.numbered(7);
     let register = Loc::Register {
         kind: RegisterKind::Dimen,

@@ -1,8 +1,9 @@
 //! Glue, by its scanner alone.
 
 use equivalents::{Glue, Loc, Val};
+use plain_readings::GlueAsk;
 use rows::{Datum, Value};
-use scan_glue::{GlueAsk, GlueScan};
+use scan_glue::GlueScan;
 use tex_defs::{Meaning, Name, RegisterKind, Seen, Token};
 use tex_syntax::Report;
 

@@ -1,9 +1,10 @@
 //! Internal integers, by the scanner of an integer alone and in the stack of readings.
 
 use equivalents::{Glue, Loc, Val};
+use plain_readings::{FactorAsk, NumberAsk};
 use reading_frames::{Opening, Readings};
 use rows::{Datum, Phrase, Value};
-use scan_numbers::{Ask, FactorAsk, FactorScan, NumberScan};
+use scan_numbers::{FactorScan, NumberScan};
 use std::alloc::Global;
 use tex_defs::{Meaning, Name, RegisterKind, Seen, Token};
 use tex_syntax::Report;
@@ -22,7 +23,7 @@ fn named(meaning: Meaning<()>) -> Seen {
 /// The location whose value is asked for, if one is.
 fn location(scan: &NumberScan) -> Option<Loc> {
     match scan.ask() {
-        Ask::Fetches(loc) => Some(loc),
+        NumberAsk::Fetches(loc) => Some(loc),
         _ => None,
     }
 }
@@ -30,7 +31,7 @@ fn location(scan: &NumberScan) -> Option<Loc> {
 /// What is reported, if a report comes and nothing is put back.
 fn report(scan: &NumberScan) -> Option<Report> {
     match scan.ask() {
-        Ask::Tells(report, false) => Some(report),
+        NumberAsk::Tells(report, false) => Some(report),
         _ => None,
     }
 }
@@ -38,7 +39,7 @@ fn report(scan: &NumberScan) -> Option<Report> {
 /// The value, if it is done and nothing is put back.
 fn value(scan: &NumberScan) -> Option<i32> {
     match scan.ask() {
-        Ask::Done(n, false) => Some(n),
+        NumberAsk::Done(n, false) => Some(n),
         _ => None,
     }
 }
@@ -54,7 +55,7 @@ fn negative(meaning: Meaning<()>) -> NumberScan {
 /// The same with this number behind the name, if it is asked for.
 fn numbered(primitive: u16, n: i32) -> Option<NumberScan> {
     let mut scan = negative(Meaning::Prim(primitive));
-    if !matches!(scan.ask(), Ask::Begins) {
+    if !matches!(scan.ask(), NumberAsk::Begins) {
         return None;
     }
     scan.feed_value(Value::Plain(Datum::Number(n)));

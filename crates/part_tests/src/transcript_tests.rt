@@ -15,7 +15,8 @@ use token_lists::{Build, ListRef};
 use token_show::{NamesView, View};
 use transcript::{
     end_lines, hundred_line, no_end_lines, no_file_lines, write_end_in_conditional,
-    write_error_message, write_report, write_shown_meaning, write_shown_value,
+    write_error_message, write_message, write_report, write_shown_meaning, write_shown_value,
+    write_token_line,
 };
 use world_io::MemSink;
 
@@ -100,6 +101,30 @@ fn is_message(view: View<'_>, mut sink: MemSink, list: &Build, wanted: &[u8]) ->
 {
     let mut in_line = false;
     write_error_message(&mut sink, &mut in_line, view, 3, Some(list)).is_ok()
+        && sink.calls() == 1
+        && sink.bytes() == wanted
+}
+
+// Whether this is written of a message with this list, where the column isn't 0.
+fn is_written(view: View<'_>, mut sink: MemSink, list: &Build, wanted: &[u8]) -> bool
+    requires names { IsView view }
+    requires held { IsHeld view.lists.now (build_id list.now) }
+{
+    let mut in_line = true;
+    write_message(&mut sink, &mut in_line, view, Some(list)).is_ok()
+        && in_line
+        && sink.calls() == 1
+        && sink.bytes() == wanted
+}
+
+// Whether this is written of a token with this meaning, which only typesetting would use, where the column isn't 0.
+fn is_token_line(view: View<'_>, mut sink: MemSink, meaning: Meaning<()>, wanted: &[u8]) -> bool
+    requires { IsView view }
+{
+    let mut in_line = true;
+    write_token_line(&mut sink, &mut in_line, view, meaning).is_ok()
+        && !in_line
+        && sink.calls() == 1
         && sink.bytes() == wanted
 }
 
@@ -108,7 +133,9 @@ fn is_report(view: View<'_>, mut sink: MemSink, report: Report, wanted: &[u8]) -
     requires { IsView view }
 {
     let mut in_line = false;
-    write_report(&mut sink, &mut in_line, view, 5, report).is_ok() && sink.bytes() == wanted
+    write_report(&mut sink, &mut in_line, view, 5, report).is_ok()
+        && sink.calls() == 1
+        && sink.bytes() == wanted
 }
 
 // Whether tokens are shown that are no macros, and a number, and an extra `\endcsname` is reported.
@@ -138,7 +165,8 @@ fn are_tokens_shown(alloc: Global, tables: &Tables) -> bool
         letter,
         meaning,
         b"> the letter a.\nl.2\n",
-    ) && is_number_shown(view, MemSink::new(alloc), b"-5", b"> -5.\nl.2\n")
+    ) && is_token_line(view, MemSink::new(alloc), meaning, b"\n{the letter a}\n")
+        && is_number_shown(view, MemSink::new(alloc), b"-5", b"> -5.\nl.2\n")
         && is_report(
             view,
             MemSink::new(alloc),
@@ -347,6 +375,7 @@ fn is_list_reported(alloc: Global, tables: &Tables, list: &Build) -> bool
     let categories = categories();
     let view = view_of(tables, &categories);
     is_message(view, MemSink::new(alloc), list, b"! #1->[#1].\nl.3\n")
+        && is_written(view, MemSink::new(alloc), list, b" #1->[#1]")
 }
 
 // Whether a macro and a register of this list are shown.

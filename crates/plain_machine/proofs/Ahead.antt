@@ -7,7 +7,8 @@ use Rattle.std.proofs.lemmas.Grind.{common_steps}
 use Rattle.tex_defs.specs.declared.Full.{Full}
 use Rattle.tex_defs.specs.declared.Sizes.{Sizes}
 use Rattle.tex_defs.specs.declared.Table.TheVariants.{BufferSize, InputStackSize, TextInputLevels}
-use Rattle.plain_tokens.specs.Lex.{Lexed, Gives, Invalid, UsedUp, NewLine, lexed}
+use Rattle.plain_tokens.specs.declared.line_state.LineState.TheVariants.{NewLine}
+use Rattle.plain_tokens.specs.Lex.{Lexed, Gives, Invalid, UsedUp, lexed}
 use Rattle.plain_tokens.specs.Lines.{has_feed, before_feed, behind_feed, without_last, trimmed, first_bytes, first_line}
 use Rattle.plain_tokens.specs.Puts.{Item, Put as PutList, passed, put_levels}
 use Rattle.plain_tokens.specs.Pending.{Pending, Source as Open, Progress, Begun as BegunFile, Closed as ClosedFile, Pulled, TokenFrom, LexemeFrom, LineTaken, InvalidMet, FileOver, NothingLeft, next_number, beneath, from_file, from_begun, from_line, from_list, from_front, pulled, takes_file, on_next_line, outer_puts, all_puts}
@@ -176,18 +177,6 @@ begun_takes p false (c ∷ cs) = refl
 file_takes : (p : Pending) (file : Progress) → takes_file (from_file p file) ≡ true
 file_takes p BegunFile = begun_takes p p.ends p.rest
 file_takes p ClosedFile = refl
-
-same_takes : (left : List (List ℕ)) (r : Pulled) → takes_file (extended_pulled left r) ≡ takes_file r
-same_takes left (TokenFrom t next) = refl
-same_takes left (LexemeFrom x next) = refl
-same_takes left (LineTaken line next) = refl
-same_takes left (InvalidMet next) = refl
-same_takes left (FileOver next) = refl
-same_takes left NothingLeft = refl
-
-pub takes_at : (gone : List ℕ) (left : List (List ℕ)) (p : Pending) (r' r : Pulled) → Source gone left p r' r → takes_file r' ≡ takes_file r
-takes_at gone left p r' r (Front h e) = ap takes_file e ∙ same_takes left r
-takes_at gone left p r' r (File e e') = ap takes_file e' ∙ file_takes (extended_pending (before gone r left) p) p.file ∙ sym (ap takes_file e ∙ file_takes p p.file)
 
 -- WHAT IS PULLED WHERE IT IS KNOWN
 

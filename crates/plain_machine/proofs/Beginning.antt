@@ -6,7 +6,7 @@ use Rattle.tex_defs.specs.Places.{World}
 use Rattle.tex_defs.specs.declared.Full.{Full}
 use Rattle.tex_defs.specs.declared.Sizes.{Sizes}
 use Rattle.plain_tokens.specs.Lines.{has_feed, first_bytes, first_line, behind_feed, trimmed}
-use Rattle.plain_tokens.specs.Lex.{NewLine}
+use Rattle.plain_tokens.specs.declared.line_state.LineState.TheVariants.{NewLine}
 use Rattle.plain_tokens.specs.Pending.{Pending, Begun as BegunFile, with_end, with_next, with_begun, source_of}
 use Rattle.plain_tokens.specs.Tables.{Demand, buffer, line_need, level, open_lines, next_file, refused}
 use Rattle.equivalents.specs.Parameters.{end_of_line}

@@ -78,9 +78,6 @@ wrote_silent w (Written p bs ∷ ms) h = absurd h
 wrote_silent w (Handed t ∷ ms) h = wrote_join w w w (Handed t ∷ []) ms (silent_one w (Handed t) tt) (wrote_silent w ms h)
 wrote_silent w (m ∷ ms) h = wrote_join w w w (m ∷ []) ms (silent_one w m tt) (wrote_silent w ms h)
 
-pub did_all_silent : (sizes : Sizes) (ms : List Move) (s s' : State) (w : World) → AllFit sizes ms s → made_all ms s ≡ s' → AreSilent ms → Did sizes s s' w w ms
-did_all_silent sizes ms s s' w f e h = record { state = e; fits = f; written = wrote_silent w ms h }
-
 -- all moves of a rule, done, are a run
 pub plan_did : (sizes : Sizes) (s s' : State) (w w' : World) (ms : List Move) → s.due ≡ [] → plan s s.stopped ≡ ms → Did sizes s s' w w' ms → FitMoves sizes s ms s'
 plan_did sizes s s' w w' ms e f d = subst (FitMoves sizes s ms) d.state (plan_made sizes s ms e f d.fits)

@@ -15,7 +15,7 @@ use Rattle.plain_tokens.specs.Lookup.{token_of, new_name}
 use Rattle.plain_tokens.specs.Tokens.{character_codes}
 use Rattle.plain_tokens.specs.Meanings.{met as met_token}
 use Rattle.plain_tokens.specs.Puts.{Item, First, Put as PutList, next_item, put_parameters}
-use Rattle.plain_tokens.specs.Pending.{Pending, Pulled, TokenFrom, LexemeFrom, LineTaken, InvalidMet, FileOver, NothingLeft, end_token_lists, pulled, after_pull, with_end, takes_file}
+use Rattle.plain_tokens.specs.Pending.{Pending, Pulled, TokenFrom, LexemeFrom, LineTaken, InvalidMet, FileOver, NothingLeft, end_token_lists, pulled, after_pull, with_end}
 use Rattle.rows.specs.declared.command.Call.{Call}
 use Rattle.rows.specs.declared.command.Effect.{Effect}
 use Rattle.rows.specs.declared.command.Effect.TheVariants as effect
@@ -36,7 +36,7 @@ use Rattle.plain_machine.specs.Extended.{Rests, first_left, next_extended, exten
 use Rattle.plain_machine.proofs.Joins.{StepComes, plan_needs, next_due}
 use Rattle.plain_machine.proofs.Settling.{pulled_settled}
 use Rattle.plain_machine.proofs.Pulls.{pull_of, pulls, pulls_join, steps_pull, reads, steps_read, begun_reads, begun_pulls, stomach_none, wanted_none, kind_none, met_none, checked_none, reported_none, entered_none, WantsNone, answered_none}
-use Rattle.plain_machine.proofs.Ahead.{full_buffer, long_refused, all_puts_same, lines_beneath_same, level_same, spelt_same, extended_pulled, before, source, takes_at, takes_line, Sight, Alike, Long, sight, nothing_left}
+use Rattle.plain_machine.proofs.Ahead.{full_buffer, long_refused, all_puts_same, lines_beneath_same, level_same, spelt_same, extended_pulled, before, takes_line, Sight, Alike, Long, sight, nothing_left}
 
 -- MOVES THAT DO THE SAME
 
@@ -616,13 +616,6 @@ module _ (sizes : Sizes) (s : State) (r : Rests) (unopened : s.pending.next ≡ 
 
   pub unread_cut : (at : State) (w w' : World) (why : Why) → Cut sizes s at w w' (planned s s.work) why → Cut sizes (extended r s) (extended r at) w w' (planned (extended r s) s.work) why
   unread_cut = cut_rule sizes r r s (planned (extended r s) s.work) (planned s s.work) still_extends
-
--- WHAT IS LEFT IN FRONT
-
--- Whether anything is left in front of the files doesn't hang on it.
-pub extended_takes : (categories gone : List ℕ) (left : List (List ℕ)) (p : Pending) → p.next ≡ None →
-    takes_file (pulled categories (extended_pending (before gone (pulled categories p) left) p)) ≡ takes_file (pulled categories p)
-extended_takes categories gone left p none = takes_at gone left p _ (pulled categories p) (source categories gone left p none)
 
 -- MOVES THAT READ NO FILE
 

@@ -1,6 +1,6 @@
 -- Rules that begin with the file's next reading.
 use Rattle.std.proofs.Common.{◌≡◌, ℕ, Bool, List, [], ◌∷◌, refl, sym, subst, true, false}
-use Rattle.std.specs.Prelude.{◌≢◌, Option, Some, None}
+use Rattle.std.specs.Prelude.{◌≢◌, Option, None}
 use Rattle.std.proofs.lemmas.Bool.{false≢true}
 use Rattle.tex_syntax.specs.declared.words.Want.{Want}
 use Rattle.tex_defs.specs.declared.Seen.{Seen}
@@ -11,7 +11,7 @@ use Rattle.rows.specs.Readings.{Ask, More}
 use Rattle.plain_readings.specs.Readings.{Reading, ask}
 use Rattle.plain_readings.specs.Scanning.{Scanning, scanning}
 use Rattle.plain_machine.specs.States.{State, Move}
-use Rattle.plain_machine.specs.Plan.{Page, page_of, enters_names, feeding, wanted, stomach, handed, answered, planned, ruled}
+use Rattle.plain_machine.specs.Plan.{Page, page_of, enters_names, feeding, wanted, stomach, handed, answered, planned}
 use Rattle.plain_machine.specs.Does.{ReadsFile}
 
 -- a token is wanted: by the stomach, where no reading is open, or by the innermost reading
@@ -57,7 +57,3 @@ module _ (page : Page) (enters : Bool) (s : Option Scanning) (onward : Seen → 
 pub wanted_reads : (t : State) (work : List Reading) → WantsToken work → takes_file (pulled t.groups.now.categories t.pending) ≡ true → t.pending.file ≢ Closed → ReadsFile (planned t work)
 wanted_reads t [] wants takes is_open = pulled_reads (page_of t) false None (stomach (page_of t)) t.groups.now.categories t.pending takes is_open
 wanted_reads t (r ∷ rs) wants takes is_open = subst (λ (a : Ask). ReadsFile (answered t (r ∷ rs) r a)) (sym wants.1) (pulled_reads (page_of t) (enters_names wants.0) (scanning (r ∷ rs) t.gathered) (λ x. wanted (page_of t) wants.0 (feeding r x) x) t.groups.now.categories t.pending takes is_open)
-
--- So does the rule that begins a file that was opened.
-pub opened_reads : (t : State) (bytes : List ℕ) → ReadsFile (ruled t (Some bytes))
-opened_reads t bytes = tt

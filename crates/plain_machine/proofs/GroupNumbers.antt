@@ -1,5 +1,5 @@
 -- Assignments and groups do the same under other numbers of the lists.
-use Rattle.std.proofs.Common.{◌≡◌, ℕ, ◌+◌, Bool, true, false, List, [], ◌∷◌, ◌++◌, length, map, replicate, cond, Option, Some, None, refl, sym, ap, ap₂, ◌∙◌, zero, suc, ℤ}
+use Rattle.std.proofs.Common.{◌≡◌, ℕ, ◌+◌, Bool, true, false, List, [], ◌∷◌, ◌++◌, length, map, replicate, cond, Option, Some, None, refl, sym, ap, ap₂, ◌∙◌, zero, suc}
 use Rattle.std.specs.Prelude.{if◌then◌else◌, slice_set, fold}
 use Rattle.std.specs.List.{range_with_len}
 use Rattle.std.proofs.Math.ListN.{get_or-map}
@@ -10,8 +10,7 @@ use Rattle.tex_defs.specs.declared.Name.{Name}
 use Rattle.tex_defs.specs.declared.Meaning.{Meaning}
 use Rattle.tex_defs.specs.declared.Meaning.TheVariants as means
 use Rattle.tex_defs.specs.declared.RegisterKind.TheVariants as register
-use Rattle.tex_defs.specs.declared.Seen.{Seen}
-use Rattle.plain_tokens.specs.Meanings.{location, meaning_to_let, first_meaning, first_meanings, primitive_count, fixed_locations}
+use Rattle.plain_tokens.specs.Meanings.{location, first_meaning, first_meanings, primitive_count, fixed_locations}
 use Rattle.plain_tokens.specs.Tables.{Demand}
 use Rattle.save_stack.specs.declared.GroupKind.{GroupKind}
 use Rattle.save_stack.specs.declared.Saved.{Saved}
@@ -25,7 +24,7 @@ use Rattle.equivalents.specs.Tables.{Tables, put, get, longer}
 use Rattle.equivalents.specs.First.{first_tables}
 use Rattle.equivalents.specs.Groups.{Groups, level_of, depth, is_present, entry_for, put_all, set_local, set_global, set, placed, place_of, set_placed, set_name, all_longer, entered, opened, uncovered, beneath, closed, with_token, tokens_after, current_group, saves, save, set_demands, placed_demands, name_demands, group_demands, token_demands, first_groups}
 use Rattle.plain_machine.specs.Numbers.{number_of_list, meaning_of, meanings_of, value_of, tables_of, saved_of, groups_of}
-use Rattle.plain_machine.proofs.Renumbering.{seen_as_of, meaning_to_let_of}
+use Rattle.plain_machine.proofs.Renumbering.{seen_as_of}
 
 module _ (number : ℕ → ℕ) where
   -- VALUES
@@ -199,16 +198,6 @@ module _ (number : ℕ → ℕ) where
 
   pub set_name_of : (global : Bool) (g : Groups) (n : Name) (m : Meaning (Option ℕ)) → set_name global (groups_of number g) n (meaning_of number m) ≡ groups_of number (set_name global g n m)
   set_name_of global g n m = ap (λ (o : Option ℕ). set_placed global (groups_of number g) o (meaning_of number m)) (place_same g n) ∙ set_placed_of global g (place_of g n) m
-
-  -- the name means what another token means, or a primitive
-  pub groups_let : (global : Bool) (g : Groups) (n : Name) (x : Seen) → groups_of number (set_name global g n (meaning_to_let g.now.meanings x)) ≡ set_name global (groups_of number g) n (meaning_to_let (meanings_of number g.now.meanings) x)
-  groups_let global g n x = sym (ap (set_name global (groups_of number g) n) (meaning_to_let_of number g.now.meanings x) ∙ set_name_of global g n (meaning_to_let g.now.meanings x))
-
-  pub groups_primitive : (global : Bool) (g : Groups) (n : Name) (k : ℕ) → groups_of number (set_name global g n (means.Prim k)) ≡ set_name global (groups_of number g) n (means.Prim k)
-  groups_primitive global g n k = sym (set_name_of global g n (means.Prim k))
-
-  pub groups_number : (global : Bool) (g : Groups) (l : Loc) (k : ℤ) → groups_of number (set global g l (val.Number k)) ≡ set global (groups_of number g) l (val.Number k)
-  groups_number global g l k = sym (set_of global g l (val.Number k))
 
   -- a location gets what stands at another
   pub groups_shared : (global : Bool) (g : Groups) (l m : Loc) → groups_of number (set global g l (get g.now m)) ≡ set global (groups_of number g) l (get (tables_of number g.now) m)

@@ -3,7 +3,7 @@ use Rattle.std.proofs.Common.{◌≡◌, ℕ, zero, suc, Bool, true, false, ◌|
 use Rattle.std.specs.Prelude.{◌==◌, if◌then◌else◌, slice_set, slice_index_or}
 use Rattle.std.specs.List.{range_with_len}
 use Rattle.std.proofs.Math.Bool.{or_assoc}
-use Rattle.std.proofs.lemmas.Bool.{eq-eqb, ne_eqb, or_cases, or_parts, or_left, or_right, false_from_ne_true}
+use Rattle.std.proofs.lemmas.Bool.{eq-eqb, ne_eqb, or_cases, or_parts, or_left, or_right}
 use Rattle.tex_defs.specs.declared.Name.{Name}
 use Rattle.tex_defs.specs.declared.Meaning.{Meaning}
 use Rattle.tex_defs.specs.declared.Meaning.TheVariants as means
@@ -252,9 +252,6 @@ module _ (n : ℕ) where
   closed_held g outside h =
       ⊎_elim (λ a. ⊎_elim (λ b. now_held g b) (λ b. outside n b) (uncovered_held g.now g.outer a)) (λ a. saved_held g (below_held g.entries a))
       (join_cases (lists_of_table (uncovered g.now g.outer)) (lists_of_entries (below g.entries)) h)
-
-pub outside_free : (n : ℕ) (g : Groups) → OutsideIsHeld g → is_listed (lists_held g) n ≡ false → is_listed (lists_outside g.outer) n ≡ false
-outside_free n g outside h = false_from_ne_true (is_listed (lists_outside g.outer) n) (λ a. (let e : is_listed (lists_held g) n ≡ true = outside n a in cc))
 
 -- a name more holds nothing
 longer_lists : (ms : List (Meaning (Option ℕ))) → lists_of_meanings (ms ++ means.Undefined ∷ []) ≡ lists_of_meanings ms

@@ -80,10 +80,6 @@ refuses_due sizes IsWant m s t e h = h
 same_made : (m : Move) (s t : State) → but_due t ≡ but_due s → but_due (made m t) ≡ but_due (made m s)
 same_made m s t e = sym (made_due m t []) ∙ ap (made m) e ∙ made_due m s []
 
-pub same_all : (ms : List Move) (s t : State) → but_due t ≡ but_due s → but_due (made_all ms t) ≡ but_due (made_all ms s)
-same_all [] s t e = e
-same_all (m ∷ ms) s t e = same_all ms (made m s) (made m t) (same_made m s t e)
-
 pub all_fit_same : (sizes : Sizes) (ms : List Move) (s t : State) → but_due t ≡ but_due s → AllFit sizes ms s → AllFit sizes ms t
 all_fit_same sizes [] s t e h = tt
 all_fit_same sizes (m ∷ ms) s t e h = (same_refusal sizes m s t e ∙ h.0, all_fit_same sizes ms (made m s) (made m t) (same_made m s t e) h.1)
@@ -96,10 +92,6 @@ all_fit_due sizes ms s x h = all_fit_same sizes ms s (record s { due = x }) refl
 pub all_fit_join : (sizes : Sizes) (ms ns : List Move) (s : State) → AllFit sizes ms s → AllFit sizes ns (made_all ms s) → AllFit sizes (ms ++ ns) s
 all_fit_join sizes [] ns s a b = b
 all_fit_join sizes (m ∷ ms) ns s a b = (a.0, all_fit_join sizes ms ns (made m s) a.1 b)
-
-pub all_fit_front : (sizes : Sizes) (ms ns : List Move) (s : State) → AllFit sizes (ms ++ ns) s → AllFit sizes ms s
-all_fit_front sizes [] ns s h = tt
-all_fit_front sizes (m ∷ ms) ns s h = (h.0, all_fit_front sizes ms ns (made m s) h.1)
 
 -- THE NEXT MOVE
 
@@ -143,23 +135,6 @@ plan_made sizes s (m ∷ ms) e f h =
 pub due_made : (sizes : Sizes) (s : State) (ms : List Move) → s.due ≡ ms → AllFit sizes ms s → FitMoves sizes s ms (but_due (made_all ms s))
 due_made sizes s ms e h =
     subst (λ (x : State). FitMoves sizes x ms (but_due (made_all ms s))) (with_due s (ms ++ []) (e ∙ sym (append-nil ms))) (fits_due sizes s ms [] h)
-
--- The state behind some first moves. But for what is due it is the one that they make.
-pub record Front (sizes : Sizes) (s : State) (done : List Move) : Type 0 where
-  pub t : State
-  pub moves : FitMoves sizes s done t
-  pub same : but_due t ≡ but_due (made_all done s)
-
-pub due_front : (sizes : Sizes) (s : State) (done rest : List Move) → s.due ≡ done ++ rest → AllFit sizes done s → Front sizes s done
-due_front sizes s done rest e h = record {
-  t = record (made_all done s) { due = rest };
-  moves = subst (λ (x : State). FitMoves sizes x done (record (made_all done s) { due = rest })) (with_due s (done ++ rest) e) (fits_due sizes s done rest h);
-  same = refl;
-}
-
-pub plan_front : (sizes : Sizes) (s : State) (done rest : List Move) → s.due ≡ [] → plan s s.stopped ≡ done ++ rest → AllFit sizes done s → Front sizes s done
-plan_front sizes s [] rest e f h = record { t = s; moves = refl; same = refl }
-plan_front sizes s (d ∷ ds) rest e f h = record { t = record (made_all ds (made d s)) { due = rest }; moves = fits_plan sizes s d ds rest e f h; same = refl }
 
 -- Where moves are cut: at this moment the first of them are made, and the next one comes.
 pub record Moment (sizes : Sizes) (s : State) (done : List Move) (m : Move) : Type 0 where

@@ -21,7 +21,7 @@ use Rattle.plain_machine.specs.Runs.{step_of, steps, Moves, Begins, AtRule, AtJo
 use Rattle.plain_machine.proofs.Joins.{next_due, next_plan, due_kept}
 use Rattle.plain_machine.proofs.Laws.{SameMove, goes_one_way}
 use Rattle.plain_machine.proofs.Settling.{pulled_settled}
-use Rattle.plain_machine.proofs.Pulls.{pulls, read_of, reads, reads_pull, steps_read, pulls_join, met_none, entered_none, reported_none, checked_none}
+use Rattle.plain_machine.proofs.Pulls.{pulls, read_of, reads, reads_pull, pulls_join, met_none, entered_none, reported_none, checked_none}
 use Rattle.plain_machine.proofs.Extending.{Rules, Still, Pulling, Starting, rules}
 use Rattle.plain_machine.specs.Extended.{Rests, extended}
 use Rattle.plain_readings.specs.Readings.{Reading}
@@ -188,9 +188,6 @@ record Came (s : State) (m : Move) (u : State) : Type 0 where
 abbrev CameBy : State → List Move → Type 0
 CameBy s [] = Unit {0}
 CameBy s (m ∷ ms) = Came s m (made m (record s { due = ms }))
-
-read_step : (m : Move) → read_of m ≡ 0 → step_of m ≡ 0
-read_step m h = omega (arith, h, steps_read (m ∷ []))
 
 not_taken : (m : Move) (line : List ℕ) → read_of m ≡ 0 → m ≡ Taken line → ⊥
 not_taken m line h e = omega (arith, h, ap read_of e)

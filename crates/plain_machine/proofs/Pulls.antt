@@ -1,5 +1,6 @@
 -- The next token, character or line is pulled by a rule's second move, once the finished lists in front have gone, or not at all.
 use Rattle.std.proofs.Common.{◌≡◌, ℕ, ◌+◌, ◌≤◌, ◌<◌, List, [], ◌∷◌, ◌++◌, refl, arith, Bool, true, false}
+use Rattle.prim_table.specs.Primitives.{is_expanded}
 use Rattle.std.specs.Prelude.{Option, Some, None, if◌then◌else◌, ◌||◌, nat_lt}
 use Rattle.tex_syntax.specs.declared.words.Want.{Want}
 use Rattle.tex_syntax.specs.declared.words.Want.TheVariants.{Raw, Unentered, Expanded, Copied, Nonblank, Command}
@@ -26,7 +27,7 @@ use Rattle.rows.specs.Readings.{Fed, Ask}
 use Rattle.plain_readings.specs.Readings.{Kind, Skips, Reading}
 use Rattle.plain_readings.specs.Scanning.{Scanning, Builds, SkippedText}
 use Rattle.plain_machine.specs.States.{State, Files, Move, Handed, Taken, FirstTaken, ListsEnded, Skipped, FileClosed, FileOpened, Spelt, NameInProgress, Begun, BegunWith, Closed, Written, Stopped}
-use Rattle.plain_machine.specs.Plan.{Page, style_of, met, met_outer, entered, checked, cut_or_not, ran_away, away_text, page_behind, reported, reports_room, put_text, put_characters, is_expandable_primitive, expansion, unless_expanded, called, stomach, wanted, expanded, expanded_as, feeding_kind, given_back, acts, list_given, unless_found, input_begun, answered}
+use Rattle.plain_machine.specs.Plan.{Page, style_of, met, met_outer, entered, checked, cut_or_not, ran_away, away_text, page_behind, reported, reports_room, put_text, put_characters, expansion, unless_expanded, called, stomach, wanted, expanded, expanded_as, feeding_kind, given_back, acts, list_given, unless_found, input_begun, answered}
 use Rattle.plain_machine.specs.Runs.{step_of, steps}
 use Rattle.plain_machine.proofs.Tame.{Tame, Flat, flat_tame, back_flat, text_flat, entered_flat, kind_tame, called_tame, expansion_tame, stomach_tame, checked_tame, acts_tame, list_given_tame, answered_tame}
 pub use Rattle.plain_machine.proofs.Tame.{WantsNone}
@@ -151,7 +152,7 @@ reported_none page report rest h =
     omega (arith, no_pull_if (nat_lt page.reports reports_room) rest halted h refl)
 
 unless_none : (page : Page) (t : Token) (n : ℕ) (moves : List Move) → pulls moves ≡ 0 → pulls (unless_expanded page t n moves) ≡ 0
-unless_none page t n moves h = no_pull_if (is_expandable_primitive n) (expansion page t n) moves (tame_none (expansion page t n) (expansion_tame page t n)) h
+unless_none page t n moves h = no_pull_if (is_expanded n) (expansion page t n) moves (tame_none (expansion page t n) (expansion_tame page t n)) h
 
 as_none : (page : Page) (t : Token) (m : Meaning Unit) (moves : List Move) → pulls moves ≡ 0 → pulls (expanded_as page t m moves) ≡ 0
 as_none page t means.Undefined moves h = reported_none page reports.UndefinedName [] refl

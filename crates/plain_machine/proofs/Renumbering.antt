@@ -13,8 +13,8 @@ use Rattle.tex_defs.specs.declared.Meaning.TheVariants as means
 use Rattle.tex_defs.specs.declared.Seen.{Seen}
 use Rattle.tex_defs.specs.declared.Table.TheVariants.{InputStackSize, ParameterStackSize, TextInputLevels}
 use Rattle.plain_tokens.specs.Lex.{Lexed, Gives, Invalid, UsedUp, lexed}
-use Rattle.plain_tokens.specs.Puts.{Item, First, Whole, Own, Macro, Put, put_top, with_put, settled_top, without_ended, without_gaps, passed_top, passed, top_item, next_item, put_levels, put_parameters, levels_of, when_some, token_put, call_put}
-use Rattle.plain_tokens.specs.Pending.{Pending, Source, Progress, Begun, Closed, Pulled, TokenFrom, LexemeFrom, LineTaken, InvalidMet, FileOver, NothingLeft, with_puts, end_token_lists, put_front, beneath, from_begun, from_file, from_line, from_list, from_front, pulled, after_pull, with_next, begun_by, with_begun, ending, outer_puts, all_puts}
+use Rattle.plain_tokens.specs.Puts.{Item, First, Whole, Own, Macro, Put, put_top, with_put, unless_ended, without_ended, without_gaps, passed_top, passed, top_item, next_item, put_levels, put_parameters, levels_of, when_some}
+use Rattle.plain_tokens.specs.Pending.{Pending, Source, Progress, Begun, Closed, FileOver, with_puts, end_token_lists, put_front, beneath, from_begun, from_file, from_line, from_list, from_front, pulled, begun_by, with_begun, outer_puts, all_puts}
 use Rattle.plain_tokens.specs.Meanings.{location, fixed_meaning, frozen_meaning, looked_up, name_meaning, seen_as, token_meaning, seen, met, whole_meaning, let_meaning, meaning_to_let}
 use Rattle.plain_tokens.specs.Tables.{Demand, whole_words, lists_words, argument_words, put_words, made_words, held_words, file_levels, begun_files, levels, opened_files, level, opened_level, parameters, line_room, lines_beneath, open_lines, buffer, line_need, next_line, first_line_of, next_file, text_level, spelt_name}
 use Rattle.plain_machine.specs.Numbers.{meaning_of, meanings_of, whole_of, put_of, puts_of, source_of, pending_of, pulled_of}
@@ -22,7 +22,7 @@ use Rattle.plain_machine.specs.Numbers.{meaning_of, meanings_of, whole_of, put_o
 module _ (number : ℕ → ℕ) where
   -- THE LISTS IN FRONT
 
-  settled_top_of : (p : Put) (xs : List Item) (below rest : List Put) → settled_top (put_of number p) xs (puts_of number below) (puts_of number rest) ≡ puts_of number (settled_top p xs below rest)
+  settled_top_of : (p : Put) (xs : List Item) (below rest : List Put) → unless_ended (put_of number p) xs (puts_of number below) (puts_of number rest) ≡ puts_of number (unless_ended p xs below rest)
   settled_top_of p [] below rest = refl
   settled_top_of p (x ∷ xs) below rest = refl
 
@@ -44,12 +44,6 @@ module _ (number : ℕ → ℕ) where
 
   pub with_put_of : (p : Put) (ps : List Put) → with_put (put_of number p) (puts_of number ps) ≡ puts_of number (with_put p ps)
   with_put_of p ps = put_top_of p p.items ps
-
-  pub call_put_of : (n : ℕ) (ts : List Token) (arguments : List (List Token)) → call_put (number n) ts arguments ≡ put_of number (call_put n ts arguments)
-  call_put_of n ts arguments = refl
-
-  pub token_put_of : (ts : List Token) → token_put ts ≡ put_of number (token_put ts)
-  token_put_of ts = refl
 
   top_item_of : (ps : List Put) → top_item (puts_of number ps) ≡ top_item ps
   top_item_of [] = refl
@@ -116,17 +110,6 @@ module _ (number : ℕ → ℕ) where
   pub pulled_same : (categories : List ℕ) (p : Pending) → pulled categories (pending_of number p) ≡ pulled_of number (pulled categories p)
   pulled_same categories p = ap (from_front categories (pending_of number p)) (passed_of p.puts) ∙ front_of categories p (passed p.puts)
 
-  pub after_pull_of : (p : Pending) (r : Pulled) → after_pull (pending_of number p) (pulled_of number r) ≡ pending_of number (after_pull p r)
-  after_pull_of p (TokenFrom t next) = refl
-  after_pull_of p (LexemeFrom x next) = refl
-  after_pull_of p (LineTaken line next) = refl
-  after_pull_of p (InvalidMet next) = refl
-  after_pull_of p (FileOver next) = refl
-  after_pull_of p NothingLeft = refl
-
-  pub after_pulled_of : (categories : List ℕ) (p : Pending) → after_pull (pending_of number p) (pulled categories (pending_of number p)) ≡ pending_of number (after_pull p (pulled categories p))
-  after_pulled_of categories p = ap (after_pull (pending_of number p)) (pulled_same categories p) ∙ after_pull_of p (pulled categories p)
-
   -- a file that was opened, is begun, or is to end
   begun_by_of : (p : Pending) (o : Option (List ℕ)) → begun_by o (pending_of number p) ≡ pending_of number (begun_by o p)
   begun_by_of p None = refl
@@ -134,12 +117,6 @@ module _ (number : ℕ → ℕ) where
 
   pub with_begun_of : (p : Pending) → with_begun (pending_of number p) ≡ pending_of number (with_begun p)
   with_begun_of p = begun_by_of p p.next
-
-  pub with_next_of : (bytes : Option (List ℕ)) (p : Pending) → with_next bytes (pending_of number p) ≡ pending_of number (with_next bytes p)
-  with_next_of bytes p = refl
-
-  pub ending_of : (p : Pending) → ending (pending_of number p) ≡ pending_of number (ending p)
-  ending_of p = refl
 
   -- WHAT COUNTS
 

@@ -1,10 +1,10 @@
 -- The finished lists in front go at once: what comes next doesn't hang on whether they have gone.
 use Rattle.std.proofs.Common.{◌≡◌, ℕ, Bool, true, false, List, [], ◌∷◌, refl, ap, ◌∙◌}
 use Rattle.plain_tokens.specs.Lex.{Lexed, Gives, Invalid, UsedUp, lexed}
-use Rattle.plain_tokens.specs.Puts.{Item, Put, without_ended, settled_top, passed}
+use Rattle.plain_tokens.specs.Puts.{Item, Put, without_ended, unless_ended, passed}
 use Rattle.plain_tokens.specs.Pending.{Pending, Progress, Begun, Closed, end_token_lists, with_puts, pulled, from_front, from_list, from_line, from_begun, from_file}
 
-passed_top_settled : (p : Put) (xs : List Item) (ps : List Put) → p.items ≡ xs → passed (without_ended ps) ≡ passed ps → passed (settled_top p xs (without_ended ps) ps) ≡ passed (p ∷ ps)
+passed_top_settled : (p : Put) (xs : List Item) (ps : List Put) → p.items ≡ xs → passed (without_ended ps) ≡ passed ps → passed (unless_ended p xs (without_ended ps) ps) ≡ passed (p ∷ ps)
 passed_top_settled p [] ps e h = rw e h
 passed_top_settled p (x ∷ xs) ps e h = refl
 
@@ -12,7 +12,7 @@ pub passed_settled : (ps : List Put) → passed (without_ended ps) ≡ passed ps
 passed_settled [] = refl
 passed_settled (p ∷ ps) = passed_top_settled p p.items ps refl (passed_settled ps)
 
-settled_top_twice : (p : Put) (xs : List Item) (ps : List Put) → p.items ≡ xs → without_ended (without_ended ps) ≡ without_ended ps → without_ended (settled_top p xs (without_ended ps) ps) ≡ settled_top p xs (without_ended ps) ps
+settled_top_twice : (p : Put) (xs : List Item) (ps : List Put) → p.items ≡ xs → without_ended (without_ended ps) ≡ without_ended ps → without_ended (unless_ended p xs (without_ended ps) ps) ≡ unless_ended p xs (without_ended ps) ps
 settled_top_twice p [] ps e h = h
 settled_top_twice p (x ∷ xs) ps e h = rw e refl
 

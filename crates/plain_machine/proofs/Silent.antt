@@ -1,5 +1,7 @@
 -- Each rule ends the run, begins with a step once the finished lists in front have gone, or makes the weight of the state smaller.
 use Rattle.std.proofs.Common.{◌≡◌, ℕ, ℤ, zero, suc, ◌+◌, ◌*◌, ◌≤◌, ◌<◌, Bool, true, false, List, [], ◌∷◌, ◌++◌, length, refl, sym, ap, ◌∙◌, subst, arith}
+use Rattle.prim_table.specs.Primitives.{is_expanded, is_in_row}
+use Rattle.prim_table.specs.declared.Class.TheVariants as class
 use Rattle.std.specs.Prelude.{Option, Some, None, if◌then◌else◌, nat_lt, nat_abs, pos, ◌==◌, map, drop, slice_index_or}
 use Rattle.std.specs.Ordering.{int_eq}
 use Rattle.tex_syntax.specs.declared.words.Report.{Report}
@@ -18,7 +20,7 @@ use Rattle.tex_defs.specs.declared.Meaning.TheVariants as means
 use Rattle.tex_defs.specs.declared.RegisterKind.{RegisterKind}
 use Rattle.tex_defs.specs.Places.{Transcript}
 use Rattle.tex_defs.specs.declared.Fatal.TheVariants.{NoFile, HundredErrors}
-use Rattle.plain_tokens.specs.Categories.{begin_group, end_group, is_between}
+use Rattle.plain_tokens.specs.Categories.{begin_group, end_group}
 use Rattle.plain_tokens.specs.Names.{name_of, relax_primitive, end_primitive}
 use Rattle.plain_tokens.specs.Tokens.{character_codes, is_undefined, made_text}
 use Rattle.plain_tokens.specs.Meanings.{fi_primitive, name_meaning, meaning_to_let, seen_as}
@@ -47,7 +49,7 @@ use Rattle.conditionals.specs.declared.skip.Ender.TheVariants.{Fi, Else, Or}
 use Rattle.conditionals.specs.Choices as choices
 use Rattle.conditionals.specs.Limits as limits
 use Rattle.conditionals.specs.Open.{limit_of, innermost_test, above_sought, constant_test}
-use Rattle.conditionals.specs.Skipping.{first_conditional, else_primitive, or_primitive, ender_number}
+use Rattle.conditionals.specs.Skipping.{else_primitive, or_primitive, ender_number}
 use Rattle.conditionals.specs.Same.{same_meaning}
 use Rattle.plain_tokens.specs.Printed.{Style}
 use Rattle.save_stack.specs.declared.GroupKind.{GroupKind}
@@ -79,8 +81,9 @@ use Rattle.plain_readings.specs.Scanning.{Scanning, Builds, SkippedText, scannin
 use Rattle.plain_readings.specs.Laws.{IsRead}
 use Rattle.plain_readings.specs.Weights.{frame_weight, value_frame, act_frame, value_weight, act_weight, end_weight, ask_weight, weight, IsNoted, IsLast, WeightsFall}
 use Rattle.plain_machine.specs.States.{State, Files, Move, ListsEnded, Skipped, FileClosed, FileEnds, FileOpened, Spelt, NameInProgress, Entered, Kept as KeptBytes, Grows, Feeds, Completed, Opened, ListBegun, ListGrown, Put, ListDropped, Called, Set, Assigned, Defined, ListSet, GroupOpened, GroupClosed, KeptForGroup, KeptForAssignment, MagnificationSet, ConditionOpened, LimitSet, ConditionClosed, Written, Begun, Ended, Closed, Reported, Flawed, Stopped, Handed, made}
-use Rattle.plain_machine.specs.Plan.{Page, page_of, style_of, plan, ruled, planned, answered, handed, checked, at_line, cut_or_not, inserted_at, away_text, ran_away, incomplete, frozen_fi, page_behind, reported, behind_report, reports_room, finish, groups_left, conditionals_left, stomach, command, register, primitive, begingroup_primitive, endgroup_primitive, right_brace, put_each, group_ended, brace_met, endgroup_met, character, expansion, expanded, expanded_as, csname_primitive, jobname_primitive, input_primitive, endinput_primitive, input_met, frozen_relax, skips, limited_or_skips, chosen, conditional_begun, ender_comes, ender_met, conditional_met, passed as passed_by, reached, unless_found, input_begun, is_expandable_primitive, job_in, begun, call_of, called_meaning, put_body, body_put, token_line, wanted, enters_names, feeding, given_back, grown_to, first_list, noting, noting_kind, put_one, put_text, put_made, put_characters, put_inserted, arguments_put, called_with, failed, failed_away, inner_begun, done, value_tokens, report_noted, and_closed, expanded_behind, marked, meaning_characters, tokens_meant, shown, is_global, behind_assignment, assigned, kept_for_group, number_or_glue, computed_to, short_meaning, value_shown, location_shown, list_number, tokens_entered, list_given, copies, is_copying, acts_above, list_set, macro_defined, newly_spelt, spelt, relax_if_undefined, name_made, entered, acts_on, acts_in, is_magnification, magnification_set, legal_or_not, compared}
+use Rattle.plain_machine.specs.Plan.{Page, page_of, style_of, plan, ruled, planned, answered, handed, checked, at_line, cut_or_not, inserted_at, away_text, ran_away, incomplete, frozen_fi, page_behind, reported, behind_report, reports_room, finish, groups_left, conditionals_left, stomach, command, register, primitive, begingroup_primitive, endgroup_primitive, right_brace, put_each, group_ended, brace_met, endgroup_met, character, expansion, expanded, expanded_as, csname_primitive, jobname_primitive, input_primitive, endinput_primitive, input_met, frozen_relax, skips, limited_or_skips, chosen, conditional_begun, ender_comes, ender_met, conditional_met, passed as passed_by, reached, unless_found, input_begun, job_in, begun, call_of, called_meaning, put_body, body_put, token_line, wanted, enters_names, feeding, given_back, grown_to, first_list, noting, noting_kind, put_one, put_text, put_made, put_characters, put_inserted, arguments_put, called_with, failed, failed_away, inner_begun, done, value_tokens, report_noted, and_closed, expanded_behind, marked, meaning_characters, tokens_meant, shown, is_global, behind_assignment, assigned, kept_for_group, number_or_glue, computed_to, short_meaning, value_shown, location_shown, list_number, tokens_entered, list_given, copies, is_copying, acts_above, list_set, macro_defined, newly_spelt, spelt, relax_if_undefined, name_made, entered, acts_on, acts_in, is_magnification, magnification_set, legal_or_not, compared}
 use Rattle.plain_machine.specs.Runs.{step_of, all_made}
+use Rattle.plain_machine.specs.Weights.{file_weight, outer_weight, pending_weight}
 use Rattle.plain_machine.proofs.Falling.{enter}
 use Rattle.plain_machine.proofs.Settling.{pulled_settled}
 
@@ -96,18 +99,6 @@ asked (r ∷ rs) = weight r.kind r.fed
 
 abbrev pub work_weight : List Reading → ℕ
 work_weight work = asked work + frames work
-
--- an invalid character may still be skipped, and each file may still end
-abbrev pub file_weight : Progress → ℕ
-file_weight ClosedFile = 0
-file_weight BegunFile = 1
-
-abbrev pub outer_weight : List Source → ℕ
-outer_weight [] = 0
-outer_weight (s ∷ outer) = length s.line + file_weight s.file + outer_weight outer
-
-abbrev pub pending_weight : Pending → ℕ
-pending_weight p = length p.line + file_weight p.file + outer_weight p.outer
 
 -- where the file ends a call may be fed with the note of a check
 abbrev pub check_weight : ℕ
@@ -567,7 +558,7 @@ module _ (n : ℕ) (v : State) (e : v.stopped ≡ None) (less : state_weight v <
 
   drops_expansion : (u : State) (page : Page) (t : Token) (number : ℕ) → Kept v u → Drops n (expansion page t number) u
   drops_expansion u page t number k =
-      by (number == csname_primitive) (number == jobname_primitive) (number == input_primitive) (number == endinput_primitive) (is_between first_conditional or_primitive number) where
+      by (number == csname_primitive) (number == jobname_primitive) (number == input_primitive) (number == endinput_primitive) (is_in_row class.Conditional number) where
         by : (b c d f g : Bool) →
             Drops n (
             if b then Begun (Spelling (call_of t (Primitive number))) ∷ []
@@ -592,7 +583,7 @@ module _ (n : ℕ) (v : State) (e : v.stopped ≡ None) (less : state_weight v <
   drops_expanded : (u : State) (page : Page) (t : Token) (m : Meaning Unit) (ms : List Move) → Kept v u → Drops n ms u → Drops n (expanded_as page t m ms) u
   drops_expanded u page t means.Undefined ms k d = drops_undefined u page UndefinedName k
   drops_expanded u page t (means.Macro long outer list) ms k d = drops_called_meaning u page (name_of t) (name_meaning page.now.meanings (name_of t)) k
-  drops_expanded u page t (means.Prim number) ms k d = drops_unless u (is_expandable_primitive number) page t number ms k d
+  drops_expanded u page t (means.Prim number) ms k d = drops_unless u (is_expanded number) page t number ms k d
   drops_expanded u page t m ms k d = d
 
   drops_brace : (u : State) (page : Page) (kind : Option GroupKind) → Kept v u → Drops n (brace_met page kind) u

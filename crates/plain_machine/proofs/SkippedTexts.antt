@@ -28,6 +28,7 @@ use Rattle.prim_table.specs.Primitives.{primitive_names}
 use Rattle.rows.specs.declared.command.Call.{Call}
 use Rattle.rows.specs.declared.command.Effect.{Effect}
 use Rattle.rows.specs.declared.command.Effect.TheVariants as effect
+use Rattle.rows.specs.Commands.{CommandAsk, command_ask}
 use Rattle.rows.specs.Readings.{Fed, Tok, Val, Ask, More, Acts, ActsOn, Ends as Closes}
 use Rattle.plain_readings.specs.Readings.{Kind, Skips, Reading, ask, fed_with}
 use Rattle.plain_readings.specs.Scanning.{Scanning, SkippedText, scanning}
@@ -178,10 +179,6 @@ SkipsNone (Begun (Skips c aim line)) = ⊥
 SkipsNone (BegunWith (Skips c aim line)) = ⊥
 SkipsNone m = Unit {0}
 
-beneath_begun : (n : ℕ) (k : Kind) (work : List Reading) → 0 < n → SkipsNone (Begun k) → AreBeneath n work → IsBeneath n k
-beneath_begun n (Skips c aim line) work pos h i = absurd h
-beneath_begun n k work pos h i = pos
-
 beneath_made : (n : ℕ) (m : Move) (s : State) → 0 < n → SkipsNone m → AreBeneath n s.work → AreBeneath n (made m s).work
 beneath_made n (Feeds y) s pos h i = beneath_fed n y s.work i
 beneath_made n (CalledWith p) s pos h i = beneath_dropped n s.work i
@@ -298,11 +295,11 @@ module _ (page : Page) (enters : Bool) (o : Option Scanning) (onward : Seen → 
 
 -- It asks for a token, acts on its ender, or ends.
 module _ (P : Ask → Type 0) (c : Call) (aim : Aim) (more : P (More Unentered)) (acts : (e : Ender) → P (Acts c (effect.Reach aim e))) (closes : P Closes) where
-  ended_asks : (o : Option Ender) (a : Ask) → P a → P (ended c aim o a)
+  ended_asks : (o : Option Ender) (a : CommandAsk) → P (command_ask a) → P (command_ask (ended c aim o a))
   ended_asks None a h = h
   ended_asks (Some e) a h = acts e
 
-  skipping_asks : (depth : ℕ) (fed : List Fed) → P (skipping c aim depth fed)
+  skipping_asks : (depth : ℕ) (fed : List Fed) → P (command_ask (skipping c aim depth fed))
   skipping_asks depth [] = more
   skipping_asks depth (Tok x ∷ fed) =
       ended_asks (ends_at depth (part x.meaning)) (skipping c aim (open_behind depth (part x.meaning)) fed) (skipping_asks (open_behind depth (part x.meaning)) fed)

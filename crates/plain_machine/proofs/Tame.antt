@@ -1,5 +1,7 @@
 -- The moves of a rule behind its pull: none of them pulls, and text begins to be skipped by the last of them, if by any.
 use Rattle.std.proofs.Common.{ℕ, ℤ, zero, suc, List, [], ◌∷◌, ◌++◌, length, drop, map, slice_index_or, Bool, true, false}
+use Rattle.prim_table.specs.Primitives.{is_expanded, is_in_row}
+use Rattle.prim_table.specs.declared.Class.TheVariants as class
 use Rattle.std.specs.Prelude.{Option, Some, None, if◌then◌else◌, ◌||◌, nat_eq, nat_lt, pos}
 use Rattle.std.specs.Ordering.{int_eq}
 use Rattle.tex_syntax.specs.declared.words.Want.{Want}
@@ -18,7 +20,7 @@ use Rattle.tex_defs.specs.declared.Token.TheVariants as token
 use Rattle.tex_defs.specs.declared.Fatal.TheVariants.{HundredErrors}
 use Rattle.tex_defs.specs.Places.{Transcript}
 use Rattle.tex_defs.specs.declared.Name.{Name}
-use Rattle.plain_tokens.specs.Categories.{begin_group, end_group, is_between}
+use Rattle.plain_tokens.specs.Categories.{begin_group, end_group}
 use Rattle.plain_tokens.specs.Names.{name_of, means_relax, relax_primitive, end_primitive}
 use Rattle.plain_tokens.specs.Tokens.{is_space, is_outer, is_undefined, space_token, made_text, character_codes}
 use Rattle.plain_tokens.specs.Numerals.{whole_number, roman}
@@ -45,7 +47,7 @@ use Rattle.conditionals.specs.declared.skip.Ender.TheVariants.{Fi, Else, Or}
 use Rattle.conditionals.specs.Choices as choices
 use Rattle.conditionals.specs.Limits as limits
 use Rattle.conditionals.specs.Open.{limit_of, innermost_test, above_sought, constant_test}
-use Rattle.conditionals.specs.Skipping.{first_conditional, else_primitive, or_primitive, ender_number}
+use Rattle.conditionals.specs.Skipping.{else_primitive, or_primitive, ender_number}
 use Rattle.conditionals.specs.Same.{same_meaning}
 use Rattle.save_stack.specs.declared.GroupKind.{GroupKind}
 use Rattle.save_stack.specs.declared.GroupKind.TheVariants.{Simple, SemiSimple}
@@ -72,7 +74,7 @@ use Rattle.plain_readings.specs.Spelling.{endcsname_primitive}
 use Rattle.plain_readings.specs.Readings.{Kind, Reads, Spelling, FileName, Skips, Arguments, Reading, lists}
 use Rattle.plain_readings.specs.Scanning.{Scanning, Builds, SkippedText, scanning}
 use Rattle.plain_machine.specs.States.{State, Move, Handed, Taken, FirstTaken, Skipped, FileClosed, FileEnds, FileOpened, NameInProgress, Grows, Feeds, Completed, ListGrown, Set, Assigned, Defined, ListSet, GroupOpened, Begun, BegunWith, Ended, Closed, Written, Stopped}
-use Rattle.plain_machine.specs.Plan.{Page, page_of, style_of, met, met_outer, entered, checked, cut_or_not, ran_away, incomplete, away_text, page_behind, reported, reported_as, behind_report, reports_room, report_noted, put_inserted, put_one, put_made, put_text, put_characters, noting, noting_kind, token_line, conditionals_left, finish, command, register, primitive, call_of, begun, csname_primitive, jobname_primitive, input_primitive, endinput_primitive, input_met, frozen_relax, skips, limited_or_skips, chosen, conditional_begun, ender_comes, ender_met, conditional_met, is_expandable_primitive, job_in, expansion, begingroup_primitive, endgroup_primitive, put_each, group_ended, brace_met, endgroup_met, character, unless_expanded, called, called_meaning, called_list, put_body, body_put, stomach, wanted, expanded, expanded_as, feeding_kind, grown_and_fed, first_list, grown_to, opened, in_place, argument_fed, call_fed, inner_begun, given_back, value_tokens, done, arguments_put, called_with, failed, failed_away, is_global, behind_assignment, assigned, kept_for_group, computed_to, short_meaning, passed, ended_by, reached, acts, tokens_entered, list_given, is_copying, list_number, acts_above, list_set, acts_on, acts_in, and_closed, meaning_characters, tokens_meant, macro_defined, name_made, relax_if_undefined, spelt, newly_spelt, answered, number_or_glue, is_magnification, magnification_set, legal_or_not, compared}
+use Rattle.plain_machine.specs.Plan.{Page, page_of, style_of, met, met_outer, entered, checked, cut_or_not, ran_away, incomplete, away_text, page_behind, reported, reported_as, behind_report, reports_room, report_noted, put_inserted, put_one, put_made, put_text, put_characters, noting, noting_kind, token_line, conditionals_left, finish, command, register, primitive, call_of, begun, csname_primitive, jobname_primitive, input_primitive, endinput_primitive, input_met, frozen_relax, skips, limited_or_skips, chosen, conditional_begun, ender_comes, ender_met, conditional_met, job_in, expansion, begingroup_primitive, endgroup_primitive, put_each, group_ended, brace_met, endgroup_met, character, unless_expanded, called, called_meaning, called_list, put_body, body_put, stomach, wanted, expanded, expanded_as, feeding_kind, grown_and_fed, first_list, grown_to, opened, in_place, argument_fed, call_fed, inner_begun, given_back, value_tokens, done, arguments_put, called_with, failed, failed_away, is_global, behind_assignment, assigned, kept_for_group, computed_to, short_meaning, passed, ended_by, reached, acts, tokens_entered, list_given, is_copying, list_number, acts_above, list_set, acts_on, acts_in, and_closed, meaning_characters, tokens_meant, macro_defined, name_made, relax_if_undefined, spelt, newly_spelt, answered, number_or_glue, is_magnification, magnification_set, legal_or_not, compared}
 
 -- MOVES OF A RULE BEHIND ITS PULL: they pull nothing, and text begins to be skipped by their last move, if by any.
 abbrev pub Tame : List Move → Type 0
@@ -352,7 +354,7 @@ expansion_tame page t n =
     let name : List Move = put_characters (job_in page.strings) in
     let job : List Move = begun t (Primitive n) ++ (name ++ Closed ∷ []) in
     let c : Call = call_of t (Primitive n) in
-    let testing : List Move = if is_between first_conditional or_primitive n then conditional_met page t c n else begun t (Primitive n) in
+    let testing : List Move = if is_in_row class.Conditional n then conditional_met page t c n else begun t (Primitive n) in
     let ending : List Move = if nat_eq n endinput_primitive then FileEnds ∷ [] else testing in
     let beginning : List Move = if nat_eq n input_primitive then input_met page t c else ending in
     let others : List Move = if nat_eq n jobname_primitive then job else beginning in
@@ -360,10 +362,10 @@ expansion_tame page t n =
     (tame_if (nat_eq n jobname_primitive) job beginning (joined name (Closed ∷ []) (characters_flat (job_in page.strings)) tt)
     (tame_if (nat_eq n input_primitive) (input_met page t c) ending (input_tame page t c)
     (tame_if (nat_eq n endinput_primitive) (FileEnds ∷ []) testing tt
-    (tame_if (is_between first_conditional or_primitive n) (conditional_met page t c n) (begun t (Primitive n)) (conditional_tame page t c n) tt))))
+    (tame_if (is_in_row class.Conditional n) (conditional_met page t c n) (begun t (Primitive n)) (conditional_tame page t c n) tt))))
 
 unless_tame : (page : Page) (t : Token) (n : ℕ) (moves : List Move) → Tame moves → Tame (unless_expanded page t n moves)
-unless_tame page t n moves h = tame_if (is_expandable_primitive n) (expansion page t n) moves (expansion_tame page t n) h
+unless_tame page t n moves h = tame_if (is_expanded n) (expansion page t n) moves (expansion_tame page t n) h
 
 register_tame : (page : Page) (t : Token) (kind : RegisterKind) (number : ℕ) → Tame (register page t kind number)
 register_tame page t kind number =

@@ -1,8 +1,8 @@
 -- Lists stay under their other numbers: they are put and read, a macro is defined, a location gets a value, and a group ends.
-use Rattle.std.proofs.Common.{◌≡◌, ℕ, suc, ◌<◌, ◌≤◌, Bool, true, false, ◌||◌, ◌⊎◌, List, [], ◌∷◌, ◌++◌, length, ℤ, Option, Some, None, refl, sym, ap, ◌∙◌, subst, ⊎_elim, inl, inr, arith}
+use Rattle.std.proofs.Common.{◌≡◌, ℕ, suc, ◌<◌, ◌≤◌, Bool, true, false, ◌||◌, ◌⊎◌, List, [], ◌∷◌, ◌++◌, length, Option, Some, None, refl, sym, ap, ◌∙◌, subst, ⊎_elim, inl, inr, arith}
 use Rattle.std.specs.Prelude.{◌==◌, slice_index_or}
 use Rattle.std.proofs.Math.Bool.{or_assoc}
-use Rattle.std.proofs.lemmas.Bool.{eqb-true, eq-eqb, or_cases, or_parts, or_left, or_right, cases_eq, cases_lt, false_from_ne_true}
+use Rattle.std.proofs.lemmas.Bool.{eqb-true, eq-eqb, or_cases, or_parts, or_left, or_right, cases_eq, cases_lt}
 use Rattle.std.proofs.lemmas.List.{get_or_at, get_or_append_left, get_or_past, length-append}
 use Rattle.tex_defs.specs.declared.Token.{Token}
 use Rattle.tex_defs.specs.declared.Token.TheVariants as token
@@ -11,30 +11,29 @@ use Rattle.tex_defs.specs.declared.Seen.{Seen}
 use Rattle.tex_defs.specs.declared.Meaning.{Meaning}
 use Rattle.tex_defs.specs.declared.Meaning.TheVariants as means
 use Rattle.plain_tokens.specs.Lex.{Lexed, Gives, Invalid, UsedUp, lexed}
-use Rattle.plain_tokens.specs.Puts.{Item, Whole, Own, Macro, Put, put_top, with_put, settled_top, without_ended, without_gaps, passed_top, passed}
+use Rattle.plain_tokens.specs.Puts.{Item, Whole, Own, Macro, Put, put_top, with_put, unless_ended, without_ended, without_gaps, passed_top, passed}
 use Rattle.plain_tokens.specs.Pending.{Pending, Source, Progress, Begun, Closed, end_token_lists, put_front, beneath, from_begun, from_file, from_line, from_list, from_front, pulled, after_pull, begun_by, with_begun, outer_puts, all_puts}
 use Rattle.plain_tokens.specs.Meanings.{location, is_listed, fixed_meaning, looked_up, name_meaning, whole_meaning, let_meaning, meaning_to_let}
 use Rattle.plain_tokens.specs.Tables.{is_whole, is_put}
 use Rattle.plain_tokens.specs.Printed.{Style, meaning_head, meaning_text, meaning_tokens, list_text}
-use Rattle.save_stack.specs.declared.GroupKind.{GroupKind}
 use Rattle.equivalents.specs.declared.values.Loc.{Loc}
 use Rattle.equivalents.specs.declared.values.Val.TheVariants as val
-use Rattle.equivalents.specs.Locations.{V, tokens_of}
+use Rattle.equivalents.specs.Locations.{tokens_of}
 use Rattle.equivalents.specs.Tables.{get}
 use Rattle.equivalents.proofs.Names.{fixed_unlisted}
-use Rattle.equivalents.specs.Groups.{Groups, set, set_name, entered, opened, closed, with_token, first_groups}
-use Rattle.equivalents.specs.Holding.{list_of, value_list, lists_of_meanings, lists_held}
+use Rattle.equivalents.specs.Groups.{Groups, set, set_name, first_groups}
+use Rattle.equivalents.specs.Holding.{list_of, lists_of_meanings, lists_held}
 use Rattle.plain_machine.specs.Plan.{shared_tokens}
-use Rattle.plain_machine.specs.Numbers.{number_of_list, meaning_of, meanings_of, whole_of, put_of, puts_of, tables_of, groups_of, renumbered, IsHeld, Tied}
+use Rattle.plain_machine.specs.Numbers.{number_of_list, meaning_of, meanings_of, whole_of, put_of, puts_of, tables_of, renumbered, IsHeld, Tied}
 use Rattle.plain_machine.proofs.Renumbering.{meaning_to_let_of}
 use Rattle.plain_machine.proofs.GroupNumbers.{get_of, tokens_as}
 use Rattle.plain_machine.proofs.MacroWords.{either}
-use Rattle.plain_machine.proofs.Holders.{is_number, OutsideIsHeld, meanings_at, names_hold, now_held, set_cases, name_cases, closed_held, outside_free, entered_lists, first_lists, other_number, new_number, defined_free, listed_free, value_is_held, standing_is_held}
+use Rattle.plain_machine.proofs.Holders.{is_number, meanings_at, names_hold, now_held, set_cases, name_cases, first_lists, other_number, new_number, standing_is_held}
 
 -- WHAT IS HELD
 
 module _ (n : ℕ) where
-  put_settled_top : (p : Put) (xs : List Item) (below rest : List Put) → (is_put n below ≡ true → is_put n rest ≡ true) → is_put n (settled_top p xs below rest) ≡ true → (is_whole n p.list || is_put n rest) ≡ true
+  put_settled_top : (p : Put) (xs : List Item) (below rest : List Put) → (is_put n below ≡ true → is_put n rest ≡ true) → is_put n (unless_ended p xs below rest) ≡ true → (is_whole n p.list || is_put n rest) ≡ true
   put_settled_top p [] below rest f h = or_right (is_whole n p.list) (is_put n rest) (f h)
   put_settled_top p (x ∷ xs) below rest f h = h
 
@@ -166,16 +165,9 @@ module _ (number : ℕ → ℕ) (all_lists : List (List Token)) where
         let same : id ≡ n = eqb-true id n here in
         rw same at own
 
-    own_held : (ts : List Token) (w : Whole) → w ≡ Own ts → (n : ℕ) → is_whole n w ≡ true → IsHeld n held puts
-    own_held ts w e n h = let here : is_whole n (Own ts) ≡ true = rw e at h in cc
-
     -- the list of a macro that is held is put once more
     macro_put : (id : ℕ) (x : Put) (puts' : List Put) → ((n : ℕ) → is_put n puts' ≡ true → (is_whole n x.list ≡ true) ⊎ (is_put n puts ≡ true)) → x.list ≡ Macro id → IsHeld id held puts → Tied number all_lists held puts' lists
     macro_put id x puts' more e own = put_held x puts' more (macro_held id x.list e own)
-
-    -- a list of its own
-    own_put : (ts : List Token) (x : Put) (puts' : List Put) → ((n : ℕ) → is_put n puts' ≡ true → (is_whole n x.list ≡ true) ⊎ (is_put n puts ≡ true)) → x.list ≡ Own ts → Tied number all_lists held puts' lists
-    own_put ts x puts' more e = put_held x puts' more (own_held ts x.list e)
 
   -- over all that is pending
   module _ (held : List ℕ) (p : Pending) (lists : List (List Token)) (t : Tied number all_lists held (all_puts p) lists) where
@@ -184,16 +176,6 @@ module _ (number : ℕ → ℕ) (all_lists : List (List Token)) where
 
     pub tied_put : (id : ℕ) (x : Put) → x.list ≡ Macro id → IsHeld id held (all_puts p) → Tied number all_lists held (all_puts (put_front x p)) lists
     tied_put id x e own = macro_put held (all_puts p) lists t id x (all_puts (put_front x p)) (λ n h. put_put_front n x p h) e own
-
-    pub tied_own : (ts : List Token) (x : Put) → x.list ≡ Own ts → Tied number all_lists held (all_puts (put_front x p)) lists
-    tied_own ts x e = own_put held (all_puts p) lists t ts x (all_puts (put_front x p)) (λ n h. put_put_front n x p h) e
-
-    pub tied_pulled : (categories : List ℕ) → Tied number all_lists held (all_puts (after_pull p (pulled categories p))) lists
-    tied_pulled categories = tied_puts held (all_puts p) lists t (all_puts (after_pull p (pulled categories p))) (λ n h. put_pulled n p categories h)
-
-    -- a file that was opened is begun
-    pub tied_begun : Tied number all_lists held (all_puts (with_begun p)) lists
-    tied_begun = tied_puts held (all_puts p) lists t (all_puts (with_begun p)) (λ n h. put_with_begun n p h)
 
 -- A MACRO IS DEFINED, and a location gets a list
 
@@ -210,27 +192,6 @@ module _ (number : ℕ → ℕ) (id new : ℕ) where
       let first : put_of (renumbered number id new) p ≡ put_of number p = ap (λ (w : Whole). record { list = w; arguments = p.arguments; items = p.items }) here in
       let behind : puts_of (renumbered number id new) ps ≡ puts_of number ps = puts_renumbered ps parts.1 in
       cc
-
-  module _ (held : List ℕ) (puts : List Put) (fresh : IsHeld id held puts → ⊥) where
-    pub not_held : (is_listed held id ≡ false) × (is_put id puts ≡ false)
-    not_held = or_parts (is_listed held id) (is_put id puts) (false_from_ne_true (is_listed held id || is_put id puts) fresh)
-
-    pub puts_defined : puts_of (renumbered number id new) puts ≡ puts_of number puts
-    puts_defined = puts_renumbered puts not_held.1
-
-  -- the name means the new macro, and each other location has what it had
-  pub groups_defined : (global : Bool) (g : Groups) (puts : List Put) → (IsHeld id (lists_held g) puts → ⊥) → OutsideIsHeld g → (name : Name) (long outer : Bool) →
-      groups_of (renumbered number id new) (set_name global g name (means.Macro long outer (Some id))) ≡ set_name global (groups_of number g) name (means.Macro long outer (Some new))
-  groups_defined global g puts fresh outside name long outer =
-      let free : is_listed (lists_held g) id ≡ false = (not_held (lists_held g) puts fresh).0 in
-      defined_free number id new global g free (outside_free id g outside free) name long outer
-
-  -- and so does the location
-  pub groups_listed : (global : Bool) (g : Groups) (puts : List Put) → (IsHeld id (lists_held g) puts → ⊥) → OutsideIsHeld g → (l : Loc) →
-      groups_of (renumbered number id new) (set global g l (val.Tokens (Some id))) ≡ set global (groups_of number g) l (val.Tokens (Some new))
-  groups_listed global g puts fresh outside l =
-      let free : is_listed (lists_held g) id ≡ false = (not_held (lists_held g) puts fresh).0 in
-      listed_free number id new global g free (outside_free id g outside free) l
 
 -- what is held then is the new list, or was held
 listed_then : (held held' : List ℕ) (puts : List Put) (id n : ℕ) → (is_listed held' n ≡ true → ((id == n) ≡ true) ⊎ (is_listed held n ≡ true)) → IsHeld n held' puts → (n ≡ id) ⊎ IsHeld n held puts
@@ -358,48 +319,6 @@ module _ (n : ℕ) where
   -- and so it is held
   pub name_held : (g : Groups) → is_listed (lists_of_meanings g.now.meanings) n ≡ true → is_listed (lists_held g) n ≡ true
   name_held g h = now_held n g (names_hold n g.now h)
-
-  -- What is held then was held: what the location had before may be held no more.
-  pub held_set : (global : Bool) (g : Groups) (puts : List Put) (l : Loc) (v : V) → (is_number n (value_list v) ≡ true → is_listed (lists_held g) n ≡ true) → IsHeld n (lists_held (set global g l v)) puts → IsHeld n (lists_held g) puts
-  held_set global g puts l v given h = held_more n (lists_held (set global g l v)) (lists_held g) puts puts (λ a. ⊎_elim given (λ b. b) (set_cases n global g l v a)) (λ a. a) h
-
-  pub held_assigned : (global : Bool) (g : Groups) (puts : List Put) (name : Name) (m : Meaning (Option ℕ)) → (is_number n (list_of m) ≡ true → is_listed (lists_held g) n ≡ true) → IsHeld n (lists_held (set_name global g name m)) puts → IsHeld n (lists_held g) puts
-  held_assigned global g puts name m given h = held_more n (lists_held (set_name global g name m)) (lists_held g) puts puts (λ a. ⊎_elim given (λ b. b) (name_cases n global g name m a)) (λ a. a) h
-
-module _ (number : ℕ → ℕ) (all_lists : List (List Token)) (g : Groups) (puts : List Put) (lists : List (List Token)) (t : Tied number all_lists (lists_held g) puts lists) where
-  -- a list is shared: no number is new
-  pub tied_set : (global : Bool) (l : Loc) (v : V) → ((n : ℕ) → is_number n (value_list v) ≡ true → is_listed (lists_held g) n ≡ true) → Tied number all_lists (lists_held (set global g l v)) puts lists
-  tied_set global l v given = tied_fewer number all_lists (lists_held g) puts lists t (lists_held (set global g l v)) puts (λ n h. held_set n global g puts l v (given n) h)
-
-  pub tied_assigned : (global : Bool) (name : Name) (m : Meaning (Option ℕ)) → ((n : ℕ) → is_number n (list_of m) ≡ true → is_listed (lists_held g) n ≡ true) → Tied number all_lists (lists_held (set_name global g name m)) puts lists
-  tied_assigned global name m given = tied_fewer number all_lists (lists_held g) puts lists t (lists_held (set_name global g name m)) puts (λ n h. held_assigned n global g puts name m (given n) h)
-
-  pub tied_number : (global : Bool) (l : Loc) (k : ℤ) → Tied number all_lists (lists_held (set global g l (val.Number k))) puts lists
-  tied_number global l k = tied_set global l (val.Number k) (λ n h. cc)
-
-  -- what stands at another location
-  pub tied_shared : (global : Bool) (l m : Loc) → Tied number all_lists (lists_held (set global g l (get g.now m))) puts lists
-  tied_shared global l m = tied_set global l (get g.now m) (λ n h. value_is_held n g m h)
-
-  pub tied_let : (global : Bool) (name : Name) (x : Seen) → Tied number all_lists (lists_held (set_name global g name (meaning_to_let g.now.meanings x))) puts lists
-  tied_let global name x = tied_assigned global name (meaning_to_let g.now.meanings x) (λ n h. name_held n g (given_meant n g.now.meanings x h))
-
-  pub tied_primitive : (global : Bool) (name : Name) (k : ℕ) → Tied number all_lists (lists_held (set_name global g name (means.Prim k))) puts lists
-  tied_primitive global name k = tied_assigned global name (means.Prim k) (λ n h. cc)
-
-  pub tied_entered : Tied number all_lists (lists_held (entered g)) puts lists
-  tied_entered = subst (λ (held : List ℕ). Tied number all_lists held puts lists) (sym (entered_lists g)) t
-
-  -- A group that is opened, and a token that is kept for its end, change no holder.
-  pub tied_opened : (kind : GroupKind) → Tied number all_lists (lists_held (opened g kind)) puts lists
-  tied_opened kind = t
-
-  pub tied_with_token : (x : Token) → Tied number all_lists (lists_held (with_token g x)) puts lists
-  tied_with_token x = t
-
-  -- Behind a group's end no more is held, where each list of the maps outside was held.
-  pub tied_closed : OutsideIsHeld g → Tied number all_lists (lists_held (closed g)) puts lists
-  tied_closed outside = tied_fewer number all_lists (lists_held g) puts lists t (lists_held (closed g)) puts (λ n h. held_more n (lists_held (closed g)) (lists_held g) puts puts (closed_held n g outside) (λ a. a) h)
 
 module _ (number : ℕ → ℕ) (all_lists : List (List Token)) (held : List ℕ) (puts : List Put) (lists : List (List Token)) (t : Tied number all_lists held puts lists) where
   -- the lists of what is held stay, each of which has a token

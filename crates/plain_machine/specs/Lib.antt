@@ -2,6 +2,7 @@ pub mod States
 pub mod Demands
 pub mod Plan
 pub mod Runs
+pub mod Weights
 pub mod Bounded
 pub mod Does
 pub mod Extended

@@ -22,7 +22,7 @@ use Rattle.equivalents.specs.declared.values.Loc.{Loc}
 use Rattle.equivalents.specs.declared.values.Loc.TheVariants as loc
 use Rattle.tex_defs.specs.declared.Fatal.TheVariants.{NoEnd, NoFile, HundredErrors}
 use Rattle.tex_defs.specs.Places.{Transcript}
-use Rattle.prim_table.specs.Primitives.{primitive_names, numbers_before, row_size}
+use Rattle.prim_table.specs.Primitives.{primitive_names, is_in_row, is_expanded}
 use Rattle.prim_table.specs.declared.Class.TheVariants as class
 use Rattle.plain_tokens.specs.Categories.{begin_group, end_group, is_between}
 use Rattle.plain_tokens.specs.Names.{name_of, means_relax, relax_primitive, par_primitive, end_primitive}
@@ -65,7 +65,7 @@ use Rattle.conditionals.specs.declared.skip.Ender.TheVariants.{Fi, Else, Or}
 use Rattle.conditionals.specs.Choices as choices
 use Rattle.conditionals.specs.Limits as limits
 use Rattle.conditionals.specs.Open.{limit_of, innermost_test, above_sought, constant_test}
-use Rattle.conditionals.specs.Skipping.{first_conditional, else_primitive, or_primitive, ender_number}
+use Rattle.conditionals.specs.Skipping.{else_primitive, or_primitive, ender_number}
 use Rattle.conditionals.specs.Same.{same_meaning}
 use Rattle.rows.specs.declared.words.Value.{Value}
 use Rattle.rows.specs.declared.words.Value.TheVariants as value
@@ -244,10 +244,6 @@ input_primitive = 63
 abbrev pub endinput_primitive : ℕ
 endinput_primitive = 64
 
--- the primitives that are expanded, and the conditionals: two rows, one behind the other
-abbrev pub is_expandable_primitive : ℕ → Bool
-is_expandable_primitive number = is_between (numbers_before class.Expandable + 1) (numbers_before class.Conditional + row_size class.Conditional) number
-
 -- the job's name is the first string that is kept
 abbrev pub job_in : List (List ℕ) → List ℕ
 job_in [] = []
@@ -305,7 +301,7 @@ expansion page t number =
     else if number == jobname_primitive then begun t (Primitive number) ++ (put_characters (job_in page.strings) ++ Closed ∷ [])
     else if number == input_primitive then input_met page t (call_of t (Primitive number))
     else if number == endinput_primitive then FileEnds ∷ []
-    else if is_between first_conditional or_primitive number then conditional_met page t (call_of t (Primitive number)) number
+    else if is_in_row class.Conditional number then conditional_met page t (call_of t (Primitive number)) number
     else begun t (Primitive number)
 
 -- GROUPS
@@ -354,7 +350,7 @@ primitive page t number =
 
 -- a primitive that is expanded begins its expansion; another comes to these moves
 abbrev pub unless_expanded : Page → Token → ℕ → List Move → List Move
-unless_expanded page t number moves = if is_expandable_primitive number then expansion page t number else moves
+unless_expanded page t number moves = if is_expanded number then expansion page t number else moves
 
 -- a token is expanded once: an undefined name is reported and dropped, a macro called, a primitive expanded; another comes to these moves
 abbrev pub expanded_as : Page → Token → Meaning Unit → List Move → List Move

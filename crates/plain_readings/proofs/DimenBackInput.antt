@@ -21,20 +21,21 @@ use Rattle.plain_readings.specs.Integers.{is_minus, is_plus, is_digit, digit_of}
 use Rattle.plain_readings.specs.Factors.{is_point}
 use Rattle.plain_readings.specs.declared.measures.Quantity.{Quantity}
 use Rattle.plain_readings.specs.declared.measures.Measure.{Measure}
-use Rattle.plain_readings.specs.Dimens.{Answer, impossible, too_large_noted, finished, spaced, illegal, in_units, points, physical, scaled_points, by_unit, magnified_amount, magnification_in, magnification_fetched, magnified, true_or_not, ex_or_not, em_or_not, mu_or_not, incompatible, valued, no_number, fetched, bad_numbered, with_number, numbered, times, unit_fetched, internal_unit, internal_or_word, unit_at, unit_sought, longer, fil_or_not, unit_behind, unit_with, amount, with_digit, fraction, pointed, turned, with_factor, factor_read, factored, is_integer_at, value_fetched, internal_value, internal_or_factor, unsigned, dimension}
+use Rattle.plain_readings.specs.Dimens.{impossible, too_large_noted, finished, spaced, illegal, in_units, points, physical, scaled_points, by_unit, magnified_amount, magnification_in, magnification_fetched, magnified, true_or_not, ex_or_not, em_or_not, mu_or_not, incompatible, valued, no_number, fetched, bad_numbered, with_number, numbered, times, unit_fetched, internal_unit, internal_or_word, unit_at, unit_sought, longer, fil_or_not, unit_behind, unit_with, amount, with_digit, fraction, pointed, turned, with_factor, factor_read, factored, is_integer_at, value_fetched, internal_value, internal_or_factor, unsigned, dimension}
+use Rattle.plain_readings.specs.declared.asks.DimenAsk.{DimenAsk}
 use Rattle.plain_readings.specs.Dimens as dimens
 use Rattle.plain_readings.specs.Measures.{dimen_fed, dimen_ask}
 use Rattle.plain_readings.specs.Laws.{Returns}
 use Rattle.plain_readings.proofs.BackInput.{Gives, direct, done_gives}
 
-abbrev Fits : Bool → (List Fed → Answer) → List Fed → Type 0
+abbrev Fits : Bool → (List Fed → DimenAsk) → List Fed → Type 0
 Fits b asks fed = Gives b (λ more. dimen_ask (asks more)) fed
 
 -- by what a definition asks for that was fed with these
-abbrev DimenGives : Bool → (List dimens.Fed → Answer) → List Fed → Type 0
+abbrev DimenGives : Bool → (List dimens.Fed → DimenAsk) → List Fed → Type 0
 DimenGives b asks fed = Fits b (λ more. asks (dimen_fed more)) fed
 
-either : (b c : Bool) (p q : List Fed → Answer) (fed : List Fed) → Fits b p fed → Fits b q fed → Fits b (λ more. if c then p more else q more) fed
+either : (b c : Bool) (p q : List Fed → DimenAsk) (fed : List Fed) → Fits b p fed → Fits b q fed → Fits b (λ more. if c then p more else q more) fed
 either b true p q fed h i = h
 either b false p q fed h i = i
 
@@ -131,7 +132,7 @@ no_number_gives mu negative (Noted ∷ fed) = λ h. valued_gives mu false negati
 no_number_gives mu negative (y ∷ fed) = λ h. absurd h.0
 
 -- what is done with what stands at a location
-module _ (onward : Loc → ℤ → List dimens.Fed → Answer) (gives : (l : Loc) (v : ℤ) (b : Bool) (fed : List Fed) → DimenGives b (onward l v) fed) where
+module _ (onward : Loc → ℤ → List dimens.Fed → DimenAsk) (gives : (l : Loc) (v : ℤ) (b : Bool) (fed : List Fed) → DimenGives b (onward l v) fed) where
   fetched_gives : (l : Loc) (b : Bool) (fed : List Fed) → DimenGives b (fetched onward l) fed
   fetched_gives l b [] = λ h. tt
   fetched_gives l b (Fetched v ∷ fed) = λ h. gives l (integer_of v) false fed h.1

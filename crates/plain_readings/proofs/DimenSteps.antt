@@ -18,7 +18,8 @@ use Rattle.plain_readings.specs.Integers.{is_minus, is_plus, is_digit, digit_of}
 use Rattle.plain_readings.specs.Factors.{is_point}
 use Rattle.plain_readings.specs.declared.measures.Quantity.{Quantity}
 use Rattle.plain_readings.specs.declared.measures.Measure.{Measure}
-use Rattle.plain_readings.specs.Dimens.{Fed, Tok, Factored, Numbered, Found, Noted, Fetched, Answer, too_large_noted, finished, spaced, illegal, in_units, points, physical, scaled_points, by_unit, magnified_amount, magnification_in, by_magnification, magnification_fetched, magnified, true_or_not, ex_or_not, em_or_not, mu_or_not, incompatible, valued, no_number, fetched, bad_numbered, with_number, numbered, times, unit_fetched, internal_unit, word_unit, internal_or_word, unit_at, unit_sought, longer, fil_or_not, unit_behind, unit_with, amount, with_digit, behind_digits, fraction, pointed, turned, with_factor, factor_read, factored, is_integer_at, value_fetched, internal_value, internal_or_factor, unsigned, dimension}
+use Rattle.plain_readings.specs.Dimens.{Fed, Tok, Factored, Numbered, Found, Noted, Fetched, too_large_noted, finished, spaced, illegal, in_units, points, physical, scaled_points, by_unit, magnified_amount, magnification_in, by_magnification, magnification_fetched, magnified, true_or_not, ex_or_not, em_or_not, mu_or_not, incompatible, valued, no_number, fetched, bad_numbered, with_number, numbered, times, unit_fetched, internal_unit, word_unit, internal_or_word, unit_at, unit_sought, longer, fil_or_not, unit_behind, unit_with, amount, with_digit, behind_digits, fraction, pointed, turned, with_factor, factor_read, factored, is_integer_at, value_fetched, internal_value, internal_or_factor, unsigned, dimension}
+use Rattle.plain_readings.specs.declared.asks.DimenAsk.{DimenAsk}
 use Rattle.plain_readings.specs.Measures.{dimen_ask}
 use Rattle.plain_readings.specs.Weights.{value_weight}
 use Rattle.plain_readings.proofs.Follows.{Item, Token, Value, Note, Standing, weighs, Follows, light_follows}
@@ -29,14 +30,14 @@ item_of Noted = Note
 item_of (Fetched v) = Standing
 item_of y = Value
 
-abbrev Steps : Fed → Answer → Answer → Type 0
+abbrev Steps : Fed → DimenAsk → DimenAsk → Type 0
 Steps y a b = Follows (item_of y) (dimen_ask a) (dimen_ask b)
 
-either : (y : Fed) (c : Bool) (p p' q q' : Answer) → Steps y p p' → Steps y q q' → Steps y (if c then p else q) (if c then p' else q')
+either : (y : Fed) (c : Bool) (p p' q q' : DimenAsk) → Steps y p p' → Steps y q q' → Steps y (if c then p else q) (if c then p' else q')
 either y true p p' q q' h i = h
 either y false p p' q q' h i = i
 
-light_if : (c : Bool) (p q : Answer) (n : ℕ) → weighs (dimen_ask p) ≤ n → weighs (dimen_ask q) ≤ n → weighs (dimen_ask (if c then p else q)) ≤ n
+light_if : (c : Bool) (p q : DimenAsk) (n : ℕ) → weighs (dimen_ask p) ≤ n → weighs (dimen_ask q) ≤ n → weighs (dimen_ask (if c then p else q)) ≤ n
 light_if true p q n h i = h
 light_if false p q n h i = i
 
@@ -219,7 +220,7 @@ module _ (y : Fed) where
   no_number_steps mu negative (z ∷ fed) = light_follows (item_of y) _ _ (omega arith)
 
 -- what is done with what stands at a location
-module _ (onward : Loc → ℤ → List Fed → Answer) (light : (l : Loc) (v : ℤ) → weighs (dimen_ask (onward l v [])) ≤ value_weight + 2) where
+module _ (onward : Loc → ℤ → List Fed → DimenAsk) (light : (l : Loc) (v : ℤ) → weighs (dimen_ask (onward l v [])) ≤ value_weight + 2) where
   fetched_ends : (y : Fed) (l : Loc) → Steps y (fetched onward l []) (fetched onward l (y ∷ []))
   fetched_ends (Fetched v) l = light l (integer_of v)
   fetched_ends (Tok x) l = tt

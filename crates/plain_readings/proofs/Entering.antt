@@ -11,17 +11,19 @@ use Rattle.plain_tokens.specs.Tokens.{has_category, means_category}
 use Rattle.plain_tokens.specs.Puts.{grow_first}
 use Rattle.plain_tokens.specs.Arguments as call
 use Rattle.plain_state.specs.Definitions as build
-use Rattle.plain_state.specs.Definitions.{Body, Answer, More, Tells, Done, is_parameter, character_of, is_digit, is_number, place_digit, is_reference, count_of, body, reference, illegal, macro_body, no_body, parameters, place, tenth, misnumbered, text_body, missing, first}
-use Rattle.rows.specs.declared.words.Datum.TheVariants as datum
-use Rattle.rows.specs.declared.words.Value.TheVariants as value
+use Rattle.plain_state.specs.declared.body.Body.{Body}
+use Rattle.plain_state.specs.Definitions.{Answer, More, Tells, Done, is_parameter, character_of, is_digit, is_number, place_digit, is_reference, count_of, body, reference, illegal, macro_body, no_body, parameters, place, tenth, misnumbered, text_body, missing, first}
 use Rattle.rows.specs.declared.words.Phrase.TheVariants.{Command, Integer, Factor, Dimension, Glue, Keyword, Text, Definition}
 use Rattle.rows.specs.Readings.{Fed, Tok, Val, Noted, Fetched, Verbatim, Cut, Ask}
 use Rattle.rows.specs.Readings as reading
-use Rattle.plain_readings.specs.Integers.{integer}
+use Rattle.plain_readings.specs.Integers.{integer, number_ask}
+use Rattle.plain_readings.specs.declared.asks.NumberAsk.{NumberAsk}
+use Rattle.plain_readings.specs.declared.asks.NumberAsk.TheVariants as number
 use Rattle.plain_readings.specs.Lists.{build_ask, built, build_fed, manner, text, definition}
 use Rattle.plain_readings.specs.Calls.{call_ask, gathered}
-use Rattle.plain_readings.specs.Factors.{as_factor}
+use Rattle.plain_readings.specs.Factors.{as_factor, factor_ask}
 use Rattle.plain_readings.specs.Measures.{dimen_fed, glue_fed}
+use Rattle.plain_readings.specs.Keywords.{keyword_ask}
 use Rattle.plain_readings.specs.Readings.{Kind, Reads, Spelling, FileName, Behind, Skips, Arguments, ask, lists}
 use Rattle.plain_readings.proofs.Wants.{AsksUncopied}
 use Rattle.plain_readings.proofs.RowWants.{row_uncopied}
@@ -168,12 +170,15 @@ built_enters t (Done list) b h e = absurd cc
 never : (t : Token) (a b : Ask) (before after : List (List Token)) → AsksUncopied a → a ≡ reading.More Copied → Entering t a b before after
 never t a b before after h e = absurd (subst AsksUncopied e h)
 
-integer_uncopied : (fed : List Fed) → AsksUncopied (integer false fed)
-integer_uncopied fed = integer_holds (λ b a. AsksUncopied a) (λ b want plain. plain) (λ report back. tt) (λ b n back. tt) (λ b. tt) (λ b l. tt) false false fed
+integer_uncopied : (fed : List Fed) → AsksUncopied (number_ask (integer false fed))
+integer_uncopied fed = integer_holds (λ b a. AsksUncopied (number_ask a)) (λ b want plain. plain) (λ report back. tt) (λ b n back. tt) (λ b. tt) (λ b l. tt) false false fed
 
-as_uncopied : (decimal point : Bool) (a : Ask) → AsksUncopied a → AsksUncopied (as_factor decimal point a)
-as_uncopied decimal point (reading.Done (value.Plain (datum.Number n)) back) h = tt
-as_uncopied decimal point a h = h
+as_uncopied : (decimal point : Bool) (a : NumberAsk) → AsksUncopied (number_ask a) → AsksUncopied (factor_ask (as_factor decimal point a))
+as_uncopied decimal point (number.More want) h = h
+as_uncopied decimal point number.Begins h = h
+as_uncopied decimal point (number.Fetches l) h = h
+as_uncopied decimal point (number.Tells report back) h = h
+as_uncopied decimal point (number.Done n back) h = h
 
 call_uncopied : (name : Name) (a : call.Answer) → AsksUncopied (call_ask name a)
 call_uncopied name (call.Ended true args work) = tt
@@ -189,10 +194,10 @@ BuildsNone k = Unit {0}
 uncopied : (k : Kind) (fed : List Fed) → BuildsNone k → AsksUncopied (ask k fed)
 uncopied (Reads (Command c)) fed h = row_uncopied c fed
 uncopied (Reads Integer) fed h = integer_uncopied fed
-uncopied (Reads Factor) fed h = factor_is AsksUncopied fed (λ decimal point. as_uncopied decimal point (integer false fed) (integer_uncopied fed))
+uncopied (Reads Factor) fed h = factor_is (λ a. AsksUncopied (factor_ask a)) fed (λ decimal point. as_uncopied decimal point (integer false fed) (integer_uncopied fed))
 uncopied (Reads (Dimension k)) fed h = dimension_uncopied k false (dimen_fed fed)
 uncopied (Reads (Glue mu)) fed h = glue_uncopied mu false (glue_fed fed)
-uncopied (Reads (Keyword w)) fed h = keyword_holds (λ b a. AsksUncopied a) (λ b want plain. plain) (λ b found. tt) (λ b t n few. tt) w false fed
+uncopied (Reads (Keyword w)) fed h = keyword_holds (λ b a. AsksUncopied (keyword_ask a)) (λ b want plain. plain) (λ b found. tt) (λ b t n few. tt) w false fed
 uncopied (Reads (Text name expanded)) fed h = absurd h
 uncopied (Reads (Definition name expanded)) fed h = absurd h
 uncopied (Spelling c) fed h = spelling_holds (λ b a. AsksUncopied a) (λ b want plain. plain) (λ report back. tt) (λ b. tt) (λ b c ts. tt) c [] false fed

@@ -2,7 +2,9 @@
 use Rattle.std.proofs.Common.{◌≡◌, Bool, true, false, List, [], ◌∷◌, ◌++◌, refl, sym, subst}
 use Rattle.std.specs.Prelude.{if◌then◌else◌}
 use Rattle.tex_defs.specs.declared.Token.{Token}
-use Rattle.plain_tokens.specs.Arguments.{ParMode, Short, Checked, Case, Argument, ExtraBrace, ParEnded, Skipped, Going, case_at, Fed, Tok, Cut, Noted, Answer, ExtraBraceFound, Found, Sought, Gathered, Failed, search, arguments, behind, call, same}
+use Rattle.plain_tokens.specs.declared.par_mode.ParMode.{ParMode}
+use Rattle.plain_tokens.specs.declared.par_mode.ParMode.TheVariants.{Short, Checked}
+use Rattle.plain_tokens.specs.Arguments.{Case, Argument, ExtraBrace, ParEnded, Skipped, Going, case_at, Fed, Tok, Cut, Noted, Answer, ExtraBraceFound, Found, Sought, Gathered, Failed, search, arguments, behind, call, same}
 
 abbrev pub noted : List Fed → List Fed
 noted fed = fed ++ Noted ∷ []

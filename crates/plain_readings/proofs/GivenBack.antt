@@ -9,9 +9,12 @@ use Rattle.tex_syntax.specs.declared.words.Manner.{Manner}
 use Rattle.plain_tokens.specs.Categories.{begin_group, end_group}
 use Rattle.plain_tokens.specs.Tokens.{has_category, means_category}
 use Rattle.plain_tokens.specs.Arguments as call
-use Rattle.plain_tokens.specs.Arguments.{ParMode, Short, Checked, Case, Argument, ExtraBrace, ParEnded, Skipped, Going, Found, Gathered, Failed, case_at, search, is_checked, same, start_of, places_of, mode_of}
+use Rattle.plain_tokens.specs.declared.par_mode.ParMode.{ParMode}
+use Rattle.plain_tokens.specs.declared.par_mode.ParMode.TheVariants.{Short, Checked}
+use Rattle.plain_tokens.specs.Arguments.{Case, Argument, ExtraBrace, ParEnded, Skipped, Going, Found, Gathered, Failed, case_at, search, is_checked, same, start_of, places_of, mode_of}
 use Rattle.plain_state.specs.Definitions as build
-use Rattle.plain_state.specs.Definitions.{Body, is_parameter, character_of, is_digit, is_number, place_digit, is_reference, count_of, body, reference, illegal, macro_body, no_body, parameters, place, tenth, misnumbered, text_body, missing, first}
+use Rattle.plain_state.specs.declared.body.Body.{Body}
+use Rattle.plain_state.specs.Definitions.{is_parameter, character_of, is_digit, is_number, place_digit, is_reference, count_of, body, reference, illegal, macro_body, no_body, parameters, place, tenth, misnumbered, text_body, missing, first}
 use Rattle.equivalents.specs.declared.values.Loc.{Loc}
 use Rattle.equivalents.specs.declared.values.Loc.TheVariants as loc
 use Rattle.conditionals.specs.declared.choice.Aim.{Aim}
@@ -34,12 +37,15 @@ use Rattle.rows.specs.Tests.{tested}
 use Rattle.rows.specs.Effects.{value_made, shows_datum, list_to, set_to, comes_to}
 use Rattle.rows.specs.Table.{action_of}
 use Rattle.rows.specs.Readings.{Fed, Tok, Noted, Verbatim, Cut, Ask, ActsOn}
+use Rattle.rows.specs.Commands.{CommandAsk, command_ask}
 use Rattle.rows.specs.Run.{row, due}
 use Rattle.plain_readings.specs.Lists.{build_ask, build_fed, manner}
 use Rattle.plain_readings.specs.Calls.{call_ask, call_fed}
 use Rattle.plain_readings.specs.Measures.{glue_ask}
-use Rattle.plain_readings.specs.Glues as glues
+use Rattle.plain_readings.specs.declared.asks.GlueAsk.{GlueAsk}
+use Rattle.plain_readings.specs.declared.asks.GlueAsk.TheVariants as glue_asks
 use Rattle.plain_readings.specs.Skips.{ended, skipping}
+use Rattle.plain_readings.specs.Keywords.{keyword_ask}
 use Rattle.plain_readings.specs.Readings.{Kind, Reads, Spelling, FileName, Behind, Skips, Arguments, ask}
 use Rattle.plain_readings.specs.Laws.{is_met, Returns, GivesBack, Comes, ComeInTurn}
 use Rattle.plain_readings.proofs.Lent.{met_holds}
@@ -49,7 +55,7 @@ use Rattle.plain_readings.proofs.DimenBackInput.{dimension_gives}
 
 -- ROWS, whatever they were fed with
 
-due_gives : (n : Note) → GivesBack true (due n)
+due_gives : (n : Note) → GivesBack true (command_ask (due n))
 due_gives (note.Tells report back) = direct back
 due_gives (note.Inserts t report back) = direct back
 due_gives (note.Relaxes c n) = tt
@@ -90,24 +96,24 @@ module _ (met : Bool) (c : Call) (ts : List Token) where
   comes_other (action.Test test) ds = test_other test ds
   comes_other a ds = tt
 
-row_gives : (c : Call) (fed : List Fed) → GivesBack (is_met false fed) (row c fed)
+row_gives : (c : Call) (fed : List Fed) → GivesBack (is_met false fed) (command_ask (row c fed))
 row_gives c fed =
-    met_holds GivesBack (λ b want. tt) (λ b k. tt) (λ k. tt) (λ b c e. tt) (λ b c ds ts. comes_other b c ts (action_of c.head) ds) (λ b c n ts. tt) (λ b. tt) due_gives (λ b report. tt) c fed
+    met_holds (λ b a. GivesBack b (command_ask a)) (λ b want. tt) (λ b k. tt) (λ k. tt) (λ b c e. tt) (λ b c ds ts. comes_other b c ts (action_of c.head) ds) (λ b c n ts. tt) (λ b. tt) due_gives (λ b report. tt) c fed
 
 -- GLUE AND SKIPPED TEXT give no token back
 
-glue_gives : (b : Bool) (a : glues.Answer) → GivesBack b (glue_ask a)
-glue_gives b (glues.More want) = tt
-glue_gives b (glues.Begins i begins) = tt
-glue_gives b (glues.Fetches l) = tt
-glue_gives b (glues.Tells report) = tt
-glue_gives b (glues.Done g) = tt
+glue_gives : (b : Bool) (a : GlueAsk) → GivesBack b (glue_ask a)
+glue_gives b (glue_asks.More want) = tt
+glue_gives b (glue_asks.Begins i begins) = tt
+glue_gives b (glue_asks.Fetches l) = tt
+glue_gives b (glue_asks.Tells report) = tt
+glue_gives b (glue_asks.Done g) = tt
 
-ended_gives : (c : Call) (aim : Aim) (b : Bool) (o : Option Ender) (onward : Ask) → GivesBack b onward → GivesBack b (ended c aim o onward)
+ended_gives : (c : Call) (aim : Aim) (b : Bool) (o : Option Ender) (onward : CommandAsk) → GivesBack b (command_ask onward) → GivesBack b (command_ask (ended c aim o onward))
 ended_gives c aim b None onward h = h
 ended_gives c aim b (Some e) onward h = tt
 
-skipping_gives : (c : Call) (aim : Aim) (depth : ℕ) (b : Bool) (fed : List Fed) → GivesBack b (skipping c aim depth fed)
+skipping_gives : (c : Call) (aim : Aim) (depth : ℕ) (b : Bool) (fed : List Fed) → GivesBack b (command_ask (skipping c aim depth fed))
 skipping_gives c aim depth b [] = tt
 skipping_gives c aim depth b (Tok x ∷ fed) = ended_gives c aim b (ends_at depth (part x.meaning)) _ (skipping_gives c aim (open_behind depth (part x.meaning)) b fed)
 skipping_gives c aim depth b (y ∷ fed) = tt
@@ -276,7 +282,7 @@ directly (Reads Integer) fed h = integer_gives false false fed h
 directly (Reads Factor) fed h = factor_gives false fed h
 directly (Reads (Dimension k)) fed h = dimension_gives k false false fed h
 directly (Reads (Glue mu)) fed h = glue_gives (is_met false fed) _
-directly (Reads (Keyword w)) fed h = keyword_holds (λ b a. GivesBack (is_met false fed) a) (λ b want plain. tt) (λ b found. tt) (λ b t n few. tt) w false fed
+directly (Reads (Keyword w)) fed h = keyword_holds (λ b a. GivesBack (is_met false fed) (keyword_ask a)) (λ b want plain. tt) (λ b found. tt) (λ b t n few. tt) w false fed
 directly (Reads (Text name expanded)) fed h = first_gives (manner name expanded) [] false fed h
 directly (Reads (Definition name expanded)) fed h = parameters_give (manner name expanded) 0 [] false fed h
 directly (Spelling c) fed h = spelling_gives c [] false fed h

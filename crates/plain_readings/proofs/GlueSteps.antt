@@ -11,7 +11,8 @@ use Rattle.rows.specs.Tokens.{is_at_most}
 use Rattle.rows.specs.Internal.{byte_of, location_in, internal_of, is_mu, is_glue}
 use Rattle.rows.specs.Arithmetic.{glue_at}
 use Rattle.plain_readings.specs.Integers.{is_minus, is_plus}
-use Rattle.plain_readings.specs.Glues.{Fed, Tok, Measured, Numbered, Found, Noted, Fetched, Answer, is_part, with_width, with_stretch, shrink, minus_or_not, stretch, plus_or_not, width, signed_glue, incompatible, valued, fetched, bad_numbered, with_number, numbered, internal_or_width, glue}
+use Rattle.plain_readings.specs.Glues.{Fed, Tok, Measured, Numbered, Found, Noted, Fetched, is_part, with_width, with_stretch, shrink, minus_or_not, stretch, plus_or_not, width, signed_glue, incompatible, valued, fetched, bad_numbered, with_number, numbered, internal_or_width, glue}
+use Rattle.plain_readings.specs.declared.asks.GlueAsk.{GlueAsk}
 use Rattle.plain_readings.specs.Measures.{glue_ask}
 use Rattle.plain_readings.specs.Weights.{value_weight}
 use Rattle.plain_readings.proofs.Follows.{Item, Token, Value, Note, Standing, weighs, Follows, light_follows}
@@ -22,14 +23,14 @@ item_of Noted = Note
 item_of (Fetched v) = Standing
 item_of y = Value
 
-abbrev Steps : Fed → Answer → Answer → Type 0
+abbrev Steps : Fed → GlueAsk → GlueAsk → Type 0
 Steps y a b = Follows (item_of y) (glue_ask a) (glue_ask b)
 
-either : (y : Fed) (c : Bool) (p p' q q' : Answer) → Steps y p p' → Steps y q q' → Steps y (if c then p else q) (if c then p' else q')
+either : (y : Fed) (c : Bool) (p p' q q' : GlueAsk) → Steps y p p' → Steps y q q' → Steps y (if c then p else q) (if c then p' else q')
 either y true p p' q q' h i = h
 either y false p p' q q' h i = i
 
-light_if : (c : Bool) (p q : Answer) (n : ℕ) → weighs (glue_ask p) ≤ n → weighs (glue_ask q) ≤ n → weighs (glue_ask (if c then p else q)) ≤ n
+light_if : (c : Bool) (p q : GlueAsk) (n : ℕ) → weighs (glue_ask p) ≤ n → weighs (glue_ask q) ≤ n → weighs (glue_ask (if c then p else q)) ≤ n
 light_if true p q n h i = h
 light_if false p q n h i = i
 

@@ -15,7 +15,8 @@ use Rattle.rows.specs.declared.internal.Internal.TheVariants as internal
 use Rattle.rows.specs.Tokens.{is_at_most}
 use Rattle.rows.specs.Internal.{byte_of, location_in, internal_of, integer_of, with_sign, is_mu}
 use Rattle.rows.specs.Readings.{Fed, Tok, Val, Noted, Fetched, Ask, Tells, Inserts, Puts, Relaxes, Fetches, Magnifies}
-use Rattle.plain_readings.specs.Integers.{is_digit, digit_of, is_minus, is_plus, greatest_integer, digits_dropped, too_big, digits, missing, first_digit, behind_number, behind_code, constant, code_of, improper_code, signed, mu_found, fetched, bad_numbered, with_number, numbered, internal_integer, by_meaning, unsigned, integer}
+use Rattle.plain_readings.specs.Integers.{is_digit, digit_of, is_minus, is_plus, greatest_integer, digits_dropped, too_big, digits, missing, first_digit, behind_number, behind_code, constant, code_of, improper_code, signed, mu_found, fetched, bad_numbered, with_number, numbered, internal_integer, by_meaning, unsigned, integer, number_ask}
+use Rattle.plain_readings.specs.declared.asks.NumberAsk.{NumberAsk}
 use Rattle.plain_readings.specs.Weights.{value_weight, ask_weight}
 
 -- what is asked for is answered by this, which is no token and no value
@@ -28,14 +29,17 @@ Wants Magnifies Noted = Unit {0}
 Wants (Fetches l) (Fetched v) = Unit {0}
 Wants a y = ⊥
 
-abbrev pub Falls : Fed → Ask → Ask → Type 0
-Falls y a b = Wants a y → ask_weight value_weight b < ask_weight value_weight a
+abbrev weighs : NumberAsk → ℕ
+weighs a = ask_weight value_weight (number_ask a)
 
-falls_if : (y : Fed) (c : Bool) (p p' q q' : Ask) → Falls y p p' → Falls y q q' → Falls y (if c then p else q) (if c then p' else q')
+abbrev pub Falls : Fed → NumberAsk → NumberAsk → Type 0
+Falls y a b = Wants (number_ask a) y → weighs b < weighs a
+
+falls_if : (y : Fed) (c : Bool) (p p' q q' : NumberAsk) → Falls y p p' → Falls y q q' → Falls y (if c then p else q) (if c then p' else q')
 falls_if y true p p' q q' h i = h
 falls_if y false p p' q q' h i = i
 
-light_if : (c : Bool) (p q : Ask) (n : ℕ) → ask_weight value_weight p < n → ask_weight value_weight q < n → ask_weight value_weight (if c then p else q) < n
+light_if : (c : Bool) (p q : NumberAsk) (n : ℕ) → weighs p < n → weighs q < n → weighs (if c then p else q) < n
 light_if true p q n h i = h
 light_if false p q n h i = i
 
@@ -150,13 +154,13 @@ module _ (y : Fed) where
 
 -- AN INTEGER THAT BEGAN WITH A TOKEN may report that no number is there, or ask for what stands at a location
 
-meaning_light : (negative : Bool) (o : Option Internal) (x : Seen) → ask_weight value_weight (by_meaning negative o x []) < 60
+meaning_light : (negative : Bool) (o : Option Internal) (x : Seen) → weighs (by_meaning negative o x []) < 60
 meaning_light negative (Some (internal.Given n)) x = omega arith
 meaning_light negative (Some (internal.At l)) x = omega arith
 meaning_light negative (Some (internal.Numbered b)) x = omega arith
 meaning_light negative None x = light_if (is_digit 10 x) _ _ _ (omega arith) (omega arith)
 
-pub integer_light : (x : Seen) → ask_weight value_weight (integer false (Tok x ∷ [])) < 60
+pub integer_light : (x : Seen) → weighs (integer false (Tok x ∷ [])) < 60
 integer_light x =
     light_if (is_minus x) _ _ _ (omega arith)
     (light_if (is_plus x) _ _ _ (omega arith)

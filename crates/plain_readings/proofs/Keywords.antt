@@ -8,9 +8,11 @@ use Rattle.tex_syntax.specs.declared.words.Want.TheVariants.{Expanded}
 use Rattle.rows.specs.declared.words.Keyword.{Keyword}
 use Rattle.rows.specs.declared.words.Keyword.TheVariants.{By, Plus, Minus, Fil, L, True, Em, Ex, Pt, In, Pc, Cm, Mm, Bp, Dd, Cc, Sp, Mu}
 use Rattle.rows.specs.Laws.{is_noted}
-use Rattle.rows.specs.Readings.{Fed, Tok, Noted, Ask, More, Puts}
+use Rattle.rows.specs.Readings.{Fed, Tok, Noted}
+use Rattle.plain_readings.specs.declared.asks.KeywordAsk.{KeywordAsk}
+use Rattle.plain_readings.specs.declared.asks.KeywordAsk.TheVariants.{More, Puts}
 use Rattle.plain_tokens.specs.Tokens.{is_space}
-use Rattle.plain_readings.specs.Keywords.{letters, is_letter, is_skipped, ends_found, giving_back, keyword_from, keyword}
+use Rattle.plain_readings.specs.Keywords.{letters, is_letter, is_skipped, ends_found, giving_back, keyword_from, keyword, keyword_ask}
 use Rattle.plain_readings.specs.Weights.{value_weight, ask_weight, IsNoted}
 use Rattle.plain_readings.proofs.Wants.{IsUncopied}
 
@@ -37,12 +39,12 @@ letters_few Mu = omega arith
 
 -- a law speaks of an answer, and of whether a note came last
 module _
-    (P : Bool → Ask → Type 0)
+    (P : Bool → KeywordAsk → Type 0)
     (more : (b : Bool) (want : Want) → IsUncopied want → P b (More want))
     (done : (b found : Bool) → P b (ends_found found))
     (put : (b : Bool) (t : Token) (n : ℕ) → n ≤ 4 → P b (Puts t n))
   where
-    either_holds : (b c : Bool) (p q : Ask) → P b p → P b q → P b (if c then p else q)
+    either_holds : (b c : Bool) (p q : KeywordAsk) → P b p → P b q → P b (if c then p else q)
     either_holds b true p q h i = h
     either_holds b false p q h i = i
 
@@ -66,10 +68,13 @@ module _
 
 -- WEIGHTS
 
-abbrev Falls : Ask → Ask → Type 0
-Falls a b = IsNoted a → ask_weight value_weight b < ask_weight value_weight a
+abbrev weighs : KeywordAsk → ℕ
+weighs a = ask_weight value_weight (keyword_ask a)
 
-falls_if : (c : Bool) (p p' q q' : Ask) → Falls p p' → Falls q q' → Falls (if c then p else q) (if c then p' else q')
+abbrev Falls : KeywordAsk → KeywordAsk → Type 0
+Falls a b = IsNoted (keyword_ask a) → weighs b < weighs a
+
+falls_if : (c : Bool) (p p' q q' : KeywordAsk) → Falls p p' → Falls q q' → Falls (if c then p else q) (if c then p' else q')
 falls_if true p p' q q' h i = h
 falls_if false p p' q q' h i = i
 
@@ -88,21 +93,21 @@ from_falls (c ∷ cs) ts (Tok x ∷ fed) =
     (falls_if (is_skipped ts x) _ _ _ _ (from_falls (c ∷ cs) ts fed) (giving_falls (x.token ∷ ts) fed))
 from_falls (c ∷ cs) ts (y ∷ fed) = λ h. absurd h
 
-pub keyword_falls : (w : Keyword) (fed : List Fed) → IsNoted (keyword w fed) → ask_weight value_weight (keyword w (fed ++ Noted ∷ [])) < ask_weight value_weight (keyword w fed)
+pub keyword_falls : (w : Keyword) (fed : List Fed) → IsNoted (keyword_ask (keyword w fed)) → weighs (keyword w (fed ++ Noted ∷ [])) < weighs (keyword w fed)
 keyword_falls w fed = from_falls (letters w) [] fed
 
-light_if : (c : Bool) (p q : Ask) → ask_weight value_weight p ≤ 59 → ask_weight value_weight q ≤ 59 → ask_weight value_weight (if c then p else q) ≤ 59
+light_if : (c : Bool) (p q : KeywordAsk) → weighs p ≤ 59 → weighs q ≤ 59 → weighs (if c then p else q) ≤ 59
 light_if true p q h i = h
 light_if false p q h i = i
 
-more_light : (cs : List ℕ) (ts : List Token) → ask_weight value_weight (keyword_from cs ts []) ≤ 59
+more_light : (cs : List ℕ) (ts : List Token) → weighs (keyword_from cs ts []) ≤ 59
 more_light [] ts = omega arith
 more_light (c ∷ cs) ts = omega arith
 
-from_light : (cs : List ℕ) (x : Seen) → ask_weight value_weight (keyword_from cs [] (Tok x ∷ [])) ≤ 59
+from_light : (cs : List ℕ) (x : Seen) → weighs (keyword_from cs [] (Tok x ∷ [])) ≤ 59
 from_light [] x = omega arith
 from_light (c ∷ cs) x = light_if (is_letter c x.token) _ _ (more_light cs (x.token ∷ [])) (light_if (is_space x) _ _ (more_light (c ∷ cs) []) (omega arith))
 
 -- one that began with a token puts back that one alone
-pub keyword_light : (w : Keyword) (x : Seen) → ask_weight value_weight (keyword w (Tok x ∷ [])) ≤ 59
+pub keyword_light : (w : Keyword) (x : Seen) → weighs (keyword w (Tok x ∷ [])) ≤ 59
 keyword_light w x = from_light (letters w) x

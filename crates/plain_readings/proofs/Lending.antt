@@ -6,9 +6,10 @@ use Rattle.plain_state.specs.Definitions as build
 use Rattle.tex_syntax.specs.declared.words.Want.TheVariants.{Nonblank}
 use Rattle.rows.specs.declared.words.Phrase.TheVariants.{Command, Integer, Factor, Dimension, Glue, Keyword, Text, Definition}
 use Rattle.rows.specs.Readings.{Fed}
-use Rattle.plain_readings.specs.Integers.{integer}
+use Rattle.plain_readings.specs.Integers.{integer, number_ask}
 use Rattle.plain_readings.specs.Lists.{build_ask, text, definition}
 use Rattle.plain_readings.specs.Calls.{call_ask, gathered}
+use Rattle.plain_readings.specs.Keywords.{keyword_ask}
 use Rattle.plain_readings.specs.Readings.{Kind, Reads, Spelling, FileName, Behind, Skips, Arguments, ask}
 use Rattle.plain_readings.specs.Laws.{is_met, Lends}
 use Rattle.plain_readings.proofs.Lent.{row_lends}
@@ -27,8 +28,8 @@ call_lends b name (call.Ended true args work) = tt
 call_lends b name (call.Ended false args work) = tt
 call_lends b name a = tt
 
-integer_lends : (b : Bool) (fed : List Fed) → Lends b (integer false fed)
-integer_lends b fed = integer_holds (λ c a. Lends b a) (λ c want plain. tt) (λ report back. tt) (λ c n back. tt) (λ c. tt) (λ c l. tt) false false fed
+integer_lends : (b : Bool) (fed : List Fed) → Lends b (number_ask (integer false fed))
+integer_lends b fed = integer_holds (λ c a. Lends b (number_ask a)) (λ c want plain. tt) (λ report back. tt) (λ c n back. tt) (λ c. tt) (λ c l. tt) false false fed
 
 pub lends : (k : Kind) (fed : List Fed) → Lends (is_met false fed) (ask k fed)
 lends (Reads (Command c)) fed = row_lends c fed
@@ -36,7 +37,7 @@ lends (Reads Integer) fed = integer_lends (is_met false fed) fed
 lends (Reads Factor) fed = factor_lends (is_met false fed) fed (integer_lends (is_met false fed) fed)
 lends (Reads (Dimension k)) fed = dimension_lends k fed
 lends (Reads (Glue mu)) fed = glue_lends mu fed
-lends (Reads (Keyword w)) fed = keyword_holds (λ b a. Lends (is_met false fed) a) (λ b want plain. tt) (λ b found. tt) (λ b t n few. tt) w false fed
+lends (Reads (Keyword w)) fed = keyword_holds (λ b a. Lends (is_met false fed) (keyword_ask a)) (λ b want plain. tt) (λ b found. tt) (λ b t n few. tt) w false fed
 lends (Reads (Text name expanded)) fed = build_lends (is_met false fed) (text name expanded fed)
 lends (Reads (Definition name expanded)) fed = build_lends (is_met false fed) (definition name expanded fed)
 lends (Spelling c) fed = spelling_holds (λ b a. Lends (is_met false fed) a) (λ b want plain. tt) (λ report back. tt) (λ b. tt) (λ b c ts. tt) c [] false fed

@@ -24,7 +24,8 @@ use Rattle.rows.specs.declared.stage.Note.TheVariants as note
 use Rattle.rows.specs.declared.command.Call.{Call}
 use Rattle.rows.specs.declared.command.Effect.{Effect}
 use Rattle.rows.specs.declared.command.Effect.TheVariants as effect
-use Rattle.rows.specs.Readings.{Fed, Tok, Val, Noted, Ask, More, Inner, Acts, ActsOn, Defines, Ends, Tells}
+use Rattle.rows.specs.Readings.{Fed, Tok, Val, Noted}
+use Rattle.rows.specs.Commands.{CommandAsk, More, Inner, Acts, ActsOn, Defines, Ends, Tells, command_ask}
 use Rattle.rows.specs.Table.{stages_of}
 use Rattle.rows.specs.Effects.{command_effect, as_definition}
 use Rattle.rows.specs.Stages.{start, on_token, on_value, numbered_by, name}
@@ -33,7 +34,7 @@ use Rattle.plain_readings.specs.Laws.{is_met, Lends}
 
 -- a law speaks of an answer, and of whether a token came last
 module _
-    (P : Bool → Ask → Type 0)
+    (P : Bool → CommandAsk → Type 0)
     (more : (b : Bool) (want : Want) → P b (More want))
     (begin : (b : Bool) (k : Phrase) → P b (Inner k false))
     (begin_with : (k : Phrase) → P true (Inner k true))
@@ -114,8 +115,8 @@ module _
     started_fits s c (Looks want) b fed = looks_fits s c want b fed
     started_fits s c (Begins k) b fed = begins_fits s k b fed
 
-    module _ (turn : Call → List Fed → Ask) (turns : (c : Call) (b : Bool) (fed : List Fed) → P (is_met b fed) (turn c fed)) where
-      behind_holds : (c : Call) (ds : List Datum) (onward : List Datum → List Fed → Ask) → ((es : List Datum) (b : Bool) (fed : List Fed) → P (is_met b fed) (onward es fed)) →
+    module _ (turn : Call → List Fed → CommandAsk) (turns : (c : Call) (b : Bool) (fed : List Fed) → P (is_met b fed) (turn c fed)) where
+      behind_holds : (c : Call) (ds : List Datum) (onward : List Datum → List Fed → CommandAsk) → ((es : List Datum) (b : Bool) (fed : List Fed) → P (is_met b fed) (onward es fed)) →
           (t : Bool) (o : StageOutcome) → Fits t o → P t (behind turn c ds onward o)
       behind_holds c ds onward h t (Asks a) fits = fits
       behind_holds c ds onward h t (Takes d fed) (b, e) = subst (λ (t : Bool). P t (onward (ds ++ d ∷ []) fed)) (sym e) (h (ds ++ d ∷ []) b fed)
@@ -133,11 +134,11 @@ module _
     pub met_holds : (c : Call) (fed : List Fed) → P (is_met false fed) (row c fed)
     met_holds c fed = run_holds turned (λ c b fed. run_holds no_turn (λ c b fed. end _) c (stages_of c.head) [] b fed) c (stages_of c.head) [] false fed
 
-due_lends : (n : Note) → Lends true (due n)
+due_lends : (n : Note) → Lends true (command_ask (due n))
 due_lends (note.Tells report back) = tt
 due_lends (note.Inserts t report back) = tt
 due_lends (note.Relaxes c n) = tt
 
-pub row_lends : (c : Call) (fed : List Fed) → Lends (is_met false fed) (row c fed)
+pub row_lends : (c : Call) (fed : List Fed) → Lends (is_met false fed) (command_ask (row c fed))
 row_lends c fed =
-    met_holds Lends (λ b want. tt) (λ b k. tt) (λ k. refl) (λ b c e. tt) (λ b c ds ts. tt) (λ b c n ts. tt) (λ b. tt) due_lends (λ b report. tt) c fed
+    met_holds (λ b a. Lends b (command_ask a)) (λ b want. tt) (λ b k. tt) (λ k. refl) (λ b c e. tt) (λ b c ds ts. tt) (λ b c n ts. tt) (λ b. tt) due_lends (λ b report. tt) c fed

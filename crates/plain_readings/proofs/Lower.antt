@@ -12,18 +12,21 @@ use Rattle.rows.specs.declared.stage.Note.{Note}
 use Rattle.rows.specs.declared.stage.Note.TheVariants as note
 use Rattle.rows.specs.declared.command.Call.{Call}
 use Rattle.rows.specs.Readings.{Fed, Ask, Inner}
+use Rattle.rows.specs.Commands.{command_ask}
 use Rattle.rows.specs.Run.{due}
 use Rattle.rows.proofs.Tokens.{IsLow}
 use Rattle.rows.proofs.Runs.{row_holds}
+use Rattle.plain_readings.specs.Integers.{number_ask}
 use Rattle.plain_readings.specs.Lists.{build_ask, text, definition}
 use Rattle.plain_readings.specs.Calls.{call_ask, gathered}
+use Rattle.plain_readings.specs.Keywords.{keyword_ask}
 use Rattle.plain_readings.specs.Readings.{Kind, Reads, Spelling, FileName, Behind, Skips, Arguments, ask}
 use Rattle.plain_readings.specs.Laws.{rank, BeginsBy, GivesValue}
 use Rattle.plain_readings.proofs.Steps.{integer_holds, spelling_holds, naming_holds, skipping_holds}
 use Rattle.plain_readings.proofs.Keywords.{keyword_holds}
 use Rattle.plain_readings.proofs.Values.{values}
 
-due_low : (c : Call) (n : Note) → BeginsBy (Reads (Command c)) (due n)
+due_low : (c : Call) (n : Note) → BeginsBy (Reads (Command c)) (command_ask (due n))
 due_low c (note.Tells report back) = tt
 due_low c (note.Inserts t report back) = tt
 due_low c (note.Relaxes d n) = tt
@@ -65,12 +68,12 @@ glue_lower mu a h = tt
 
 pub lower : (k : Kind) (fed : List Fed) → BeginsBy k (ask k fed)
 lower (Reads (Command d)) fed =
-    row_holds (λ b a. BeginsBy (Reads (Command d)) a) (λ b want. tt) (λ b j begins low. low_rank j low) (λ b c e. tt) (λ b c e ts. tt) (λ b c n ts. tt) (λ b. tt) (λ n. due_low d n) d fed
-lower (Reads Integer) fed = integer_holds (λ b a. BeginsBy (Reads Integer) a) (λ b want plain. tt) (λ report back. tt) (λ b n back. tt) (λ b. refl) (λ b l. tt) false false fed
+    row_holds (λ b a. BeginsBy (Reads (Command d)) (command_ask a)) (λ b want. tt) (λ b j begins low. low_rank j low) (λ b c e. tt) (λ b c e ts. tt) (λ b c n ts. tt) (λ b. tt) (λ n. due_low d n) d fed
+lower (Reads Integer) fed = integer_holds (λ b a. BeginsBy (Reads Integer) (number_ask a)) (λ b want plain. tt) (λ report back. tt) (λ b n back. tt) (λ b. refl) (λ b l. tt) false false fed
 lower (Reads Factor) fed = factor_lower (ask (Reads Factor) fed) (values (Reads Factor) fed)
 lower (Reads (Dimension k)) fed = dimension_lower k (ask (Reads (Dimension k)) fed) (values (Reads (Dimension k)) fed)
 lower (Reads (Glue mu)) fed = glue_lower mu (ask (Reads (Glue mu)) fed) (values (Reads (Glue mu)) fed)
-lower (Reads (Keyword w)) fed = keyword_holds (λ b a. BeginsBy (Reads (Keyword w)) a) (λ b want plain. tt) (λ b found. tt) (λ b t n few. tt) w false fed
+lower (Reads (Keyword w)) fed = keyword_holds (λ b a. BeginsBy (Reads (Keyword w)) (keyword_ask a)) (λ b want plain. tt) (λ b found. tt) (λ b t n few. tt) w false fed
 lower (Reads (Text name expanded)) fed = text_lower name expanded (text name expanded fed)
 lower (Reads (Definition name expanded)) fed = definition_lower name expanded (definition name expanded fed)
 lower (Spelling c) fed = spelling_holds (λ b a. BeginsBy (Spelling c) a) (λ b want plain. tt) (λ report back. tt) (λ b. tt) (λ b d ts. tt) c [] false fed

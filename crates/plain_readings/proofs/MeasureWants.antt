@@ -19,17 +19,19 @@ use Rattle.plain_readings.specs.Factors.{is_point}
 use Rattle.plain_readings.specs.declared.measures.Quantity.{Quantity}
 use Rattle.plain_readings.specs.declared.measures.Measure.{Measure}
 use Rattle.plain_readings.specs.Dimens as dimens
-use Rattle.plain_readings.specs.Dimens.{Fed, Tok, Factored, Numbered, Found, Noted, Fetched, Answer, in_units, points, physical, magnified_amount, magnification_in, times, amount, with_digit, turned}
+use Rattle.plain_readings.specs.Dimens.{Fed, Tok, Factored, Numbered, Found, Noted, Fetched, in_units, points, physical, magnified_amount, magnification_in, times, amount, with_digit, turned}
+use Rattle.plain_readings.specs.declared.asks.DimenAsk.{DimenAsk}
 use Rattle.plain_readings.specs.Glues as glues
+use Rattle.plain_readings.specs.declared.asks.GlueAsk.{GlueAsk}
 use Rattle.plain_readings.specs.Measures.{dimen_ask, glue_ask}
 use Rattle.plain_readings.proofs.Wants.{AsksUncopied}
 
 -- DIMENSIONS
 
-abbrev Fits : Answer → Type 0
+abbrev Fits : DimenAsk → Type 0
 Fits a = AsksUncopied (dimen_ask a)
 
-either : (c : Bool) (p q : Answer) → Fits p → Fits q → Fits (if c then p else q)
+either : (c : Bool) (p q : DimenAsk) → Fits p → Fits q → Fits (if c then p else q)
 either true p q h i = h
 either false p q h i = i
 
@@ -116,7 +118,7 @@ no_number_fits mu negative (Noted ∷ fed) = valued_fits mu false negative (Some
 no_number_fits mu negative (y ∷ fed) = tt
 
 -- what is done with what stands at a location
-module _ (onward : Loc → ℤ → List Fed → Answer) (h : (l : Loc) (v : ℤ) (fed : List Fed) → Fits (onward l v fed)) where
+module _ (onward : Loc → ℤ → List Fed → DimenAsk) (h : (l : Loc) (v : ℤ) (fed : List Fed) → Fits (onward l v fed)) where
   fetched_fits : (l : Loc) (fed : List Fed) → Fits (dimens.fetched onward l fed)
   fetched_fits l [] = tt
   fetched_fits l (Fetched v ∷ fed) = h l (integer_of v) fed
@@ -222,10 +224,10 @@ dimension_uncopied k negative (y ∷ fed) = tt
 
 -- GLUE
 
-abbrev GlueFits : glues.Answer → Type 0
+abbrev GlueFits : GlueAsk → Type 0
 GlueFits a = AsksUncopied (glue_ask a)
 
-glue_either : (c : Bool) (p q : glues.Answer) → GlueFits p → GlueFits q → GlueFits (if c then p else q)
+glue_either : (c : Bool) (p q : GlueAsk) → GlueFits p → GlueFits q → GlueFits (if c then p else q)
 glue_either true p q h i = h
 glue_either false p q h i = i
 

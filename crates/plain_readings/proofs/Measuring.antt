@@ -10,7 +10,13 @@ use Rattle.rows.specs.declared.words.Phrase.TheVariants.{Dimension, Glue}
 use Rattle.rows.specs.declared.words.DimenKind.{DimenKind}
 use Rattle.rows.specs.Readings.{Fed, Tok, Val, Noted, Fetched, Verbatim, Cut, Ask, Inner, Fetches}
 use Rattle.plain_readings.specs.Dimens as dimens
+use Rattle.plain_readings.specs.declared.asks.DimenAsk.{DimenAsk}
+use Rattle.plain_readings.specs.declared.asks.DimenAsk.TheVariants as dimen_asks
+use Rattle.plain_readings.specs.declared.asks.DimenInner.TheVariants as dimen_inners
 use Rattle.plain_readings.specs.Glues as glues
+use Rattle.plain_readings.specs.declared.asks.GlueAsk.{GlueAsk}
+use Rattle.plain_readings.specs.declared.asks.GlueAsk.TheVariants as glue_asks
+use Rattle.plain_readings.specs.declared.asks.GlueInner.TheVariants as glue_inners
 use Rattle.plain_readings.specs.Measures.{dimen_item, dimen_value, dimen_fed, dimen_ask, dimension, glue_item, glue_value, glue_fed, glue_ask, glue}
 use Rattle.plain_readings.specs.Laws.{is_met, Lends, GivesValue, reports_due}
 use Rattle.plain_readings.specs.Weights.{IsNoted}
@@ -56,24 +62,24 @@ glue_follows mu fed y =
 
 -- VALUES
 
-pub dimension_value : (k : DimenKind) (a : dimens.Answer) → GivesValue (Dimension k) [] (dimen_ask a)
-dimension_value k (dimens.More want) = tt
-dimension_value k (dimens.Begins dimens.Factor begins) = omega arith
-dimension_value k (dimens.Begins dimens.Number begins) = omega arith
-dimension_value k (dimens.Begins (dimens.Key w) begins) = omega arith
-dimension_value k (dimens.Fetches l) = tt
-dimension_value k dimens.Magnifies = tt
-dimension_value k (dimens.Tells report back) = tt
-dimension_value k (dimens.Done n order back) = tt
+pub dimension_value : (k : DimenKind) (a : DimenAsk) → GivesValue (Dimension k) [] (dimen_ask a)
+dimension_value k (dimen_asks.More want) = tt
+dimension_value k (dimen_asks.Begins dimen_inners.Factor begins) = omega arith
+dimension_value k (dimen_asks.Begins dimen_inners.Number begins) = omega arith
+dimension_value k (dimen_asks.Begins (dimen_inners.Key w) begins) = omega arith
+dimension_value k (dimen_asks.Fetches l) = tt
+dimension_value k dimen_asks.Magnifies = tt
+dimension_value k (dimen_asks.Tells report back) = tt
+dimension_value k (dimen_asks.Done n order back) = tt
 
-pub glue_value_given : (mu : Bool) (a : glues.Answer) → GivesValue (Glue mu) [] (glue_ask a)
-glue_value_given mu (glues.More want) = tt
-glue_value_given mu (glues.Begins (glues.Dimension k) begins) = omega arith
-glue_value_given mu (glues.Begins glues.Number begins) = omega arith
-glue_value_given mu (glues.Begins (glues.Key w) begins) = omega arith
-glue_value_given mu (glues.Fetches l) = tt
-glue_value_given mu (glues.Tells report) = tt
-glue_value_given mu (glues.Done g) = tt
+pub glue_value_given : (mu : Bool) (a : GlueAsk) → GivesValue (Glue mu) [] (glue_ask a)
+glue_value_given mu (glue_asks.More want) = tt
+glue_value_given mu (glue_asks.Begins (glue_inners.Dimension k) begins) = omega arith
+glue_value_given mu (glue_asks.Begins glue_inners.Number begins) = omega arith
+glue_value_given mu (glue_asks.Begins (glue_inners.Key w) begins) = omega arith
+glue_value_given mu (glue_asks.Fetches l) = tt
+glue_value_given mu (glue_asks.Tells report) = tt
+glue_value_given mu (glue_asks.Done g) = tt
 
 -- TOKENS LENT
 

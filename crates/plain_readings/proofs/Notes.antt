@@ -10,10 +10,13 @@ use Rattle.rows.specs.declared.words.Phrase.TheVariants.{Command, Integer, Facto
 use Rattle.rows.specs.declared.stage.Note.{Note}
 use Rattle.rows.specs.Laws.{is_noted}
 use Rattle.rows.specs.Readings.{Fed, Tok, Val, Noted, Fetched, Verbatim, Cut, Ask, Relaxes}
+use Rattle.rows.specs.Commands.{command_ask}
 use Rattle.rows.specs.Run.{due}
 use Rattle.rows.proofs.Runs.{row_holds}
+use Rattle.plain_readings.specs.Integers.{number_ask}
 use Rattle.plain_readings.specs.Lists.{build_ask, build_fed, manner, text, definition}
 use Rattle.plain_readings.specs.Calls.{call_ask, call_fed, gathered}
+use Rattle.plain_readings.specs.Keywords.{keyword_ask}
 use Rattle.plain_readings.specs.Readings.{Kind, Reads, Spelling, FileName, Behind, Skips, Arguments, ask}
 use Rattle.plain_readings.specs.Laws.{reports_due, GivesValue, IsSingle}
 use Rattle.plain_readings.proofs.Quiet as quiet
@@ -56,7 +59,7 @@ any : (b : Bool) (a : Ask) → notes_due a ≡ 0 → IsQuiet b a
 any true a h = h
 any false a h = tt
 
-due_quiet : (n : Note) → IsQuiet false (due n)
+due_quiet : (n : Note) → IsQuiet false (command_ask (due n))
 due_quiet n = tt
 
 build_last : (fed : List Fed) → build_fed (fed ++ Noted ∷ []) ≡ quiet.noted (build_fed fed)
@@ -105,12 +108,12 @@ factor_quiet a v h = h
 integer_quiet : (fed : List Fed) → notes_due (ask (Reads Integer) (fed ++ Noted ∷ [])) ≡ 0
 integer_quiet fed =
     quiet_last (ask (Reads Integer) (fed ++ Noted ∷ [])) false fed
-    (integer_holds IsQuiet (λ b want plain. any b _ refl) (λ report back. tt) (λ b n back. any b _ refl) (λ b. any b _ refl) (λ b l. any b _ refl) false false (fed ++ Noted ∷ []))
+    (integer_holds (λ b a. IsQuiet b (number_ask a)) (λ b want plain. any b _ refl) (λ report back. tt) (λ b n back. any b _ refl) (λ b. any b _ refl) (λ b l. any b _ refl) false false (fed ++ Noted ∷ []))
 
 pub told_quiet : (k : Kind) (fed : List Fed) → IsSingle k → notes_due (ask k (fed ++ Noted ∷ [])) ≡ 0
 told_quiet (Reads (Command c)) fed h =
     quiet_last (ask (Reads (Command c)) (fed ++ Noted ∷ [])) false fed
-    (row_holds IsQuiet (λ b want. any b _ refl) (λ b k begins low. any b _ refl) (λ b c e. any b _ refl) (λ b c e ts. any b _ refl) (λ b c n ts. any b _ refl) (λ b. any b _ refl) due_quiet c
+    (row_holds (λ b a. IsQuiet b (command_ask a)) (λ b want. any b _ refl) (λ b k begins low. any b _ refl) (λ b c e. any b _ refl) (λ b c e ts. any b _ refl) (λ b c n ts. any b _ refl) (λ b. any b _ refl) due_quiet c
     (fed ++ Noted ∷ []))
 told_quiet (Reads Integer) fed h = integer_quiet fed
 told_quiet (Reads Factor) fed h =
@@ -120,7 +123,7 @@ told_quiet (Reads (Dimension k)) fed h = absurd h
 told_quiet (Reads (Glue mu)) fed h = absurd h
 told_quiet (Reads (Keyword w)) fed h =
     quiet_last (ask (Reads (Keyword w)) (fed ++ Noted ∷ [])) false fed
-    (keyword_holds IsQuiet (λ b want plain. any b _ refl) (λ b found. any b _ refl) (λ b t n few. any b _ refl) w false (fed ++ Noted ∷ []))
+    (keyword_holds (λ b a. IsQuiet b (keyword_ask a)) (λ b want plain. any b _ refl) (λ b found. any b _ refl) (λ b t n few. any b _ refl) w false (fed ++ Noted ∷ []))
 told_quiet (Reads (Text name expanded)) fed h =
     build_quiet (text name expanded (fed ++ Noted ∷ []))
     (subst (λ (fed : List build.Fed). quiet.IsQuiet (build.text (manner name expanded) fed)) (sym (build_last fed)) (first_quiet (manner name expanded) [] (build_fed fed)))

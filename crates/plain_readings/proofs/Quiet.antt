@@ -6,7 +6,8 @@ use Rattle.tex_defs.specs.declared.Token.{Token}
 use Rattle.tex_defs.specs.declared.Token.TheVariants.{Place, Number, EndPlaces}
 use Rattle.plain_tokens.specs.Categories.{begin_group, end_group}
 use Rattle.plain_tokens.specs.Tokens.{has_category, means_category}
-use Rattle.plain_state.specs.Definitions.{Body, Fed, Tok, Noted, Given, Answer, More, Tells, Done, is_parameter, character_of, is_digit, is_number, place_digit, is_reference, count_of, body, reference, illegal, macro_body, no_body, parameters, place, tenth, misnumbered, text_body, missing, first}
+use Rattle.plain_state.specs.declared.body.Body.{Body}
+use Rattle.plain_state.specs.Definitions.{Fed, Tok, Noted, Given, Answer, More, Tells, Done, is_parameter, character_of, is_digit, is_number, place_digit, is_reference, count_of, body, reference, illegal, macro_body, no_body, parameters, place, tenth, misnumbered, text_body, missing, first}
 
 abbrev pub IsQuiet : Answer → Type 0
 IsQuiet (More want list) = Unit {0}

@@ -18,14 +18,15 @@ use Rattle.rows.specs.declared.stage.Next.TheVariants as next
 use Rattle.rows.specs.declared.stage.Note.{Note}
 use Rattle.rows.specs.declared.stage.Note.TheVariants as note
 use Rattle.rows.specs.declared.command.Call.{Call}
-use Rattle.rows.specs.Readings.{Fed, Tok, Val, Noted, Ask}
+use Rattle.rows.specs.Readings.{Fed, Tok, Val, Noted}
+use Rattle.rows.specs.Commands.{CommandAsk, command_ask}
 use Rattle.rows.specs.Table.{stages_of}
 use Rattle.rows.specs.Stages.{start, on_token, on_value, numbered_by}
 use Rattle.rows.specs.Run.{StageOutcome, Asks, Takes, Passes, Gathers, Makes, Becomes, comes, due, noted, valued, inner, begins, numbers, met_with, looks, again, started, behind, run, no_turn, turned, row}
 use Rattle.plain_readings.proofs.Wants.{IsUncopied, AsksUncopied}
 
 abbrev Fits : StageOutcome → Type 0
-Fits (Asks a) = AsksUncopied a
+Fits (Asks a) = AsksUncopied (command_ask a)
 Fits o = Unit {0}
 
 abbrev StartsUncopied : Start → Type 0
@@ -36,7 +37,7 @@ start_fits : (s : Stage) (c : Call) (ds : List Datum) → StartsUncopied (start 
 start_fits Number c ds = tt
 start_fits s c ds = tt
 
-due_fits : (n : Note) → AsksUncopied (due n)
+due_fits : (n : Note) → AsksUncopied (command_ask (due n))
 due_fits (note.Tells report back) = tt
 due_fits (note.Inserts t report back) = tt
 due_fits (note.Relaxes c n) = tt
@@ -102,9 +103,9 @@ started_fits : (s : Stage) (c : Call) (begun : Start) → StartsUncopied begun �
 started_fits s c (Looks want) plain fed = looks_fits s c want plain fed
 started_fits s c (Begins k) plain fed = begins_fits s k fed
 
-module _ (turn : Call → List Fed → Ask) (turns : (c : Call) (fed : List Fed) → AsksUncopied (turn c fed)) where
-  behind_fits : (c : Call) (ds : List Datum) (onward : List Datum → List Fed → Ask) → ((es : List Datum) (fed : List Fed) → AsksUncopied (onward es fed)) →
-      (o : StageOutcome) → Fits o → AsksUncopied (behind turn c ds onward o)
+module _ (turn : Call → List Fed → CommandAsk) (turns : (c : Call) (fed : List Fed) → AsksUncopied (command_ask (turn c fed))) where
+  behind_fits : (c : Call) (ds : List Datum) (onward : List Datum → List Fed → CommandAsk) → ((es : List Datum) (fed : List Fed) → AsksUncopied (command_ask (onward es fed))) →
+      (o : StageOutcome) → Fits o → AsksUncopied (command_ask (behind turn c ds onward o))
   behind_fits c ds onward h (Asks a) fits = fits
   behind_fits c ds onward h (Takes d fed) fits = h (ds ++ d ∷ []) fed
   behind_fits c ds onward h (Passes fed) fits = h ds fed
@@ -112,11 +113,11 @@ module _ (turn : Call → List Fed → Ask) (turns : (c : Call) (fed : List Fed)
   behind_fits c ds onward h (Makes ts) fits = tt
   behind_fits c ds onward h (Becomes d fed) fits = turns d fed
 
-  run_fits : (c : Call) (ss : List Stage) (ds : List Datum) (fed : List Fed) → AsksUncopied (run turn c ss ds fed)
+  run_fits : (c : Call) (ss : List Stage) (ds : List Datum) (fed : List Fed) → AsksUncopied (command_ask (run turn c ss ds fed))
   run_fits c [] ds fed = tt
   run_fits c (s ∷ ss) ds fed =
       behind_fits c ds (λ es more. run turn c ss es more) (λ es more. run_fits c ss es more) (started s c (start s c ds) fed)
       (started_fits s c (start s c ds) (start_fits s c ds) fed)
 
-pub row_uncopied : (c : Call) (fed : List Fed) → AsksUncopied (row c fed)
+pub row_uncopied : (c : Call) (fed : List Fed) → AsksUncopied (command_ask (row c fed))
 row_uncopied c fed = run_fits turned (λ c fed. run_fits no_turn (λ c fed. tt) c (stages_of c.head) [] fed) c (stages_of c.head) [] fed

@@ -8,13 +8,14 @@ use Rattle.conditionals.specs.Skipping.{part, ender_at, greatest_count, ends_at,
 use Rattle.conditionals.proofs.Counted.{texts_are_counted}
 use Rattle.rows.specs.declared.command.Call.{Call}
 use Rattle.rows.specs.declared.command.Effect.TheVariants.{Reach}
-use Rattle.rows.specs.Readings.{Tok, Ask, More, Acts}
+use Rattle.rows.specs.Readings.{Tok}
+use Rattle.rows.specs.Commands.{CommandAsk, More, Acts, command_ask}
 use Rattle.plain_readings.specs.Skips.{ended, skipping}
 use Rattle.plain_readings.specs.Laws.{SkippedTexts}
 
 module _ (c : Call) (aim : Aim) where
   -- at this token, or behind it
-  reached_at : (o : Option Ender) (behind : Option (ℕ × Ender)) (k : ℕ) (e : Ender) (onward : Ask) →
+  reached_at : (o : Option Ender) (behind : Option (ℕ × Ender)) (k : ℕ) (e : Ender) (onward : CommandAsk) →
       ((j : ℕ) → behind ≡ Some (j, e) → suc j ≡ k → onward ≡ Acts c (Reach aim e)) → counted_from o behind ≡ Some (k, e) → ended c aim o onward ≡ Acts c (Reach aim e)
   reached_at (Some d) behind k e onward later h =
       let pair : ◌≡◌ {A = ℕ × Ender} (0, d) (k, e) = cc in ap (λ (p : ℕ × Ender). Acts c (Reach aim p.1)) pair
@@ -32,7 +33,7 @@ module _ (c : Call) (aim : Aim) where
       (reached (open_behind depth (part x.meaning)) text j e behind))
       h
 
-  going_at : (o : Option Ender) (behind : Option (ℕ × Ender)) (onward : Ask) → (behind ≡ None → onward ≡ More Unentered) → counted_from o behind ≡ None → ended c aim o onward ≡ More Unentered
+  going_at : (o : Option Ender) (behind : Option (ℕ × Ender)) (onward : CommandAsk) → (behind ≡ None → onward ≡ More Unentered) → counted_from o behind ≡ None → ended c aim o onward ≡ More Unentered
   going_at (Some d) behind onward later h = absurd cc
   going_at None None onward later h = later refl
   going_at None (Some (j, d)) onward later h = absurd cc
@@ -52,6 +53,6 @@ pub skipped_texts : SkippedTexts
 skipped_texts = record {
   reaches = λ c aim line text k e small s.
       let next : suc k ≡ k + 1 = omega arith in
-      subst (λ (i : ℕ). skipping c aim 0 (map Tok (take i text)) ≡ Acts c (Reach aim e)) next (reached c aim 0 text k e (texts_are_counted.all text k e small s));
-  goes_on = λ c aim line text small none. going c aim 0 text (uncounted text (counted 0 text) small refl none);
+      ap command_ask (subst (λ (i : ℕ). skipping c aim 0 (map Tok (take i text)) ≡ Acts c (Reach aim e)) next (reached c aim 0 text k e (texts_are_counted.all text k e small s)));
+  goes_on = λ c aim line text small none. ap command_ask (going c aim 0 text (uncounted text (counted 0 text) small refl none));
 }

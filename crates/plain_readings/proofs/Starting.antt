@@ -11,6 +11,7 @@ use Rattle.rows.specs.declared.stage.Start.TheVariants.{Looks, Begins}
 use Rattle.rows.specs.declared.command.Call.{Call}
 use Rattle.rows.specs.Stages.{start, value_phrase, location}
 use Rattle.rows.specs.Table.{row_of, first_in, rest_in, value_stage}
+use Rattle.rows.specs.Commands.{command_ask}
 use Rattle.rows.specs.Run.{started, behind, run, turned}
 use Rattle.plain_readings.specs.Readings.{Kind, Reads, Spelling, FileName, Behind, Skips, Arguments, ask}
 use Rattle.plain_readings.specs.Laws.{IsRead, Starts, rank}
@@ -36,7 +37,7 @@ start_low (stage.Text expanded) c ds = omega arith
 start_low (stage.MacroText expanded) c ds = omega arith
 start_low s c ds = tt
 
-first_starts : (c : Call) (s : Stage) (ss : List Stage) (begun : Start) → IsLow begun → Starts 4 (behind turned c [] (λ es more. run turned c ss es more) (started s c begun []))
+first_starts : (c : Call) (s : Stage) (ss : List Stage) (begun : Start) → IsLow begun → Starts 4 (command_ask (behind turned c [] (λ es more. run turned c ss es more) (started s c begun [])))
 first_starts c s ss (Looks want) low = tt
 first_starts c s ss (Begins k) low = (low, refl)
 

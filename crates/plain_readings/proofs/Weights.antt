@@ -24,7 +24,13 @@ use Rattle.rows.specs.Laws.{IsValueless}
 use Rattle.plain_readings.specs.Readings.{Kind, Reads, Spelling, FileName, Behind, Skips, Arguments, ask, lists}
 use Rattle.plain_readings.specs.Lists.{build_ask, text, definition}
 use Rattle.plain_readings.specs.Dimens as dimens
+use Rattle.plain_readings.specs.declared.asks.DimenAsk.{DimenAsk}
+use Rattle.plain_readings.specs.declared.asks.DimenAsk.TheVariants as dimen_asks
+use Rattle.plain_readings.specs.declared.asks.DimenInner.TheVariants as dimen_inners
 use Rattle.plain_readings.specs.Glues as glues
+use Rattle.plain_readings.specs.declared.asks.GlueAsk.{GlueAsk}
+use Rattle.plain_readings.specs.declared.asks.GlueAsk.TheVariants as glue_asks
+use Rattle.plain_readings.specs.declared.asks.GlueInner.TheVariants as glue_inners
 use Rattle.plain_readings.specs.Measures.{dimen_fed, dimen_ask, glue_fed, glue_ask}
 use Rattle.plain_readings.specs.Laws.{IsRead, rank, Starts, Lends, GivesValue, IsSingle}
 use Rattle.plain_readings.specs.Weights.{value_frame, act_frame, frame_weight, value_weight, act_weight, behind_weight, effect_weight, end_weight, fetching_behind, begins_with, ask_weight, weight, IsNoted, IsLast}
@@ -69,27 +75,27 @@ definition_light name expanded x =
     (built_if (has_category end_group x.token) _ _ (omega arith) (built_if (build.is_parameter x) _ _ (omega arith) (omega arith)))
 
 -- a dimension weighs no more than one that begins a factor with a token
-dimension_light : (a : dimens.Answer) → ask_weight value_weight (dimen_ask a) ≤ 70
-dimension_light (dimens.More want) = omega arith
-dimension_light (dimens.Begins i false) = omega arith
-dimension_light (dimens.Begins dimens.Factor true) = omega arith
-dimension_light (dimens.Begins dimens.Number true) = omega arith
-dimension_light (dimens.Begins (dimens.Key w) true) = omega arith
-dimension_light (dimens.Fetches l) = omega arith
-dimension_light dimens.Magnifies = omega arith
-dimension_light (dimens.Tells report back) = omega (arith, few_behind report)
-dimension_light (dimens.Done n order back) = omega arith
+dimension_light : (a : DimenAsk) → ask_weight value_weight (dimen_ask a) ≤ 70
+dimension_light (dimen_asks.More want) = omega arith
+dimension_light (dimen_asks.Begins i false) = omega arith
+dimension_light (dimen_asks.Begins dimen_inners.Factor true) = omega arith
+dimension_light (dimen_asks.Begins dimen_inners.Number true) = omega arith
+dimension_light (dimen_asks.Begins (dimen_inners.Key w) true) = omega arith
+dimension_light (dimen_asks.Fetches l) = omega arith
+dimension_light dimen_asks.Magnifies = omega arith
+dimension_light (dimen_asks.Tells report back) = omega (arith, few_behind report)
+dimension_light (dimen_asks.Done n order back) = omega arith
 
 -- and glue no more than glue that begins a dimension so
-glue_light : (a : glues.Answer) → ask_weight value_weight (glue_ask a) ≤ 81
-glue_light (glues.More want) = omega arith
-glue_light (glues.Begins i false) = omega arith
-glue_light (glues.Begins (glues.Dimension k) true) = omega arith
-glue_light (glues.Begins glues.Number true) = omega arith
-glue_light (glues.Begins (glues.Key w) true) = omega arith
-glue_light (glues.Fetches l) = omega arith
-glue_light (glues.Tells report) = omega (arith, few_behind report)
-glue_light (glues.Done g) = omega arith
+glue_light : (a : GlueAsk) → ask_weight value_weight (glue_ask a) ≤ 81
+glue_light (glue_asks.More want) = omega arith
+glue_light (glue_asks.Begins i false) = omega arith
+glue_light (glue_asks.Begins (glue_inners.Dimension k) true) = omega arith
+glue_light (glue_asks.Begins glue_inners.Number true) = omega arith
+glue_light (glue_asks.Begins (glue_inners.Key w) true) = omega arith
+glue_light (glue_asks.Fetches l) = omega arith
+glue_light (glue_asks.Tells report) = omega (arith, few_behind report)
+glue_light (glue_asks.Done g) = omega arith
 
 -- what a reading begins with a token, and no command
 pub with_light : (j : Phrase) (x : Seen) → rank (Reads j) < 4 → frame_weight (Reads j) + weight (Reads j) (Tok x ∷ []) < begins_with j

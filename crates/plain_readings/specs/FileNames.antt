@@ -10,7 +10,8 @@ use Rattle.tex_syntax.specs.declared.words.Want.TheVariants.{Expanded}
 use Rattle.plain_tokens.specs.Categories.{other}
 use Rattle.rows.specs.declared.command.Call.{Call}
 use Rattle.rows.specs.declared.command.Effect.TheVariants.{StartInput}
-use Rattle.rows.specs.Readings.{Fed, Tok, Ask, More, ActsOn, Ends}
+use Rattle.rows.specs.Readings.{Fed, Tok}
+use Rattle.rows.specs.Commands.{CommandAsk, More, ActsOn, Ends}
 
 -- the character that a token means, explicit or implicit, of a category up to 12
 abbrev pub character_meant : Meaning Unit → Option Token
@@ -23,16 +24,16 @@ is_blank (token.Char category code) = code == 32
 is_blank t = false
 
 -- the file of this name is opened, and the reading ends
-abbrev pub opens : Call → (give_back : Bool) → List Token → Ask
+abbrev pub opens : Call → (give_back : Bool) → List Token → CommandAsk
 opens c back ts = ActsOn c (StartInput back) ts
 
 -- behind a token that means this; `longer` is what comes behind a name that has got a character
-abbrev pub named_on : Call → List Token → (meant : Option Token) → (longer : List Token → Ask) → Ask
+abbrev pub named_on : Call → List Token → (meant : Option Token) → (longer : List Token → CommandAsk) → CommandAsk
 named_on c ts None longer = opens c true ts
 named_on c ts (Some t) longer = if is_blank t then opens c false ts else longer (ts ++ t ∷ [])
 
 -- behind these characters, where it wants its next token so
-abbrev pub file_naming : Call → Want → List Token → List Fed → Ask
+abbrev pub file_naming : Call → Want → List Token → List Fed → CommandAsk
 file_naming c want ts [] = More want
 file_naming c want ts (Tok x ∷ fed) = named_on c ts (character_meant x.meaning) (λ us. file_naming c Expanded us fed)
 file_naming c want ts (y ∷ fed) = Ends

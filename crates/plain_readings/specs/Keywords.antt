@@ -10,7 +10,10 @@ use Rattle.rows.specs.declared.words.Keyword.{Keyword}
 use Rattle.rows.specs.declared.words.Keyword.TheVariants.{By, Plus, Minus, Fil, L, True, Em, Ex, Pt, In, Pc, Cm, Mm, Bp, Dd, Cc, Sp, Mu}
 use Rattle.rows.specs.declared.words.Datum.TheVariants as datum
 use Rattle.rows.specs.declared.words.Value.TheVariants as value
-use Rattle.rows.specs.Readings.{Fed, Tok, Noted, Ask, More, Done, Puts}
+use Rattle.rows.specs.Readings.{Fed, Tok, Noted, Ask}
+use Rattle.rows.specs.Readings as reading
+use Rattle.plain_readings.specs.declared.asks.KeywordAsk.{KeywordAsk}
+use Rattle.plain_readings.specs.declared.asks.KeywordAsk.TheVariants.{More, Puts, Done}
 
 abbrev pub letters : Keyword → List ℕ
 letters By = codes "by"
@@ -38,11 +41,11 @@ is_letter c (token.Char category code) = (code == c) || (code + 32 == c)
 is_letter c t = false
 
 -- whether the keyword was there
-abbrev pub ends_found : Bool → Ask
-ends_found found = Done (value.Plain (datum.Found found)) false
+abbrev pub ends_found : Bool → KeywordAsk
+ends_found found = Done found
 
 -- these tokens are given back, one by one, the last first
-abbrev pub giving_back : List Token → List Fed → Ask
+abbrev pub giving_back : List Token → List Fed → KeywordAsk
 giving_back [] fed = ends_found false
 giving_back (t ∷ ts) [] = Puts t (length ts)
 giving_back (t ∷ ts) (Noted ∷ fed) = giving_back ts fed
@@ -54,7 +57,7 @@ is_skipped [] x = is_space x
 is_skipped (t ∷ ts) x = false
 
 -- these letters are still to come, behind these tokens, the last first
-abbrev pub keyword_from : List ℕ → List Token → List Fed → Ask
+abbrev pub keyword_from : List ℕ → List Token → List Fed → KeywordAsk
 keyword_from [] ts fed = ends_found true
 keyword_from (c ∷ cs) ts [] = More Expanded
 keyword_from (c ∷ cs) ts (Tok x ∷ fed) =
@@ -63,5 +66,11 @@ keyword_from (c ∷ cs) ts (Tok x ∷ fed) =
     else giving_back (x.token ∷ ts) fed
 keyword_from (c ∷ cs) ts (y ∷ fed) = ends_found false
 
-abbrev pub keyword : Keyword → List Fed → Ask
+abbrev pub keyword : Keyword → List Fed → KeywordAsk
 keyword w fed = keyword_from (letters w) [] fed
+
+-- what it asks for, among all that a reading may ask for
+abbrev pub keyword_ask : KeywordAsk → Ask
+keyword_ask (More want) = reading.More want
+keyword_ask (Puts t more) = reading.Puts t more
+keyword_ask (Done found) = reading.Done (value.Plain (datum.Found found)) false

@@ -9,7 +9,15 @@ use Rattle.rows.specs.declared.words.Phrase.TheVariants as phrase
 use Rattle.rows.specs.declared.words.DimenKind.{DimenKind}
 use Rattle.rows.specs.Readings.{Fed, Tok, Val, Noted, Fetched, Verbatim, Cut, Ask, More, Inner, Done, Tells, Fetches, Magnifies}
 use Rattle.plain_readings.specs.Dimens as dimens
+use Rattle.plain_readings.specs.declared.asks.DimenAsk.{DimenAsk}
+use Rattle.plain_readings.specs.declared.asks.DimenAsk.TheVariants as dimen_asks
+use Rattle.plain_readings.specs.declared.asks.DimenInner.{DimenInner}
+use Rattle.plain_readings.specs.declared.asks.DimenInner.TheVariants as dimen_inners
 use Rattle.plain_readings.specs.Glues as glues
+use Rattle.plain_readings.specs.declared.asks.GlueAsk.{GlueAsk}
+use Rattle.plain_readings.specs.declared.asks.GlueAsk.TheVariants as glue_asks
+use Rattle.plain_readings.specs.declared.asks.GlueInner.{GlueInner}
+use Rattle.plain_readings.specs.declared.asks.GlueInner.TheVariants as glue_inners
 
 -- DIMENSIONS
 
@@ -35,18 +43,18 @@ abbrev pub dimen_fed : List Fed → List dimens.Fed
 dimen_fed [] = []
 dimen_fed (y ∷ fed) = dimen_item y ∷ dimen_fed fed
 
-abbrev pub dimen_inner : dimens.Inner → Phrase
-dimen_inner dimens.Factor = phrase.Factor
-dimen_inner dimens.Number = phrase.Integer
-dimen_inner (dimens.Key w) = phrase.Keyword w
+abbrev pub dimen_inner : DimenInner → Phrase
+dimen_inner dimen_inners.Factor = phrase.Factor
+dimen_inner dimen_inners.Number = phrase.Integer
+dimen_inner (dimen_inners.Key w) = phrase.Keyword w
 
-abbrev pub dimen_ask : dimens.Answer → Ask
-dimen_ask (dimens.More want) = More want
-dimen_ask (dimens.Begins i begins) = Inner (dimen_inner i) begins
-dimen_ask (dimens.Fetches l) = Fetches l
-dimen_ask dimens.Magnifies = Magnifies
-dimen_ask (dimens.Tells report back) = Tells report back
-dimen_ask (dimens.Done n order back) = Done (value.Plain (datum.Dimension n order)) back
+abbrev pub dimen_ask : DimenAsk → Ask
+dimen_ask (dimen_asks.More want) = More want
+dimen_ask (dimen_asks.Begins i begins) = Inner (dimen_inner i) begins
+dimen_ask (dimen_asks.Fetches l) = Fetches l
+dimen_ask dimen_asks.Magnifies = Magnifies
+dimen_ask (dimen_asks.Tells report back) = Tells report back
+dimen_ask (dimen_asks.Done n order back) = Done (value.Plain (datum.Dimension n order)) back
 
 abbrev pub dimension : DimenKind → List Fed → Ask
 dimension k fed = dimen_ask (dimens.dimension k false (dimen_fed fed))
@@ -75,17 +83,17 @@ abbrev pub glue_fed : List Fed → List glues.Fed
 glue_fed [] = []
 glue_fed (y ∷ fed) = glue_item y ∷ glue_fed fed
 
-abbrev pub glue_inner : glues.Inner → Phrase
-glue_inner (glues.Dimension k) = phrase.Dimension k
-glue_inner glues.Number = phrase.Integer
-glue_inner (glues.Key w) = phrase.Keyword w
+abbrev pub glue_inner : GlueInner → Phrase
+glue_inner (glue_inners.Dimension k) = phrase.Dimension k
+glue_inner glue_inners.Number = phrase.Integer
+glue_inner (glue_inners.Key w) = phrase.Keyword w
 
-abbrev pub glue_ask : glues.Answer → Ask
-glue_ask (glues.More want) = More want
-glue_ask (glues.Begins i begins) = Inner (glue_inner i) begins
-glue_ask (glues.Fetches l) = Fetches l
-glue_ask (glues.Tells report) = Tells report false
-glue_ask (glues.Done g) = Done (value.Plain (datum.Glue g)) false
+abbrev pub glue_ask : GlueAsk → Ask
+glue_ask (glue_asks.More want) = More want
+glue_ask (glue_asks.Begins i begins) = Inner (glue_inner i) begins
+glue_ask (glue_asks.Fetches l) = Fetches l
+glue_ask (glue_asks.Tells report) = Tells report false
+glue_ask (glue_asks.Done g) = Done (value.Plain (datum.Glue g)) false
 
 abbrev pub glue : (mu : Bool) → List Fed → Ask
 glue mu fed = glue_ask (glues.glue mu false (glue_fed fed))

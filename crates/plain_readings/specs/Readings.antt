@@ -10,12 +10,13 @@ use Rattle.rows.specs.declared.words.Phrase.{Phrase}
 use Rattle.rows.specs.declared.words.Phrase.TheVariants.{Command, Integer, Factor, Dimension, Glue, Keyword, Text, Definition}
 use Rattle.rows.specs.declared.command.Call.{Call}
 use Rattle.rows.specs.declared.command.Effect.TheVariants.{PutBack}
-use Rattle.rows.specs.Readings.{Fed, Ask, Acts, ActsOn, Defines}
+use Rattle.rows.specs.Readings.{Fed, Ask, ActsOn, Defines}
+use Rattle.rows.specs.Commands.{command_ask, Acts}
 use Rattle.rows.specs.Run.{row}
-use Rattle.plain_readings.specs.Integers.{integer}
-use Rattle.plain_readings.specs.Factors.{factor}
+use Rattle.plain_readings.specs.Integers.{integer, number_ask}
+use Rattle.plain_readings.specs.Factors.{factor, factor_ask}
 use Rattle.plain_readings.specs.Measures.{dimension, glue}
-use Rattle.plain_readings.specs.Keywords.{keyword}
+use Rattle.plain_readings.specs.Keywords.{keyword, keyword_ask}
 use Rattle.plain_readings.specs.Lists.{build_ask, built, text, definition}
 use Rattle.plain_readings.specs.Calls.{gathered, arguments, call_lists}
 use Rattle.plain_readings.specs.Spelling.{spelling, characters}
@@ -36,21 +37,21 @@ pub data Kind : Type 0 where
 -- WHAT A READING ASKS FOR after all that it was fed with
 
 abbrev pub begun_ask : Phrase → List Fed → Ask
-begun_ask (Command c) fed = row c fed
-begun_ask Integer fed = integer false fed
-begun_ask Factor fed = factor fed
+begun_ask (Command c) fed = command_ask (row c fed)
+begun_ask Integer fed = number_ask (integer false fed)
+begun_ask Factor fed = factor_ask (factor fed)
 begun_ask (Dimension k) fed = dimension k fed
 begun_ask (Glue mu) fed = glue mu fed
-begun_ask (Keyword w) fed = keyword w fed
+begun_ask (Keyword w) fed = keyword_ask (keyword w fed)
 begun_ask (Text name expanded) fed = build_ask (text name expanded fed)
 begun_ask (Definition name expanded) fed = build_ask (definition name expanded fed)
 
 abbrev pub ask : Kind → List Fed → Ask
 ask (Reads k) fed = begun_ask k fed
-ask (Spelling c) fed = spelling c [] fed
-ask (FileName c) fed = file_naming c Nonblank [] fed
-ask (Behind c x) fed = Acts c (PutBack x)
-ask (Skips c aim line) fed = skipping c aim 0 fed
+ask (Spelling c) fed = command_ask (spelling c [] fed)
+ask (FileName c) fed = command_ask (file_naming c Nonblank [] fed)
+ask (Behind c x) fed = command_ask (Acts c (PutBack x))
+ask (Skips c aim line) fed = command_ask (skipping c aim 0 fed)
 ask (Arguments name long number ts) fed = arguments name long ts fed
 
 -- THE LISTS THAT IT HOLDS, its last first
@@ -62,7 +63,7 @@ kept_list (Defines c n ts) = list_of_tokens ts
 kept_list a = []
 
 abbrev pub begun_lists : Phrase → List Fed → List (List Token)
-begun_lists (Command c) fed = kept_list (row c fed)
+begun_lists (Command c) fed = kept_list (command_ask (row c fed))
 begun_lists Integer fed = []
 begun_lists Factor fed = []
 begun_lists (Dimension k) fed = []

@@ -7,15 +7,16 @@ use Rattle.conditionals.specs.declared.skip.Ender.{Ender}
 use Rattle.conditionals.specs.Skipping.{part, ends_at, open_behind}
 use Rattle.rows.specs.declared.command.Call.{Call}
 use Rattle.rows.specs.declared.command.Effect.TheVariants.{Reach}
-use Rattle.rows.specs.Readings.{Fed, Tok, Ask, More, Acts, Ends}
+use Rattle.rows.specs.Readings.{Fed, Tok}
+use Rattle.rows.specs.Commands.{CommandAsk, More, Acts, Ends}
 
 -- the text ends with this, if with anything, and else goes on
-abbrev pub ended : Call → Aim → Option Ender → (onward : Ask) → Ask
+abbrev pub ended : Call → Aim → Option Ender → (onward : CommandAsk) → CommandAsk
 ended c aim (Some e) onward = Acts c (Reach aim e)
 ended c aim None onward = onward
 
 -- where so many conditionals of the text are open
-abbrev pub skipping : Call → Aim → (depth : ℕ) → List Fed → Ask
+abbrev pub skipping : Call → Aim → (depth : ℕ) → List Fed → CommandAsk
 skipping c aim depth [] = More Unentered
 skipping c aim depth (Tok x ∷ fed) = ended c aim (ends_at depth (part x.meaning)) (skipping c aim (open_behind depth (part x.meaning)) fed)
 skipping c aim depth (y ∷ fed) = Ends

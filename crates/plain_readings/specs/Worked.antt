@@ -31,8 +31,8 @@ use Rattle.equivalents.specs.declared.values.Val.TheVariants as val
 use Rattle.equivalents.specs.First.{magnification}
 use Rattle.rows.specs.Worked.{character, primitive, call, asked, number, x, y, x_name, a_letter, a_space}
 use Rattle.rows.specs.Readings.{Fed, Tok, Val, Noted, Fetched, Verbatim, Cut, Ask, More, Inner, Done, Acts, ActsOn, Ends, Calls, Fails, RunsAway, Tells, Inserts, Puts, Fetches, Magnifies}
-use Rattle.plain_readings.specs.Integers.{ends_with}
-use Rattle.plain_readings.specs.Keywords.{ends_found}
+use Rattle.plain_readings.specs.Integers.{number_ask, ends_with}
+use Rattle.plain_readings.specs.Keywords.{keyword_ask, ends_found}
 use Rattle.plain_readings.specs.Calls.{par_token}
 use Rattle.plain_readings.specs.Readings.{Kind, Reads, Spelling, FileName, Behind, Skips, Arguments, Reading, ask, lists}
 use Rattle.plain_readings.specs.Scanning.{Scanning, Builds, SkippedText, scanning}
@@ -55,6 +55,10 @@ others (c ∷ cs) fed = Tok (character other c) ∷ others cs fed
 
 -- INTEGERS
 
+-- the end of an integer
+abbrev pub number_end : ℤ → (give_back : Bool) → Ask
+number_end n back = number_ask (ends_with n back)
+
 -- where it asks so many times for a token by expansion, and then this comes
 abbrev pub expanded : ℕ → List Ask → List Ask
 expanded zero asks = asks
@@ -62,30 +66,30 @@ expanded (suc n) asks = More Expanded ∷ expanded n asks
 
 -- 12 and a space; -'17 and a letter; "1F; `a and a space; `\x; +-+7
 pub record WorkedIntegers : Type 0 where
-  pub decimal : steps (Reads Integer) (others (49 ∷ 50 ∷ []) (Tok a_space ∷ [])) ≡ More Nonblank ∷ More Expanded ∷ More Expanded ∷ ends_with (pos 12) false ∷ []
+  pub decimal : steps (Reads Integer) (others (49 ∷ 50 ∷ []) (Tok a_space ∷ [])) ≡ More Nonblank ∷ More Expanded ∷ More Expanded ∷ number_end (pos 12) false ∷ []
   pub octal :
       steps (Reads Integer) (others (45 ∷ 39 ∷ 49 ∷ 55 ∷ []) (Tok a_letter ∷ [])) ≡
-      More Nonblank ∷ More Nonblank ∷ More Expanded ∷ More Expanded ∷ More Expanded ∷ ends_with (negsuc 14) true ∷ []
+      More Nonblank ∷ More Nonblank ∷ More Expanded ∷ More Expanded ∷ More Expanded ∷ number_end (negsuc 14) true ∷ []
   pub hexadecimal :
       steps (Reads Integer) (others (34 ∷ 49 ∷ []) (Tok (character letter 70) ∷ Tok a_letter ∷ [])) ≡
-      More Nonblank ∷ More Expanded ∷ More Expanded ∷ More Expanded ∷ ends_with (pos 31) true ∷ []
-  pub code : steps (Reads Integer) (others (96 ∷ []) (Tok a_letter ∷ Tok a_space ∷ [])) ≡ More Nonblank ∷ More Raw ∷ More Expanded ∷ ends_with (pos 97) false ∷ []
-  pub code_of_name : steps (Reads Integer) (others (96 ∷ []) (Tok x ∷ Tok y ∷ [])) ≡ More Nonblank ∷ More Raw ∷ More Expanded ∷ ends_with (pos 120) true ∷ []
+      More Nonblank ∷ More Expanded ∷ More Expanded ∷ More Expanded ∷ number_end (pos 31) true ∷ []
+  pub code : steps (Reads Integer) (others (96 ∷ []) (Tok a_letter ∷ Tok a_space ∷ [])) ≡ More Nonblank ∷ More Raw ∷ More Expanded ∷ number_end (pos 97) false ∷ []
+  pub code_of_name : steps (Reads Integer) (others (96 ∷ []) (Tok x ∷ Tok y ∷ [])) ≡ More Nonblank ∷ More Raw ∷ More Expanded ∷ number_end (pos 120) true ∷ []
   pub signs :
       steps (Reads Integer) (others (43 ∷ 45 ∷ 43 ∷ 55 ∷ []) (Tok a_letter ∷ [])) ≡
-      More Nonblank ∷ More Nonblank ∷ More Nonblank ∷ More Nonblank ∷ More Expanded ∷ ends_with (negsuc 6) true ∷ []
+      More Nonblank ∷ More Nonblank ∷ More Nonblank ∷ More Nonblank ∷ More Expanded ∷ number_end (negsuc 6) true ∷ []
 
 -- a letter; '8; ` and a name of two characters; 2147483647, and 2147483648 with one digit more, reported once
 pub record WorkedReports : Type 0 where
-  pub missing : steps (Reads Integer) (Tok a_letter ∷ Noted ∷ []) ≡ More Nonblank ∷ Tells MissingNumber true ∷ ends_with (pos 0) false ∷ []
-  pub no_octal : steps (Reads Integer) (others (39 ∷ 56 ∷ []) (Noted ∷ [])) ≡ More Nonblank ∷ More Expanded ∷ Tells MissingNumber true ∷ ends_with (pos 0) false ∷ []
-  pub improper : steps (Reads Integer) (others (96 ∷ []) (Tok (primitive 1) ∷ Noted ∷ [])) ≡ More Nonblank ∷ More Raw ∷ Tells ImproperConstant true ∷ ends_with (pos 48) false ∷ []
+  pub missing : steps (Reads Integer) (Tok a_letter ∷ Noted ∷ []) ≡ More Nonblank ∷ Tells MissingNumber true ∷ number_end (pos 0) false ∷ []
+  pub no_octal : steps (Reads Integer) (others (39 ∷ 56 ∷ []) (Noted ∷ [])) ≡ More Nonblank ∷ More Expanded ∷ Tells MissingNumber true ∷ number_end (pos 0) false ∷ []
+  pub improper : steps (Reads Integer) (others (96 ∷ []) (Tok (primitive 1) ∷ Noted ∷ [])) ≡ More Nonblank ∷ More Raw ∷ Tells ImproperConstant true ∷ number_end (pos 48) false ∷ []
   pub greatest :
       steps (Reads Integer) (others (50 ∷ 49 ∷ 52 ∷ 55 ∷ 52 ∷ 56 ∷ 51 ∷ 54 ∷ 52 ∷ 55 ∷ []) (Tok a_space ∷ [])) ≡
-      More Nonblank ∷ expanded 10 (ends_with (pos 2147483647) false ∷ [])
+      More Nonblank ∷ expanded 10 (number_end (pos 2147483647) false ∷ [])
   pub too_big :
       steps (Reads Integer) (others (50 ∷ 49 ∷ 52 ∷ 55 ∷ 52 ∷ 56 ∷ 51 ∷ 54 ∷ 52 ∷ 56 ∷ []) (Noted ∷ Tok (character other 57) ∷ Tok a_space ∷ [])) ≡
-      More Nonblank ∷ expanded 9 (Tells NumberTooBig false ∷ More Expanded ∷ More Expanded ∷ ends_with (pos 2147483647) false ∷ [])
+      More Nonblank ∷ expanded 9 (Tells NumberTooBig false ∷ More Expanded ∷ More Expanded ∷ number_end (pos 2147483647) false ∷ [])
 
 -- INTERNAL INTEGERS
 
@@ -108,45 +112,45 @@ numbers asks = More Nonblank ∷ Inner Integer false ∷ asks
 -- `\count 3`; `-\count 0`; a value of -2^31; the first and the last integer parameter, and the first and the last dimension parameter
 pub record WorkedNumbers : Type 0 where
   pub count :
-      steps (Reads Integer) (Tok (primitive 41) ∷ number (pos 3) ∷ Fetched (val.Number (pos 7)) ∷ []) ≡ numbers (Fetches (loc.Register register.Count 3) ∷ ends_with (pos 7) false ∷ [])
+      steps (Reads Integer) (Tok (primitive 41) ∷ number (pos 3) ∷ Fetched (val.Number (pos 7)) ∷ []) ≡ numbers (Fetches (loc.Register register.Count 3) ∷ number_end (pos 7) false ∷ [])
   pub negative :
       steps (Reads Integer) (others (45 ∷ []) (Tok (primitive 41) ∷ number (pos 0) ∷ Fetched (val.Number (negsuc 4)) ∷ [])) ≡
-      More Nonblank ∷ numbers (Fetches (loc.Register register.Count 0) ∷ ends_with (pos 5) false ∷ [])
-  pub least : steps (Reads Integer) (Tok (primitive 85) ∷ Fetched (val.Number (negsuc 2147483647)) ∷ []) ≡ fetches (loc.Integer 0) (ends_with (negsuc 2147483646) false ∷ [])
-  pub last : steps (Reads Integer) (Tok (primitive 139) ∷ Fetched (val.Number (pos 1)) ∷ []) ≡ fetches (loc.Integer 54) (ends_with (pos 1) false ∷ [])
-  pub dimension : steps (Reads Integer) (Tok (primitive 140) ∷ Fetched (val.Number (pos 65536)) ∷ []) ≡ fetches (loc.Dimension 0) (ends_with (pos 65536) false ∷ [])
-  pub last_dimension : steps (Reads Integer) (Tok (primitive 160) ∷ Fetched (val.Number (pos 2)) ∷ []) ≡ fetches (loc.Dimension 20) (ends_with (pos 2) false ∷ [])
+      More Nonblank ∷ numbers (Fetches (loc.Register register.Count 0) ∷ number_end (pos 5) false ∷ [])
+  pub least : steps (Reads Integer) (Tok (primitive 85) ∷ Fetched (val.Number (negsuc 2147483647)) ∷ []) ≡ fetches (loc.Integer 0) (number_end (negsuc 2147483646) false ∷ [])
+  pub last : steps (Reads Integer) (Tok (primitive 139) ∷ Fetched (val.Number (pos 1)) ∷ []) ≡ fetches (loc.Integer 54) (number_end (pos 1) false ∷ [])
+  pub dimension : steps (Reads Integer) (Tok (primitive 140) ∷ Fetched (val.Number (pos 65536)) ∷ []) ≡ fetches (loc.Dimension 0) (number_end (pos 65536) false ∷ [])
+  pub last_dimension : steps (Reads Integer) (Tok (primitive 160) ∷ Fetched (val.Number (pos 2)) ∷ []) ≡ fetches (loc.Dimension 20) (number_end (pos 2) false ∷ [])
   pub dimen :
-      steps (Reads Integer) (Tok (primitive 42) ∷ number (pos 255) ∷ Fetched (val.Number (pos 9)) ∷ []) ≡ numbers (Fetches (loc.Register register.Dimen 255) ∷ ends_with (pos 9) false ∷ [])
+      steps (Reads Integer) (Tok (primitive 42) ∷ number (pos 255) ∷ Fetched (val.Number (pos 9)) ∷ []) ≡ numbers (Fetches (loc.Register register.Dimen 255) ∷ number_end (pos 9) false ∷ [])
 
 -- `\skip 0`; the first parameter that is glue, the last that isn't in mu, and the first that is; `-\muskip 0`, and `\muskip 256`, which comes to
 -- two reports
 pub record WorkedGlue : Type 0 where
-  pub skip : steps (Reads Integer) (Tok (primitive 43) ∷ number (pos 0) ∷ Fetched (val.Skip a_glue) ∷ []) ≡ numbers (Fetches (loc.Register register.Skip 0) ∷ ends_with (pos 196608) false ∷ [])
-  pub first : steps (Reads Integer) (Tok (primitive 161) ∷ Fetched (val.Skip a_glue) ∷ []) ≡ fetches (loc.Glue 0) (ends_with (pos 196608) false ∷ [])
-  pub last : steps (Reads Integer) (Tok (primitive 175) ∷ Fetched (val.Skip a_glue) ∷ []) ≡ fetches (loc.Glue 14) (ends_with (pos 196608) false ∷ [])
-  pub mu : steps (Reads Integer) (Tok (primitive 176) ∷ Fetched (val.Skip a_glue) ∷ Noted ∷ []) ≡ fetches (loc.Glue 15) (Tells IncompatibleUnits false ∷ ends_with (pos 196608) false ∷ [])
+  pub skip : steps (Reads Integer) (Tok (primitive 43) ∷ number (pos 0) ∷ Fetched (val.Skip a_glue) ∷ []) ≡ numbers (Fetches (loc.Register register.Skip 0) ∷ number_end (pos 196608) false ∷ [])
+  pub first : steps (Reads Integer) (Tok (primitive 161) ∷ Fetched (val.Skip a_glue) ∷ []) ≡ fetches (loc.Glue 0) (number_end (pos 196608) false ∷ [])
+  pub last : steps (Reads Integer) (Tok (primitive 175) ∷ Fetched (val.Skip a_glue) ∷ []) ≡ fetches (loc.Glue 14) (number_end (pos 196608) false ∷ [])
+  pub mu : steps (Reads Integer) (Tok (primitive 176) ∷ Fetched (val.Skip a_glue) ∷ Noted ∷ []) ≡ fetches (loc.Glue 15) (Tells IncompatibleUnits false ∷ number_end (pos 196608) false ∷ [])
   pub negative_mu :
       steps (Reads Integer) (others (45 ∷ []) (Tok (primitive 44) ∷ number (pos 0) ∷ Fetched (val.Skip a_glue) ∷ Noted ∷ [])) ≡
-      More Nonblank ∷ numbers (Fetches (loc.Register register.Muskip 0) ∷ Tells IncompatibleUnits false ∷ ends_with (negsuc 196607) false ∷ [])
+      More Nonblank ∷ numbers (Fetches (loc.Register register.Muskip 0) ∷ Tells IncompatibleUnits false ∷ number_end (negsuc 196607) false ∷ [])
   pub no_register :
       steps (Reads Integer) (Tok (primitive 44) ∷ number (pos 256) ∷ Noted ∷ Fetched (val.Skip a_glue) ∷ Noted ∷ []) ≡
-      numbers (Tells (BadRegisterCode (pos 256)) false ∷ Fetches (loc.Register register.Muskip 0) ∷ Tells IncompatibleUnits false ∷ ends_with (pos 196608) false ∷ [])
+      numbers (Tells (BadRegisterCode (pos 256)) false ∷ Fetches (loc.Register register.Muskip 0) ∷ Tells IncompatibleUnits false ∷ number_end (pos 196608) false ∷ [])
 
 -- `\catcode 65` and `\delcode 255`; `\catcode -1`; names of `\chardef`, of `\mathchardef` behind a sign, and of `\countdef`; `\toks`, the first token
 -- parameter and a name of `\toksdef`, which are no numbers
 pub record WorkedMeanings : Type 0 where
   pub category :
-      steps (Reads Integer) (Tok (primitive 35) ∷ number (pos 65) ∷ Fetched (val.Number (pos 11)) ∷ []) ≡ numbers (Fetches (loc.Code code.Category 65) ∷ ends_with (pos 11) false ∷ [])
+      steps (Reads Integer) (Tok (primitive 35) ∷ number (pos 65) ∷ Fetched (val.Number (pos 11)) ∷ []) ≡ numbers (Fetches (loc.Code code.Category 65) ∷ number_end (pos 11) false ∷ [])
   pub delimiter :
-      steps (Reads Integer) (Tok (primitive 40) ∷ number (pos 255) ∷ Fetched (val.Number (negsuc 0)) ∷ []) ≡ numbers (Fetches (loc.Code code.Delimiter 255) ∷ ends_with (negsuc 0) false ∷ [])
+      steps (Reads Integer) (Tok (primitive 40) ∷ number (pos 255) ∷ Fetched (val.Number (negsuc 0)) ∷ []) ≡ numbers (Fetches (loc.Code code.Delimiter 255) ∷ number_end (negsuc 0) false ∷ [])
   pub no_character :
       steps (Reads Integer) (Tok (primitive 35) ∷ number (negsuc 0) ∷ Noted ∷ Fetched (val.Number (pos 9)) ∷ []) ≡
-      numbers (Tells (BadCharacterCode (negsuc 0)) false ∷ Fetches (loc.Code code.Category 0) ∷ ends_with (pos 9) false ∷ [])
-  pub chardef : steps (Reads Integer) (named (means.CharGiven 65) ∷ []) ≡ More Nonblank ∷ ends_with (pos 65) false ∷ []
-  pub mathchardef : steps (Reads Integer) (others (45 ∷ []) (named (means.MathGiven 32767) ∷ [])) ≡ More Nonblank ∷ More Nonblank ∷ ends_with (negsuc 32766) false ∷ []
-  pub countdef : steps (Reads Integer) (named (means.Register register.Count 9) ∷ Fetched (val.Number (pos 4)) ∷ []) ≡ fetches (loc.Register register.Count 9) (ends_with (pos 4) false ∷ [])
-  pub toks : steps (Reads Integer) (Tok (primitive 45) ∷ Noted ∷ []) ≡ More Nonblank ∷ Tells MissingNumber true ∷ ends_with (pos 0) false ∷ []
+      numbers (Tells (BadCharacterCode (negsuc 0)) false ∷ Fetches (loc.Code code.Category 0) ∷ number_end (pos 9) false ∷ [])
+  pub chardef : steps (Reads Integer) (named (means.CharGiven 65) ∷ []) ≡ More Nonblank ∷ number_end (pos 65) false ∷ []
+  pub mathchardef : steps (Reads Integer) (others (45 ∷ []) (named (means.MathGiven 32767) ∷ [])) ≡ More Nonblank ∷ More Nonblank ∷ number_end (negsuc 32766) false ∷ []
+  pub countdef : steps (Reads Integer) (named (means.Register register.Count 9) ∷ Fetched (val.Number (pos 4)) ∷ []) ≡ fetches (loc.Register register.Count 9) (number_end (pos 4) false ∷ [])
+  pub toks : steps (Reads Integer) (Tok (primitive 45) ∷ Noted ∷ []) ≡ More Nonblank ∷ Tells MissingNumber true ∷ number_end (pos 0) false ∷ []
   pub everypar : steps (Reads Integer) (Tok (primitive 179) ∷ []) ≡ More Nonblank ∷ Tells MissingNumber true ∷ []
   pub toksdef : steps (Reads Integer) (named (means.Register register.Toks 1) ∷ []) ≡ More Nonblank ∷ Tells MissingNumber true ∷ []
 
@@ -249,6 +253,10 @@ pub record WorkedMeasures : Type 0 where
 abbrev pub by_word : Kind
 by_word = Reads (Keyword By)
 
+-- the end of a keyword
+abbrev pub found_end : Bool → Ask
+found_end found = keyword_ask (ends_found found)
+
 -- letters by their codes
 abbrev pub letters : List ℕ → List Fed → List Fed
 letters [] fed = fed
@@ -263,25 +271,25 @@ implicit_b = record { token = token.Named x_name; meaning = means.Char letter 98
 
 -- `by`; `BY`, where the `Y` has category 12; `l`. Spaces are skipped before it, but for one that is its first letter.
 pub record WorkedFound : Type 0 where
-  pub found : steps by_word (letters (98 ∷ 121 ∷ []) []) ≡ More Expanded ∷ More Expanded ∷ ends_found true ∷ []
-  pub capitals : steps by_word (letters (66 ∷ []) (others (89 ∷ []) [])) ≡ More Expanded ∷ More Expanded ∷ ends_found true ∷ []
-  pub behind_spaces : steps by_word (Tok a_space ∷ Tok a_space ∷ letters (98 ∷ 121 ∷ []) []) ≡ More Expanded ∷ More Expanded ∷ More Expanded ∷ More Expanded ∷ ends_found true ∷ []
-  pub space_letter : steps by_word (Tok (character space 98) ∷ letters (121 ∷ []) []) ≡ More Expanded ∷ More Expanded ∷ ends_found true ∷ []
-  pub single : steps (Reads (Keyword L)) (letters (76 ∷ []) []) ≡ More Expanded ∷ ends_found true ∷ []
+  pub found : steps by_word (letters (98 ∷ 121 ∷ []) []) ≡ More Expanded ∷ More Expanded ∷ found_end true ∷ []
+  pub capitals : steps by_word (letters (66 ∷ []) (others (89 ∷ []) [])) ≡ More Expanded ∷ More Expanded ∷ found_end true ∷ []
+  pub behind_spaces : steps by_word (Tok a_space ∷ Tok a_space ∷ letters (98 ∷ 121 ∷ []) []) ≡ More Expanded ∷ More Expanded ∷ More Expanded ∷ More Expanded ∷ found_end true ∷ []
+  pub space_letter : steps by_word (Tok (character space 98) ∷ letters (121 ∷ []) []) ≡ More Expanded ∷ More Expanded ∷ found_end true ∷ []
+  pub single : steps (Reads (Keyword L)) (letters (76 ∷ []) []) ≡ More Expanded ∷ found_end true ∷ []
 
 -- `b` and a space, which goes back, and then the `b`; a digit; a name that means the letter `b`; `plua` in place of `plus`, and `minut` in place of
 -- `minus`; no list is held
 pub record WorkedGivenBack : Type 0 where
   pub space :
       steps by_word (letters (98 ∷ []) (Tok a_space ∷ Noted ∷ Noted ∷ [])) ≡
-      More Expanded ∷ More Expanded ∷ Puts a_space.token 1 ∷ Puts (letter_token 98) 0 ∷ ends_found false ∷ []
+      More Expanded ∷ More Expanded ∷ Puts a_space.token 1 ∷ Puts (letter_token 98) 0 ∷ found_end false ∷ []
   pub space_held : holds by_word (letters (98 ∷ []) (Tok a_space ∷ Noted ∷ [])) ≡ [] ∷ [] ∷ [] ∷ [] ∷ []
-  pub digit : steps by_word (others (50 ∷ []) (Noted ∷ [])) ≡ More Expanded ∷ Puts (token.Char other 50) 0 ∷ ends_found false ∷ []
-  pub name : steps by_word (Tok implicit_b ∷ Noted ∷ []) ≡ More Expanded ∷ Puts implicit_b.token 0 ∷ ends_found false ∷ []
+  pub digit : steps by_word (others (50 ∷ []) (Noted ∷ [])) ≡ More Expanded ∷ Puts (token.Char other 50) 0 ∷ found_end false ∷ []
+  pub name : steps by_word (Tok implicit_b ∷ Noted ∷ []) ≡ More Expanded ∷ Puts implicit_b.token 0 ∷ found_end false ∷ []
   pub fourth :
       steps (Reads (Keyword Plus)) (letters (112 ∷ 108 ∷ 117 ∷ 97 ∷ []) (Noted ∷ Noted ∷ Noted ∷ Noted ∷ [])) ≡
       More Expanded ∷ More Expanded ∷ More Expanded ∷ More Expanded ∷ Puts (letter_token 97) 3 ∷ Puts (letter_token 117) 2 ∷ Puts (letter_token 108) 1 ∷
-      Puts (letter_token 112) 0 ∷ ends_found false ∷ []
+      Puts (letter_token 112) 0 ∷ found_end false ∷ []
   pub fifth :
       steps (Reads (Keyword Minus)) (letters (109 ∷ 105 ∷ 110 ∷ 117 ∷ 116 ∷ []) (Noted ∷ [])) ≡
       More Expanded ∷ More Expanded ∷ More Expanded ∷ More Expanded ∷ More Expanded ∷ Puts (letter_token 116) 4 ∷ Puts (letter_token 117) 3 ∷ []
@@ -290,7 +298,7 @@ pub record WorkedGivenBack : Type 0 where
 pub record WorkedLent : Type 0 where
   pub first : ask by_word (letters (98 ∷ []) []) ≡ More Expanded
   pub refused : ask by_word (letters (121 ∷ []) []) ≡ Puts (letter_token 121) 0
-  pub whole : ask (Reads (Keyword L)) (letters (108 ∷ []) []) ≡ ends_found true
+  pub whole : ask (Reads (Keyword L)) (letters (108 ∷ []) []) ≡ found_end true
 
 pub record WorkedKeywords : Type 0 where
   pub found : WorkedFound

@@ -12,14 +12,8 @@ use Rattle.tex_defs.specs.declared.Meaning.{Meaning}
 use Rattle.tex_defs.specs.declared.Meaning.TheVariants as means
 use Rattle.tex_defs.specs.declared.Seen.{Seen}
 use Rattle.plain_tokens.specs.Categories.{begin_group, end_group, parameter, other, is_between}
-use Rattle.tex_defs.specs.declared.Name.{Name}
+use Rattle.plain_state.specs.declared.body.Body.{Body}
 use Rattle.plain_tokens.specs.Tokens.{has_category, is_other, means_category}
-
--- What a body is: how many places a macro has, none in a balanced text, which has no parameters; and the brace that
--- ended the parameter text behind a parameter character.
-pub record Body : Type 0 where
-  pub places : Option ℕ
-  pub brace : Option Token
 
 -- What a scanner is fed with: a token and what it means, a note that its report was written, or the tokens of a token
 -- list behind \the.

@@ -3,7 +3,8 @@ use Rattle.std.proofs.Common.{◌≡◌, ℕ, ◌+◌, ◌-◌, ◌≤◌, ◌<�
 use Rattle.std.specs.Prelude.{slice_index}
 use Rattle.std.proofs.lemmas.Grind.{common_steps}
 use Rattle.plain_tokens.specs.Categories.{superscript}
-use Rattle.plain_tokens.specs.Lex.{LineState, headed, has_hats, behind_hats, shifted, is_hexadecimal, hexadecimal_code, by_head, lexed}
+use Rattle.plain_tokens.specs.declared.line_state.LineState.{LineState}
+use Rattle.plain_tokens.specs.Lex.{headed, has_hats, behind_hats, shifted, is_hexadecimal, hexadecimal_code, by_head, lexed}
 use Rattle.plain_tokens.specs.LexLaws.{NoDigits, HatsAreReplaced}
 use Rattle.plain_tokens.proofs.Heads.{headed_hats}
 use Rattle.plain_tokens.proofs.LexRuns.{lexed_by_head}

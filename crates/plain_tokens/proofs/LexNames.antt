@@ -2,7 +2,9 @@
 use Rattle.std.proofs.Common.{◌≡◌, inl, inr, ℕ, ◌≤◌, ◌<◌, zero, suc, true, List, [], ◌∷◌, length, arith, refl, sym, ap, ◌∙◌}
 use Rattle.std.specs.Prelude.{slice_index}
 use Rattle.plain_tokens.specs.Categories.{escape}
-use Rattle.plain_tokens.specs.Lex.{LineState, SkipBlanks, Gives, headed, is_letter, letter_and, letters, behind_letter, behind_letters, name_of_letters, named_by_head, by_head, lexed}
+use Rattle.plain_tokens.specs.declared.line_state.LineState.{LineState}
+use Rattle.plain_tokens.specs.declared.line_state.LineState.TheVariants.{SkipBlanks}
+use Rattle.plain_tokens.specs.Lex.{Gives, headed, is_letter, letter_and, letters, behind_letter, behind_letters, name_of_letters, named_by_head, by_head, lexed}
 use Rattle.plain_tokens.specs.LexLaws.{NoLetterNext, IsLongestRun}
 use Rattle.plain_tokens.proofs.Heads.{kind, behind_head, headed_nil}
 use Rattle.plain_tokens.proofs.LexRuns.{letters_by_head, behind_by_head, lexed_by_head}

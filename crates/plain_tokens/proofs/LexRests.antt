@@ -2,7 +2,9 @@
 use Rattle.std.proofs.Common.{◌≡◌, inl, inr, ℕ, ◌≤◌, ◌<◌, zero, suc, Bool, true, false, List, [], ◌∷◌, length, arith, refl, sym, subst}
 use Rattle.std.specs.Prelude.{slice_index, ◌==◌, if◌then◌else◌}
 use Rattle.plain_tokens.specs.Categories.{escape, end_of_line, ignored, space, active, comment, invalid}
-use Rattle.plain_tokens.specs.Lex.{LineState, NewLine, Middle, SkipBlanks, Lexed, Gives, Invalid, UsedUp, headed, headed_within, has_hats, without_hats, is_letter, behind_letter, behind_letters, behind_letters_within, named_by_head, line_ended, is_middle, by_head, lexed}
+use Rattle.plain_tokens.specs.declared.line_state.LineState.{LineState}
+use Rattle.plain_tokens.specs.declared.line_state.LineState.TheVariants.{NewLine, Middle, SkipBlanks}
+use Rattle.plain_tokens.specs.Lex.{Lexed, Gives, Invalid, UsedUp, headed, headed_within, has_hats, without_hats, is_letter, behind_letter, behind_letters, behind_letters_within, named_by_head, line_ended, is_middle, by_head, lexed}
 use Rattle.plain_tokens.specs.LexLaws.{ComesTo, Here, Replaced, Taken, IsProperRest, LeavesLess}
 use Rattle.plain_tokens.proofs.Heads.{kind, behind_head, headed_nil}
 use Rattle.plain_tokens.proofs.LexRuns.{lexed_by_head}

@@ -1,6 +1,7 @@
 -- Runs of letters, and what a line gives by its head.
 use Rattle.std.proofs.Common.{◌≡◌, ℕ, ◌≤◌, ◌<◌, zero, suc, List, [], ◌∷◌, length, arith, refl}
-use Rattle.plain_tokens.specs.Lex.{LineState, Lexed, headed, letter_and, letters_within, letters, behind_letter, behind_letters_within, behind_letters, by_head, lexed_within, lexed}
+use Rattle.plain_tokens.specs.declared.line_state.LineState.{LineState}
+use Rattle.plain_tokens.specs.Lex.{Lexed, headed, letter_and, letters_within, letters, behind_letter, behind_letters_within, behind_letters, by_head, lexed_within, lexed}
 use Rattle.plain_tokens.proofs.Heads.{headed_nil, behind_head}
 
 -- two that agree behind the head give the same

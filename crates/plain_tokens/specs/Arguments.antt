@@ -8,16 +8,11 @@ use Rattle.tex_defs.specs.declared.Name.TheVariants.{Active, Single, Empty, Word
 use Rattle.tex_defs.specs.declared.Name.TheVariants as name
 use Rattle.tex_defs.specs.declared.Frozen.{Frozen}
 use Rattle.tex_defs.specs.declared.Frozen.TheVariants.{Relax, Fi, EndGroup, EndWrite, Inaccessible, Unknown}
+use Rattle.plain_tokens.specs.declared.par_mode.ParMode.{ParMode}
+use Rattle.plain_tokens.specs.declared.par_mode.ParMode.TheVariants.{Long, Short, Checked}
 use Rattle.plain_tokens.specs.Categories.{begin_group, end_group}
 use Rattle.plain_tokens.specs.Tokens.{has_category, is_space_token}
 use Rattle.plain_tokens.specs.Names.{par_primitive}
-
--- How a call takes a `\par`: the macro is \long, or it isn't, also where an extra right brace came, or a check came in the call,
--- since which a `\par` ends it without a report.
-pub data ParMode : Type 0 where
-  Long : ParMode
-  Short : ParMode
-  Checked : ParMode
 
 -- TOKENS. Two tokens are equal where they are the same character with the same category, or the same name.
 

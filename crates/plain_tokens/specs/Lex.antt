@@ -1,12 +1,8 @@
 -- What a line gives next, by the category of its head (The TeXbook, chapter 8).
 use Rattle.std.specs.Prelude.{ℕ, zero, suc, ◌+◌, ◌-◌, ◌*◌, Bool, true, false, List, [], ◌∷◌, ◌==◌, ◌&&◌, ◌||◌, nat_lt, nat_le, length, slice_index, if◌then◌else◌}
+use Rattle.plain_tokens.specs.declared.line_state.LineState.{LineState}
+use Rattle.plain_tokens.specs.declared.line_state.LineState.TheVariants.{NewLine, Middle, SkipBlanks}
 use Rattle.plain_tokens.specs.Categories.{escape, end_of_line, superscript, ignored, space, letter, active, comment, invalid, is_between}
-
--- N, M and S: a new line, the middle of a line, blanks are skipped
-pub data LineState : Type 0 where
-  NewLine : LineState
-  Middle : LineState
-  SkipBlanks : LineState
 
 -- A character with its category, or a name: an active character, a name of one character, of two and more,
 -- without any, and `\par` at an empty line.

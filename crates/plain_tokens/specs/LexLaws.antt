@@ -1,7 +1,9 @@
 -- What the lexer gives, said without its states.
 use Rattle.std.specs.Prelude.{◌≡◌, ◌↔◌, ℕ, ◌+◌, ◌-◌, ◌*◌, ◌<◌, ◌≤◌, true, false, List, [], ◌∷◌, ◌&&◌, length, slice_index}
 use Rattle.plain_tokens.specs.Categories.{escape, superscript}
-use Rattle.plain_tokens.specs.Lex.{LineState, SkipBlanks, Lexed, Gives, Invalid, UsedUp, is_hexadecimal, hexadecimal_value, has_hats, without_hats, headed, is_letter, letters, behind_letters, name_of_letters, by_head, lexed}
+use Rattle.plain_tokens.specs.declared.line_state.LineState.{LineState}
+use Rattle.plain_tokens.specs.declared.line_state.LineState.TheVariants.{SkipBlanks}
+use Rattle.plain_tokens.specs.Lex.{Lexed, Gives, Invalid, UsedUp, is_hexadecimal, hexadecimal_value, has_hats, without_hats, headed, is_letter, letters, behind_letters, name_of_letters, by_head, lexed}
 
 -- The head of a line is that of the shorter line where `^^` stands in front, else its first character.
 pub record HeadsAreRead : Type 0 where

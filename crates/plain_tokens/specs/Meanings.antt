@@ -11,7 +11,8 @@ use Rattle.tex_defs.specs.declared.Token.TheVariants as token
 use Rattle.tex_defs.specs.declared.Meaning.{Meaning}
 use Rattle.tex_defs.specs.declared.Meaning.TheVariants as means
 use Rattle.tex_defs.specs.declared.Seen.{Seen}
-use Rattle.plain_tokens.specs.Categories.{is_between}
+use Rattle.prim_table.specs.declared.Class.TheVariants.{TokenParameter}
+use Rattle.prim_table.specs.Primitives.{last_number, is_expanded}
 use Rattle.plain_tokens.specs.Names.{relax_primitive}
 
 -- how many locations stand before those of the names of two or more characters
@@ -86,7 +87,7 @@ first_meaning is_known number = if is_known number then means.Prim number else m
 
 -- how many primitives there are
 abbrev pub primitive_count : ℕ
-primitive_count = 186
+primitive_count = last_number TokenParameter
 
 abbrev pub first_meanings : (ℕ → Bool) → List (Meaning (Option ℕ))
 first_meanings is_known = replicate fixed_locations means.Undefined ++ map (first_meaning is_known) (range_with_len 1 primitive_count)
@@ -98,18 +99,11 @@ is_listed (n ∷ ns) number = (n == number) || is_listed ns number
 
 -- WHAT IS HANDED ON
 
--- the numbers of the first and the last primitive that are expanded: the expandable ones, and the conditionals
-abbrev pub first_expandable : ℕ
-first_expandable = 54
-
-abbrev pub last_expandable : ℕ
-last_expandable = 84
-
--- What is expanded: the undefined, the macros, and these primitives (TeX: The Program, part 15, above `max_command`).
+-- What is expanded: the undefined, the macros, the expandable primitives and the conditionals (TeX: The Program, part 15, above `max_command`).
 abbrev pub is_expandable : Meaning Unit → Bool
 is_expandable means.Undefined = true
 is_expandable (means.Macro long outer list) = true
-is_expandable (means.Prim number) = is_between first_expandable last_expandable number
+is_expandable (means.Prim number) = is_expanded number
 is_expandable m = false
 
 -- what a name means behind `\noexpand`: this once `\relax`, where it would be expanded

@@ -4,7 +4,9 @@ use Rattle.tex_defs.specs.declared.Token.{Token}
 use Rattle.plain_tokens.specs.Lines.{first_line, behind_feed}
 use Rattle.plain_tokens.specs.Printed.{character_of}
 use Rattle.plain_tokens.specs.Puts.{Item, Put, without_ended, passed, with_put, item_token}
-use Rattle.plain_tokens.specs.Lex.{LineState, NewLine, Lexeme, Lexed, Gives, Invalid, UsedUp, lexed}
+use Rattle.plain_tokens.specs.declared.line_state.LineState.{LineState}
+use Rattle.plain_tokens.specs.declared.line_state.LineState.TheVariants.{NewLine}
+use Rattle.plain_tokens.specs.Lex.{Lexeme, Lexed, Gives, Invalid, UsedUp, lexed}
 
 -- A file is begun once its first line was taken. Beneath all files stands what is none: nothing but lists that were put in front.
 pub data Progress : Type 0 where

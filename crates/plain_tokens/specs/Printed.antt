@@ -15,6 +15,7 @@ use Rattle.tex_defs.specs.declared.RegisterKind.TheVariants.{Count, Dimen, Skip,
 use Rattle.tex_defs.specs.declared.Meaning.{Meaning}
 use Rattle.tex_defs.specs.declared.Meaning.TheVariants as means
 use Rattle.prim_table.specs.Primitives.{primitive_name}
+use Rattle.plain_tokens.specs.Meanings.{primitive_count}
 use Rattle.plain_tokens.specs.Categories.{begin_group, end_group, parameter, space, letter, is_between}
 use Rattle.plain_tokens.specs.Numerals.{hexadecimal}
 
@@ -180,7 +181,7 @@ register_word Toks = codes "toks"
 
 -- the name of the primitive with this number, if there is one
 abbrev pub primitive_word : ℕ → List ℕ
-primitive_word number = if is_between 1 186 number then primitive_name number else []
+primitive_word number = if is_between 1 primitive_count number then primitive_name number else []
 
 -- what stands before a macro's list
 abbrev pub macro_text : Style → (long outer : Bool) → List ℕ

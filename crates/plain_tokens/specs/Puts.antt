@@ -72,14 +72,15 @@ with_put p puts = put_top p p.items puts
 
 -- WHAT IS READ
 
-abbrev pub settled_top : Put → List Item → List Put → List Put → List Put
-settled_top p [] below rest = below
-settled_top p (x ∷ xs) below rest = p ∷ rest
+-- this list on those beneath, or what is left of them where it has ended
+abbrev pub unless_ended : Put → List Item → List Put → List Put → List Put
+unless_ended p [] below rest = below
+unless_ended p (x ∷ xs) below rest = p ∷ rest
 
 -- without the finished lists in front: a list whose last item was read stays until the next reading or the next push begins
 abbrev pub without_ended : List Put → List Put
 without_ended [] = []
-without_ended (p ∷ ps) = settled_top p p.items (without_ended ps) ps
+without_ended (p ∷ ps) = unless_ended p p.items (without_ended ps) ps
 
 -- behind the gaps
 abbrev pub without_gaps : List Item → List Item

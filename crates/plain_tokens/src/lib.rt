@@ -2,8 +2,12 @@
 #![tactic(auto)]
 
 mod laws;
+mod line_state;
+mod par_mode;
 
 pub use laws::{
     double_hats, heads_are_read, lexing_consumes, lines_are_the_file, lines_come_in_turn,
     lines_give_by_head, names_are_longest_runs, names_are_numbered, names_are_read,
 };
+pub use line_state::LineState;
+pub use par_mode::ParMode;

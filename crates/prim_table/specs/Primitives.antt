@@ -1,5 +1,5 @@
 -- The primitives: the eight rows of their names, and what their numbers mean.
-use Rattle.std.specs.Prelude.{◌≡◌, ℕ, ◌+◌, ◌-◌, ◌<◌, ◌≤◌, nat_le, List, [], ◌∷◌, ◌++◌, codes, slice_index_or, slice_get, Some, if◌then◌else◌}
+use Rattle.std.specs.Prelude.{◌≡◌, ℕ, ◌+◌, ◌-◌, ◌<◌, ◌≤◌, nat_le, Bool, ◌&&◌, List, [], ◌∷◌, ◌++◌, codes, slice_index_or, slice_get, Some, if◌then◌else◌}
 use Rattle.prim_table.specs.declared.Class.{Class}
 use Rattle.prim_table.specs.declared.Class.TheVariants.{Command, Assignment, Expandable, Conditional, IntegerParameter, DimensionParameter, GlueParameter, TokenParameter}
 
@@ -123,17 +123,32 @@ row_size DimensionParameter = 21
 row_size GlueParameter = 18
 row_size TokenParameter = 8
 
+-- the numbers of its first and its last primitive
+abbrev pub first_number : Class → ℕ
+first_number class = numbers_before class + 1
+
+abbrev pub last_number : Class → ℕ
+last_number class = numbers_before class + row_size class
+
 -- the row in which the primitive of a number stands
 unfoldable pub class_of : ℕ → Class
 class_of j =
-    if nat_le j 22 then Command
-    else if nat_le j 53 then Assignment
-    else if nat_le j 64 then Expandable
-    else if nat_le j 84 then Conditional
-    else if nat_le j 139 then IntegerParameter
-    else if nat_le j 160 then DimensionParameter
-    else if nat_le j 178 then GlueParameter
+    if nat_le j (last_number Command) then Command
+    else if nat_le j (last_number Assignment) then Assignment
+    else if nat_le j (last_number Expandable) then Expandable
+    else if nat_le j (last_number Conditional) then Conditional
+    else if nat_le j (last_number IntegerParameter) then IntegerParameter
+    else if nat_le j (last_number DimensionParameter) then DimensionParameter
+    else if nat_le j (last_number GlueParameter) then GlueParameter
     else TokenParameter
+
+-- whether it stands in a row
+abbrev pub is_in_row : Class → ℕ → Bool
+is_in_row class j = nat_le (first_number class) j && nat_le j (last_number class)
+
+-- whether it is expanded: an expandable primitive, or a conditional
+abbrev pub is_expanded : ℕ → Bool
+is_expanded j = nat_le (first_number Expandable) j && nat_le j (last_number Conditional)
 
 -- its place in the row, from 1
 abbrev pub place_of : ℕ → ℕ

@@ -5,7 +5,7 @@
 
 ghost use Rattle.std.specs.Prelude.{◌≡◌, ℕ, ◌+◌, ◌-◌, ◌≤◌, ◌<◌, length, IsTrue, Some, slice_get, nat_le, bytes_eq};
 ghost use Rattle.std.specs.List.{IsDistinct, list_all};
-ghost use Rattle.prim_table.specs.Primitives.{primitive_name, primitive_names, row_of, class_of, place_of, numbers_before, row_size, IsPlaced};
+ghost use Rattle.prim_table.specs.Primitives.{primitive_name, primitive_names, row_of, class_of, place_of, numbers_before, row_size, first_number, last_number, is_in_row, is_expanded, IsPlaced};
 ghost use Rattle.prim_table.specs.declared.Class.{Class};
 ghost use Rattle.prim_table.specs.Words.{word_at, are_in_place};
 
@@ -82,19 +82,19 @@ pub fn prim(j: u16) -> (Class, u16)
     ensures class { result.0 ≡ class_of j }
     ensures place { result.1 ≡ place_of j }
 {
-    let class = if j <= 22 {
+    let class = if j <= last_number(Class::Command) {
         Class::Command
-    } else if j <= 53 {
+    } else if j <= last_number(Class::Assignment) {
         Class::Assignment
-    } else if j <= 64 {
+    } else if j <= last_number(Class::Expandable) {
         Class::Expandable
-    } else if j <= 84 {
+    } else if j <= last_number(Class::Conditional) {
         Class::Conditional
-    } else if j <= 139 {
+    } else if j <= last_number(Class::IntegerParameter) {
         Class::IntegerParameter
-    } else if j <= 160 {
+    } else if j <= last_number(Class::DimensionParameter) {
         Class::DimensionParameter
-    } else if j <= 178 {
+    } else if j <= last_number(Class::GlueParameter) {
         Class::GlueParameter
     } else {
         Class::TokenParameter
@@ -152,6 +152,38 @@ fn numbers_before(class: Class) -> u16
         Class::GlueParameter => 160,
         Class::TokenParameter => 178,
     }
+}
+
+/// The number of a row's first primitive.
+#[inline]
+pub fn first_number(class: Class) -> u16
+    ensures { result ≡ first_number class }
+{
+    numbers_before(class) + 1
+}
+
+/// The number of a row's last primitive.
+#[inline]
+pub fn last_number(class: Class) -> u16
+    ensures { result ≡ last_number class }
+{
+    numbers_before(class) + row_size(class)
+}
+
+/// Whether a primitive stands in a row.
+#[inline]
+pub fn is_in_row(class: Class, j: u16) -> bool
+    ensures { result ≡ is_in_row class j }
+{
+    first_number(class) <= j && j <= last_number(class)
+}
+
+/// Whether a primitive is expanded: it is an expandable one, or a conditional, whose row comes behind theirs.
+#[inline]
+pub fn is_expanded(j: u16) -> bool
+    ensures { result ≡ is_expanded j }
+{
+    first_number(Class::Expandable) <= j && j <= last_number(Class::Conditional)
 }
 
 /// A primitive's number is the number of primitives in the rows before its own and its place there; its row

@@ -9,7 +9,8 @@ use Rattle.rows.specs.declared.stage.Start.TheVariants.{Looks, Begins}
 use Rattle.rows.specs.declared.stage.Note.{Note}
 use Rattle.rows.specs.declared.command.Call.{Call}
 use Rattle.rows.specs.declared.command.Effect.{Effect}
-use Rattle.rows.specs.Readings.{Fed, Ask, More, Inner, Acts}
+use Rattle.rows.specs.Readings.{Fed}
+use Rattle.rows.specs.Commands.{CommandAsk, More, Inner, Acts}
 use Rattle.rows.specs.Run.{due, started, behind, run}
 use Rattle.rows.specs.Stages.{start}
 use Rattle.rows.specs.Effects.{command_effect}
@@ -21,13 +22,13 @@ use Rattle.row_frames.specs.Data.{values}
 use Rattle.row_frames.specs.Resumes.{within, resume_row, turn_of, resume}
 
 module _
-    (P : Ask → Type 0)
+    (P : CommandAsk → Type 0)
     (more : (want : Want) → P (More want))
     (begin : (k : Phrase) (begins : Bool) → P (Inner k begins))
     (act : (c : Call) (e : Effect) → P (Acts c e))
     (note_due : (n : Note) → P (due n))
   where
-    module _ (turn : Call → List Fed → Ask) (c : Call) (ds : List Datum) (onward : List Datum → List Fed → Ask) where
+    module _ (turn : Call → List Fed → CommandAsk) (c : Call) (ds : List Datum) (onward : List Datum → List Fed → CommandAsk) where
       started_asks : (s : Stage) (begun : Start) → P (behind turn c ds onward (started s c begun []))
       started_asks s (Looks want) = more want
       started_asks s (Begins k) = begin k _
@@ -40,7 +41,7 @@ module _
       within_asks s (kept.Noting n m) = note_due n
       within_asks s (kept.Retrying d want n) = note_due n
 
-    row_asks : (turn : Call → List Fed → Ask) (c : Call) (ss : List Stage) (ds : List Datum) (k : Kept) → P (resume_row turn c ss ds k [])
+    row_asks : (turn : Call → List Fed → CommandAsk) (c : Call) (ss : List Stage) (ds : List Datum) (k : Kept) → P (resume_row turn c ss ds k [])
     row_asks turn c [] ds k = act c (command_effect c ds)
     row_asks turn c (s ∷ ss) ds k = within_asks turn c ds (λ es more. run turn c ss es more) s k
 

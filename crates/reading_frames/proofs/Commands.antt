@@ -7,7 +7,8 @@ use Rattle.rows.specs.declared.words.Value.{Value}
 use Rattle.rows.specs.declared.words.Value.TheVariants as value
 use Rattle.rows.specs.declared.command.Call.{Call}
 use Rattle.rows.specs.declared.command.Effect.{Effect}
-use Rattle.rows.specs.Readings.{Fed, Val, ActsOn, Defines}
+use Rattle.rows.specs.Readings.{Fed, Val}
+use Rattle.rows.specs.Commands.{ActsOn, Defines, command_ask}
 use Rattle.row_frames.specs.declared.frame.RowFrame.{RowFrame}
 use Rattle.row_frames.specs.Resumes.{resume}
 use Rattle.plain_readings.specs.Readings.{kept_list}
@@ -33,7 +34,7 @@ full_list (t ∷ ts) h = refl
 
 -- where a list that is listed has a token, the list that is kept is the one that is held
 pub kept_lists : (s : CommandScan) (listed : Bool) (held : Lists) (fed : List Fed) → IsOver s listed → (has_list s ≡ true → has_no_token (top_list held) ≡ false) →
-    kept_list (resume_command s held fed) ≡ command_lists s held fed
+    kept_list (command_ask (resume_command s held fed)) ≡ command_lists s held fed
 kept_lists (command.Reads f) listed held fed over full = absurd over
 kept_lists (command.Acts c e) listed held fed over full = refl
 kept_lists (command.ActsOn c e true) listed held fed over full = full_list (top_list held) (full refl)
@@ -57,7 +58,7 @@ unlisted (command.ActsOn c e l) over = over
 unlisted (command.Defines c n l) over = over
 unlisted command.Ended over = refl
 
-pub bare_lists : (s : CommandScan) (held : Lists) (fed : List Fed) → IsOver s false → kept_list (resume_command s held fed) ≡ command_lists s held fed
+pub bare_lists : (s : CommandScan) (held : Lists) (fed : List Fed) → IsOver s false → kept_list (command_ask (resume_command s held fed)) ≡ command_lists s held fed
 bare_lists s held fed over = kept_lists s false held fed over (λ (h : has_list s ≡ true). let e : false ≡ true = over_listed s false over h in absurd cc)
 
 -- THE LIST OF A VALUE
@@ -88,16 +89,12 @@ keeps_full value.List true h = absurd cc
 keeps_full value.List false h = refl
 keeps_full (value.Plain d) b h = absurd cc
 
-pub keeps_list : (v : Value) (b : Bool) → keeps v b ≡ true → v ≡ value.List
-keeps_list value.List b h = refl
-keeps_list (value.Plain d) b h = absurd cc
-
 top_full : (b : Bool) (ts : List Token) (held : Lists) → has_no_token ts ≡ false → b ≡ true → has_no_token (top_list (with_list b ts held)) ≡ false
 top_full true ts held h e = h
 top_full false ts held h e = absurd cc
 
 pub value_lists : (s : CommandScan) (v : Value) (b listed : Bool) (ts : List Token) (held : Lists) (fed : List Fed) → listed ≡ keeps v b → IsOver s listed → b ≡ has_no_token ts →
-    kept_list (resume_command s (with_list (has_list s) ts held) fed) ≡ command_lists s (with_list (has_list s) ts held) fed
+    kept_list (command_ask (resume_command s (with_list (has_list s) ts held) fed)) ≡ command_lists s (with_list (has_list s) ts held) fed
 value_lists s v b listed ts held fed k over e =
     kept_lists s listed (with_list (has_list s) ts held) fed over
     (λ (h : has_list s ≡ true). top_full (has_list s) ts held (sym e ∙ keeps_full v b (sym k ∙ over_listed s listed over h)) h)

@@ -14,7 +14,9 @@ use Rattle.rows.specs.Tokens.{is_at_most}
 use Rattle.rows.specs.Arithmetic.{measured}
 use Rattle.plain_readings.specs.declared.measures.Quantity.{Quantity}
 use Rattle.plain_readings.specs.declared.measures.Measure.{Measure}
-use Rattle.plain_readings.specs.Dimens.{Inner, Factor, Number, Key, Fed, Factored, Numbered, Found, Noted, Fetched, Answer, More, Begins, Fetches, Magnifies, Tells, Done, physical, magnification_in, magnified_amount, by_magnification, by_unit, finished, valued, fil_or_not, unit_sought, unit_behind, turned, factor_read, with_factor, longer, with_number, is_integer_at, times}
+use Rattle.plain_readings.specs.Dimens.{Fed, Factored, Numbered, Found, Noted, Fetched, physical, magnification_in, magnified_amount, by_magnification, by_unit, finished, valued, fil_or_not, unit_sought, unit_behind, turned, factor_read, with_factor, longer, with_number, is_integer_at, times}
+use Rattle.plain_readings.specs.declared.asks.DimenAsk.{DimenAsk}
+use Rattle.plain_readings.specs.declared.asks.DimenAsk.TheVariants.{More, Begins, Fetches, Magnifies, Tells, Done}
 use Rattle.plain_readings.specs.Measures.{dimen_ask, dimen_value}
 use Rattle.plain_readings.specs.Weights.{value_weight, ask_weight, IsNoted}
 use Rattle.scan_dimens.specs.DimenResumes.{resume_at, resume, onward}
@@ -25,26 +27,18 @@ use Rattle.scan_dimens.specs.declared.dimen.DimenPlace.TheVariants as place
 use Rattle.scan_dimens.specs.declared.dimen.DimenScan.{DimenScan}
 use Rattle.reading_frames.specs.Weights.{IsEnd}
 
-abbrev pub answer_weight : Answer → ℕ
+abbrev pub answer_weight : DimenAsk → ℕ
 answer_weight a = ask_weight value_weight (dimen_ask a)
 
 -- what it asks for
-abbrev Most : ℕ → Answer → Type 0
+abbrev Most : ℕ → DimenAsk → Type 0
 Most n a = answer_weight a ≤ n
 
-most_if : (n : ℕ) (c : Bool) (p q : Answer) → Most n p → Most n q → Most n (if c then p else q)
+most_if : (n : ℕ) (c : Bool) (p q : DimenAsk) → Most n p → Most n q → Most n (if c then p else q)
 most_if n true p q h i = h
 most_if n false p q h i = i
 
 -- WHAT ITS PARTS ASK FOR AT FIRST
-
-inner_most : (i : Inner) (b : Bool) → Most 70 (Begins i b)
-inner_most Factor true = omega arith
-inner_most Factor false = omega arith
-inner_most Number true = omega arith
-inner_most Number false = omega arith
-inner_most (Key w) true = omega arith
-inner_most (Key w) false = omega arith
 
 unit_light : (negative : Bool) (a : Quantity) (us : List Measure) → Most 11 (by_unit negative a us [])
 unit_light negative a [] = omega arith
@@ -103,7 +97,7 @@ unit_unnoted : (negative : Bool) (a : Quantity) (us : List Measure) → IsNoted 
 unit_unnoted negative a [] h = h
 unit_unnoted negative a (u ∷ us) h = h
 
-abbrev Falls : (old new : Answer) → Type 0
+abbrev Falls : (old new : DimenAsk) → Type 0
 Falls old new = IsNoted (dimen_ask old) → answer_weight new < answer_weight old
 
 noted_at : (k : DimenKind) (negative : Bool) (p : DimenPlace) → Falls (resume_at k negative p []) (resume_at k negative p (Noted ∷ []))
@@ -229,7 +223,7 @@ factored_at k negative (place.Space v order) n point = omega arith
 factored_at k negative (place.TooLarge order back) n point = omega arith
 factored_at k negative (place.Ended m order back) n point = omega arith
 
-number_light : (b : Bank) (n : ℤ) (on : Loc → ℤ → List Fed → Answer) → Most 60 (with_number b n on [])
+number_light : (b : Bank) (n : ℤ) (on : Loc → ℤ → List Fed → DimenAsk) → Most 60 (with_number b n on [])
 number_light (bank.Codes c) n on = most_if 60 (is_at_most 255 n) _ _ (omega arith) (omega arith)
 number_light (bank.Registers c) n on = most_if 60 (is_at_most 255 n) _ _ (omega arith) (omega arith)
 
@@ -306,7 +300,7 @@ dimension_valued s v = value_light s v
 
 -- IT HAS A VALUE
 
-pub dimension_unended : (a : Answer) → IsEnd (dimen_ask a) → ⊥
+pub dimension_unended : (a : DimenAsk) → IsEnd (dimen_ask a) → ⊥
 dimension_unended (More want) h = h
 dimension_unended (Begins i begins) h = h
 dimension_unended (Fetches l) h = h

@@ -7,6 +7,7 @@ use Rattle.tex_syntax.specs.declared.words.Manner.{Manner}
 use Rattle.tex_syntax.specs.declared.words.Want.TheVariants.{Raw, Expanded, Copied}
 use Rattle.list_builder.specs.declared.stage.Stage.TheVariants as stage
 use Rattle.rows.specs.declared.command.Call.{Call}
+use Rattle.rows.specs.Commands.{command_ask}
 use Rattle.rows.specs.Readings.{Ask, More, Verbatim}
 use Rattle.plain_readings.specs.Readings.{Reading, ask}
 use Rattle.plain_readings.proofs.Entering as readings
@@ -41,13 +42,13 @@ module _ (list : List Token) (held : Lists) (t : Token) where
   build_takes defines m (place.At s) e = absurd cc
   build_takes defines m place.Whole e = absurd cc
 
-  name_uncopied : (c : Call) (p : SpellPlace) → name_at c p list [] ≡ More Copied → ⊥
+  name_uncopied : (c : Call) (p : SpellPlace) → command_ask (name_at c p list []) ≡ More Copied → ⊥
   name_uncopied c spell.Inside e = cc
   name_uncopied c spell.NoEnd e = cc
   name_uncopied c spell.Whole e = cc
   name_uncopied c spell.Stopped e = cc
 
-  file_uncopied : (c : Call) (p : FilePlace) → file_at c p list [] ≡ More Copied → ⊥
+  file_uncopied : (c : Call) (p : FilePlace) → command_ask (file_at c p list []) ≡ More Copied → ⊥
   file_uncopied c file.Before e = cc
   file_uncopied c file.Inside e = cc
   file_uncopied c (file.Whole back) e = cc

@@ -11,7 +11,9 @@ use Rattle.rows.specs.declared.internal.Bank.TheVariants as bank
 use Rattle.rows.specs.Internal.{is_mu}
 use Rattle.rows.specs.Tokens.{is_at_most}
 use Rattle.rows.specs.Arithmetic.{glue_at}
-use Rattle.plain_readings.specs.Glues.{Measured, Numbered, Found, Noted, Fetched, Answer, More, Begins, Fetches, Tells, Done, is_part, with_number, valued, signed_glue}
+use Rattle.plain_readings.specs.Glues.{Measured, Numbered, Found, Noted, Fetched, is_part, with_number, valued, signed_glue}
+use Rattle.plain_readings.specs.declared.asks.GlueAsk.{GlueAsk}
+use Rattle.plain_readings.specs.declared.asks.GlueAsk.TheVariants.{More, Begins, Fetches, Tells, Done}
 use Rattle.plain_readings.specs.Measures.{glue_ask, glue_value}
 use Rattle.plain_readings.specs.Weights.{value_weight, ask_weight, IsNoted}
 use Rattle.scan_glue.specs.GlueResumes.{resume_at, resume}
@@ -20,14 +22,14 @@ use Rattle.scan_glue.specs.declared.glue.GluePlace.TheVariants as place
 use Rattle.scan_glue.specs.declared.glue.GlueScan.{GlueScan}
 use Rattle.reading_frames.specs.Weights.{IsEnd}
 
-abbrev pub answer_weight : Answer → ℕ
+abbrev pub answer_weight : GlueAsk → ℕ
 answer_weight a = ask_weight value_weight (glue_ask a)
 
 -- what it asks for
-abbrev Most : ℕ → Answer → Type 0
+abbrev Most : ℕ → GlueAsk → Type 0
 Most n a = answer_weight a ≤ n
 
-most_if : (n : ℕ) (c : Bool) (p q : Answer) → Most n p → Most n q → Most n (if c then p else q)
+most_if : (n : ℕ) (c : Bool) (p q : GlueAsk) → Most n p → Most n q → Most n (if c then p else q)
 most_if n true p q h i = h
 most_if n false p q h i = i
 
@@ -152,7 +154,7 @@ glue_valued s v = value_light s v
 
 -- IT HAS A VALUE
 
-pub glue_unended : (a : Answer) → IsEnd (glue_ask a) → ⊥
+pub glue_unended : (a : GlueAsk) → IsEnd (glue_ask a) → ⊥
 glue_unended (More want) h = h
 glue_unended (Begins i begins) h = h
 glue_unended (Fetches l) h = h

@@ -8,7 +8,7 @@ use Rattle.list_builder.specs.declared.stage.Stage.TheVariants as stage
 use Rattle.list_builder.specs.Stages as stages
 use Rattle.rows.specs.declared.stage.Note.{Note}
 use Rattle.rows.specs.declared.stage.Note.TheVariants as note
-use Rattle.rows.specs.Readings.{Ask}
+use Rattle.rows.specs.Commands.{CommandAsk, command_ask}
 use Rattle.rows.specs.Run.{due}
 use Rattle.row_frames.specs.declared.frame.RowFrame.{RowFrame}
 use Rattle.row_frames.specs.Resumes as row
@@ -30,13 +30,13 @@ use Rattle.reading_frames.proofs.Asking.{frame_asks}
 
 -- A ROW THAT GOES ON asks for nothing with a list.
 
-due_bare : (n : Note) → kept_list (due n) ≡ []
+due_bare : (n : Note) → kept_list (command_ask (due n)) ≡ []
 due_bare (note.Tells report back) = refl
 due_bare (note.Inserts t report back) = refl
 due_bare (note.Relaxes c n) = refl
 
-frame_bare : (f : RowFrame) → kept_list (row.resume f []) ≡ []
-frame_bare f = frame_asks (λ (a : Ask). kept_list a ≡ []) (λ want. refl) (λ k begins. refl) (λ c e. refl) due_bare f
+frame_bare : (f : RowFrame) → kept_list (command_ask (row.resume f [])) ≡ []
+frame_bare f = frame_asks (λ (a : CommandAsk). kept_list (command_ask a) ≡ []) (λ want. refl) (λ k begins. refl) (λ c e. refl) due_bare f
 
 -- HOW MANY THEY ARE
 

@@ -9,8 +9,9 @@ use Rattle.rows.specs.declared.internal.Bank.TheVariants as bank
 use Rattle.rows.specs.declared.internal.Internal.{Internal}
 use Rattle.rows.specs.declared.internal.Internal.TheVariants as internal
 use Rattle.rows.specs.Internal.{internal_of, is_mu}
-use Rattle.rows.specs.Readings.{Tok, Noted, Fetched, Ask}
-use Rattle.plain_readings.specs.Integers.{is_digit, digit_of, is_minus, is_plus, greatest_integer, digits, too_big, missing, code_of, behind_code, internal_integer, by_meaning, unsigned, integer}
+use Rattle.rows.specs.Readings.{Tok, Noted, Fetched}
+use Rattle.plain_readings.specs.declared.asks.NumberAsk.{NumberAsk}
+use Rattle.plain_readings.specs.Integers.{is_digit, digit_of, is_minus, is_plus, greatest_integer, digits, too_big, missing, code_of, behind_code, internal_integer, by_meaning, unsigned, integer, number_ask}
 use Rattle.plain_readings.specs.Weights.{value_weight, ask_weight, IsNoted}
 use Rattle.scan_numbers.specs.Views.{radix_number}
 use Rattle.scan_numbers.specs.Resumes.{resume_at, resume}
@@ -19,11 +20,14 @@ use Rattle.scan_numbers.specs.declared.number.Place.TheVariants as place
 use Rattle.scan_numbers.specs.declared.number.NumberScan.{NumberScan}
 use Rattle.reading_frames.specs.Weights.{IsEnd}
 
--- what it asks for
-abbrev pub Most : ℕ → Ask → Type 0
-Most n a = ask_weight value_weight a ≤ n
+abbrev pub weighs : NumberAsk → ℕ
+weighs a = ask_weight value_weight (number_ask a)
 
-pub most_if : (n : ℕ) (c : Bool) (p q : Ask) → Most n p → Most n q → Most n (if c then p else q)
+-- what it asks for
+abbrev pub Most : ℕ → NumberAsk → Type 0
+Most n a = weighs a ≤ n
+
+pub most_if : (n : ℕ) (c : Bool) (p q : NumberAsk) → Most n p → Most n q → Most n (if c then p else q)
 most_if n true p q h i = h
 most_if n false p q h i = i
 
@@ -98,7 +102,7 @@ integer_fed s x = fed_at s.negative s.place x
 
 -- Behind a note
 
-noted_at : (negative : Bool) (p : Place) → IsNoted (resume_at negative p []) → ask_weight value_weight (resume_at negative p (Noted ∷ [])) < ask_weight value_weight (resume_at negative p [])
+noted_at : (negative : Bool) (p : Place) → IsNoted (number_ask (resume_at negative p [])) → weighs (resume_at negative p (Noted ∷ [])) < weighs (resume_at negative p [])
 noted_at negative place.Signs h = absurd h
 noted_at negative place.Quote h = absurd h
 noted_at negative (place.First radix) h = absurd h
@@ -115,7 +119,7 @@ noted_at negative (place.Fetching l) h = absurd h
 noted_at negative (place.MuFound n) h = omega arith
 noted_at negative (place.Ended n back) h = absurd h
 
-pub integer_noted : (s : NumberScan) → IsNoted (resume s []) → ask_weight value_weight (resume s (Noted ∷ [])) < ask_weight value_weight (resume s [])
+pub integer_noted : (s : NumberScan) → IsNoted (number_ask (resume s [])) → weighs (resume s (Noted ∷ [])) < weighs (resume s [])
 integer_noted s h = noted_at s.negative s.place h
 
 -- Behind what stands at a location
@@ -141,7 +145,7 @@ integer_fetched s v = fetched_at s.negative s.place v
 
 -- It has a value.
 
-unended_at : (negative : Bool) (p : Place) → IsEnd (resume_at negative p []) → ⊥
+unended_at : (negative : Bool) (p : Place) → IsEnd (number_ask (resume_at negative p [])) → ⊥
 unended_at negative place.Signs h = h
 unended_at negative place.Quote h = h
 unended_at negative (place.First radix) h = h
@@ -157,5 +161,5 @@ unended_at negative (place.Fetching l) h = h
 unended_at negative (place.MuFound n) h = h
 unended_at negative (place.Ended n back) h = h
 
-pub integer_unended : (s : NumberScan) → IsEnd (resume s []) → ⊥
+pub integer_unended : (s : NumberScan) → IsEnd (number_ask (resume s [])) → ⊥
 integer_unended s h = unended_at s.negative s.place h

@@ -18,7 +18,8 @@ use Rattle.rows.specs.declared.stage.Next.TheVariants as next
 use Rattle.rows.specs.declared.stage.Note.{Note}
 use Rattle.rows.specs.declared.stage.Note.TheVariants as note
 use Rattle.rows.specs.declared.command.Call.{Call}
-use Rattle.rows.specs.Readings.{Fed, Tok, Val, Noted, Ask, Acts, ActsOn, Defines, Ends}
+use Rattle.rows.specs.Readings.{Fed, Tok, Val, Noted}
+use Rattle.rows.specs.Commands.{CommandAsk, Acts, ActsOn, Defines, Ends}
 use Rattle.rows.specs.Table.{stages_of, stages_left}
 use Rattle.rows.specs.Stages.{start, on_token, on_value, numbered_by}
 use Rattle.rows.specs.Run.{StageOutcome, Asks, Takes, Passes, Gathers, Makes, Becomes, comes, due, noted, valued, inner, begins, numbers, met_with, looks, again, started, behind, run, no_turn, turned}
@@ -28,7 +29,7 @@ use Rattle.row_frames.specs.declared.turn.Kept.TheVariants as kept
 use Rattle.row_frames.specs.Data.{values}
 use Rattle.row_frames.specs.Resumes.{within, resume_row, turn_of, resume}
 
-abbrev pub IsOver : Ask → Type 0
+abbrev pub IsOver : CommandAsk → Type 0
 IsOver (Acts c e) = Unit {0}
 IsOver (ActsOn c e ts) = Unit {0}
 IsOver (Defines c n ts) = Unit {0}
@@ -121,8 +122,8 @@ module _ (more : List Fed) where
   within_same s c ds (kept.Noting n m) fed = noted_same n m fed
   within_same s c ds (kept.Retrying d want n) fed = again_same s d want n fed
 
-  module _ (turn : Call → List Fed → Ask) (turns : (c : Call) (fed : List Fed) → IsOver (turn c fed) → turn c (fed ++ more) ≡ turn c fed) where
-    behind_same : (c : Call) (ds : List Datum) (onward : List Datum → List Fed → Ask) →
+  module _ (turn : Call → List Fed → CommandAsk) (turns : (c : Call) (fed : List Fed) → IsOver (turn c fed) → turn c (fed ++ more) ≡ turn c fed) where
+    behind_same : (c : Call) (ds : List Datum) (onward : List Datum → List Fed → CommandAsk) →
         ((es : List Datum) (fed : List Fed) → IsOver (onward es fed) → onward es (fed ++ more) ≡ onward es fed) →
         (o p : StageOutcome) → Same o p → IsOver (behind turn c ds onward o) → behind turn c ds onward p ≡ behind turn c ds onward o
     behind_same c ds onward h (Asks a) p same over = ap (behind turn c ds onward) (same over)
@@ -159,5 +160,5 @@ pub stays_over : (f : RowFrame) (y : Fed) (fed : List Fed) → IsOver (resume f 
 stays_over f y fed over =
     row_same fed (λ c more. turn_of f.is_turned c more) (λ c more over. turn_same fed f.is_turned c more over) f.call (stages_left f.left) (values f.read) f.kept (y ∷ []) over
 
-pub over_behind : {a : Ask} → (f : RowFrame) (y : Fed) → resume f (y ∷ []) ≡ a → IsOver a → (fed : List Fed) → resume f (y ∷ fed) ≡ a
+pub over_behind : {a : CommandAsk} → (f : RowFrame) (y : Fed) → resume f (y ∷ []) ≡ a → IsOver a → (fed : List Fed) → resume f (y ∷ fed) ≡ a
 over_behind f y e over fed = stays_over f y fed (subst IsOver (sym e) over) ∙ e

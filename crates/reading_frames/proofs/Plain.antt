@@ -13,7 +13,8 @@ use Rattle.rows.specs.declared.stage.Start.TheVariants.{Looks, Begins}
 use Rattle.rows.specs.declared.stage.Got.{Got}
 use Rattle.rows.specs.declared.stage.Got.TheVariants as got
 use Rattle.rows.specs.declared.command.Call.{Call}
-use Rattle.rows.specs.Readings.{Fed, Val, Ask}
+use Rattle.rows.specs.Readings.{Fed, Val}
+use Rattle.rows.specs.Commands.{CommandAsk}
 use Rattle.rows.specs.Table.{stages_left}
 use Rattle.rows.specs.Tokens.{is_at_most, is_up_to}
 use Rattle.rows.specs.Stages.{start, on_datum, numbered_by}
@@ -62,7 +63,7 @@ module _ (d : Datum) (ts us : List Token) (fed : List Fed) where
   within_same s c ds (kept.Noting n m) = refl
   within_same s c ds (kept.Retrying e want n) = refl
 
-  row_same : (turn : Call → List Fed → Ask) (c : Call) (ss : List Stage) (ds : List Datum) (k : Kept) →
+  row_same : (turn : Call → List Fed → CommandAsk) (c : Call) (ss : List Stage) (ds : List Datum) (k : Kept) →
       resume_row turn c ss ds k (Val (Plain d) ts ∷ fed) ≡ resume_row turn c ss ds k (Val (Plain d) us ∷ fed)
   row_same turn c [] ds k = refl
   row_same turn c (s ∷ ss) ds k = ap (λ (o : StageOutcome). behind turn c ds (λ es more. run turn c ss es more) o) (within_same s c ds k)

@@ -17,7 +17,8 @@ use Rattle.rows.specs.declared.stage.Next.TheVariants as next
 use Rattle.rows.specs.declared.command.Call.{Call}
 use Rattle.rows.specs.declared.command.Effect.{Effect}
 use Rattle.rows.specs.declared.command.Effect.TheVariants.{Unassigned}
-use Rattle.rows.specs.Readings.{Fed, Val, Noted, Ask, More, Inner, Acts, ActsOn, Defines, Ends, Tells}
+use Rattle.rows.specs.Readings.{Fed, Val, Noted}
+use Rattle.rows.specs.Commands.{CommandAsk, More, Inner, Acts, ActsOn, Defines, Ends, Tells}
 use Rattle.rows.specs.Table.{stages_of, stages_left}
 use Rattle.rows.specs.Stages.{start, on_value, numbered_by, name}
 use Rattle.rows.specs.Effects.{command_effect, as_definition}
@@ -29,7 +30,7 @@ use Rattle.row_frames.specs.Data.{values}
 use Rattle.row_frames.specs.Resumes.{within, resume_row, turn_of, resume}
 
 module _
-    (P : Ask → Type 0)
+    (P : CommandAsk → Type 0)
     (more : (want : Want) → P (More want))
     (begin : (k : Phrase) → P (Inner k false))
     (act : (c : Call) (e : Effect) → P (Acts c e))
@@ -50,8 +51,8 @@ module _
     start_fits s c (Looks want) = more want
     start_fits s c (Begins k) = begin k
 
-    module _ (turn : Call → List Fed → Ask) (turns : (c : Call) → P (turn c [])) where
-      behind_fits : (c : Call) (ds : List Datum) (onward : List Datum → List Fed → Ask) → ((es : List Datum) → P (onward es [])) → (o : StageOutcome) → Fits o → P (behind turn c ds onward o)
+    module _ (turn : Call → List Fed → CommandAsk) (turns : (c : Call) → P (turn c [])) where
+      behind_fits : (c : Call) (ds : List Datum) (onward : List Datum → List Fed → CommandAsk) → ((es : List Datum) → P (onward es [])) → (o : StageOutcome) → Fits o → P (behind turn c ds onward o)
       behind_fits c ds onward h (Asks a) fits = fits
       behind_fits c ds onward h (Takes d fed) e = subst (λ (l : List Fed). P (onward (ds ++ d ∷ []) l)) (sym e) (h (ds ++ d ∷ []))
       behind_fits c ds onward h (Passes fed) e = subst (λ (l : List Fed). P (onward ds l)) (sym e) (h ds)

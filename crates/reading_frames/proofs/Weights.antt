@@ -17,6 +17,7 @@ use Rattle.rows.specs.Run.{due}
 use Rattle.rows.specs.Run.{row as row_asked}
 use Rattle.equivalents.specs.declared.values.Loc.{Loc}
 use Rattle.tex_defs.specs.declared.Seen.{Seen}
+use Rattle.rows.specs.Commands.{CommandAsk, command_ask}
 use Rattle.equivalents.specs.Locations.{SeenValue}
 use Rattle.rows.specs.Readings.{Fed, Tok, Val, Noted, Fetched, Ask, Inner, Fetches}
 use Rattle.row_frames.specs.declared.frame.RowFrame.{RowFrame}
@@ -25,7 +26,15 @@ use Rattle.plain_readings.specs.Readings.{Reads}
 use Rattle.plain_readings.specs.Lists.{build_ask}
 use Rattle.plain_readings.specs.Laws.{after}
 use Rattle.plain_readings.specs.Dimens as dimens
+use Rattle.plain_readings.specs.declared.asks.DimenAsk.{DimenAsk}
 use Rattle.plain_readings.specs.Glues as glues
+use Rattle.plain_readings.specs.declared.asks.GlueAsk.{GlueAsk}
+use Rattle.plain_readings.specs.declared.asks.NumberAsk.{NumberAsk}
+use Rattle.plain_readings.specs.declared.asks.FactorAsk.{FactorAsk}
+use Rattle.plain_readings.specs.declared.asks.KeywordAsk.{KeywordAsk}
+use Rattle.plain_readings.specs.Integers.{number_ask}
+use Rattle.plain_readings.specs.Factors.{factor_ask}
+use Rattle.plain_readings.specs.Keywords.{keyword_ask}
 use Rattle.plain_readings.specs.Measures.{dimen_ask, dimen_value, glue_ask, glue_value}
 use Rattle.plain_readings.specs.Weights.{value_frame, act_frame, value_weight, act_weight, behind_weight, fetching_behind, ask_weight, IsNoted}
 use Rattle.conditionals.specs.declared.choice.Aim.{Aim}
@@ -80,31 +89,34 @@ report_light report = omega arith
 
 -- COMMANDS
 
-row_noted : (f : RowFrame) → ask_weight behind_weight (row.resume f (Noted ∷ [])) ≤ behind_weight
+abbrev pub command_weight : CommandAsk → ℕ
+command_weight a = ask_weight behind_weight (command_ask a)
+
+row_noted : (f : RowFrame) → command_weight (row.resume f (Noted ∷ [])) ≤ behind_weight
 row_noted f =
-    noted_holds (λ (a : Ask). ask_weight behind_weight a ≤ behind_weight) (λ want. omega arith) (λ k. omega arith) (λ c e. effect_light e) (λ c e ts. omega arith) (λ c n ts. omega arith)
+    noted_holds (λ (a : CommandAsk). command_weight a ≤ behind_weight) (λ want. omega arith) (λ k. omega arith) (λ c e. effect_light e) (λ c e ts. omega arith) (λ c n ts. omega arith)
     (omega arith) f
 
-row_valued : (f : RowFrame) (v : Value) (ts : List Token) → ask_weight behind_weight (row.resume f (Val v ts ∷ [])) ≤ 64
+row_valued : (f : RowFrame) (v : Value) (ts : List Token) → command_weight (row.resume f (Val v ts ∷ [])) ≤ 64
 row_valued f v ts =
-    value_holds (λ (a : Ask). ask_weight behind_weight a ≤ 64) (λ want. omega arith) (λ k. omega arith) (λ c e. omega (arith, effect_light e)) (λ c e ts. omega arith)
+    value_holds (λ (a : CommandAsk). command_weight a ≤ 64) (λ want. omega arith) (λ k. omega arith) (λ c e. omega (arith, effect_light e)) (λ c e ts. omega arith)
     (λ c n ts. omega arith) (omega arith) (λ report. omega (arith, report_light report)) v ts f
 
-pub command_noted : (s : CommandScan) → IsNoted (resume_command s [] []) → ask_weight behind_weight (resume_command s [] (Noted ∷ [])) < ask_weight behind_weight (resume_command s [] [])
-command_noted (command.Reads f) h = omega (arith, row_noted f, note_heavy behind_weight (row.resume f []) h)
+pub command_noted : (s : CommandScan) → IsNoted (command_ask (resume_command s [] [])) → command_weight (resume_command s [] (Noted ∷ [])) < command_weight (resume_command s [] [])
+command_noted (command.Reads f) h = omega (arith, row_noted f, note_heavy behind_weight (command_ask (row.resume f [])) h)
 command_noted (command.Acts c e) h = absurd h
 command_noted (command.ActsOn c e b) h = absurd h
 command_noted (command.Defines c n b) h = absurd h
 command_noted command.Ended h = absurd h
 
-command_valued : (s : CommandScan) (v : Value) (ts : List Token) → ask_weight behind_weight (resume_command s [] (Val v ts ∷ [])) ≤ 64
+command_valued : (s : CommandScan) (v : Value) (ts : List Token) → command_weight (resume_command s [] (Val v ts ∷ [])) ≤ 64
 command_valued (command.Reads f) v ts = row_valued f v ts
 command_valued (command.Acts c e) v ts = omega (arith, effect_light e)
 command_valued (command.ActsOn c e b) v ts = omega arith
 command_valued (command.Defines c n b) v ts = omega arith
 command_valued command.Ended v ts = omega arith
 
-command_same : (s : CommandScan) (held : Lists) → ask_weight behind_weight (resume_command s held []) ≡ ask_weight behind_weight (resume_command s [] [])
+command_same : (s : CommandScan) (held : Lists) → command_weight (resume_command s held []) ≡ command_weight (resume_command s [] [])
 command_same (command.Reads f) held = refl
 command_same (command.Acts c e) held = refl
 command_same (command.ActsOn c e b) held = refl
@@ -121,10 +133,10 @@ sampled true = refl
 sampled false = refl
 
 pub command_light : (s : CommandScan) (v : Value) (b : Bool) (new : CommandScan) (held : Lists) → resume_command s [] (Val v (sample b) ∷ []) ≡ resume_command new held [] →
-    ask_weight behind_weight (resume_command new [] []) < value_frame + value_weight
+    command_weight (resume_command new [] []) < value_frame + value_weight
 command_light s v b new held e =
-    let same : ask_weight behind_weight (resume_command s [] (Val v (sample b) ∷ [])) ≡ ask_weight behind_weight (resume_command new [] []) =
-    ap (λ (a : Ask). ask_weight behind_weight a) e ∙ command_same new held in
+    let same : command_weight (resume_command s [] (Val v (sample b) ∷ [])) ≡ command_weight (resume_command new [] []) =
+    ap (λ (a : CommandAsk). command_weight a) e ∙ command_same new held in
     omega (arith, same, command_valued s v (sample b))
 
 -- LISTS
@@ -188,7 +200,7 @@ build_noted s new list e h =
 
 -- `\csname`
 
-name_light_at : (c : Call) (p : SpellPlace) → ask_weight behind_weight (name_at c p [] []) ≤ 61
+name_light_at : (c : Call) (p : SpellPlace) → command_weight (name_at c p [] []) ≤ 61
 name_light_at c spell.Inside = omega arith
 name_light_at c spell.NoEnd = omega arith
 name_light_at c spell.Whole = omega arith
@@ -196,7 +208,7 @@ name_light_at c spell.Stopped = omega arith
 
 -- `\input`
 
-file_light_at : (c : Call) (p : FilePlace) → ask_weight behind_weight (file_at c p [] []) ≤ 61
+file_light_at : (c : Call) (p : FilePlace) → command_weight (file_at c p [] []) ≤ 61
 file_light_at c file.Before = omega arith
 file_light_at c file.Inside = omega arith
 file_light_at c (file.Whole back) = omega arith
@@ -204,7 +216,7 @@ file_light_at c file.Stopped = omega arith
 
 -- skipped text
 
-skip_light_at : (c : Call) (aim : Aim) (p : SkipPlace) → ask_weight behind_weight (skip_at c aim p []) ≤ 61
+skip_light_at : (c : Call) (aim : Aim) (p : SkipPlace) → command_weight (skip_at c aim p []) ≤ 61
 skip_light_at c aim (skip.Inside s) = omega arith
 skip_light_at c aim (skip.Whole e) = omega arith
 skip_light_at c aim skip.Stopped = omega arith
@@ -217,13 +229,13 @@ inner_light (phrase.Dimension k) true = omega arith
 inner_light (phrase.Glue mu) true = omega arith
 inner_light k true = omega arith
 
-due_light : (n : Note) → ask_weight behind_weight (due n) ≤ 92
+due_light : (n : Note) → command_weight (due n) ≤ 92
 due_light (note.Tells report back) = omega (arith, report_light report)
 due_light (note.Inserts t report back) = omega (arith, report_light report)
 due_light (note.Relaxes c n) = omega arith
 
-command_most : (s : CommandScan) → ask_weight behind_weight (resume_command s [] []) ≤ 92
-command_most (command.Reads f) = frame_asks (λ (a : Ask). ask_weight behind_weight a ≤ 92) (λ want. omega arith) inner_light (λ c e. omega (arith, effect_light e)) due_light f
+command_most : (s : CommandScan) → command_weight (resume_command s [] []) ≤ 92
+command_most (command.Reads f) = frame_asks (λ (a : CommandAsk). command_weight a ≤ 92) (λ want. omega arith) inner_light (λ c e. omega (arith, effect_light e)) due_light f
 command_most (command.Acts c e) = omega (arith, effect_light e)
 command_most (command.ActsOn c e b) = omega arith
 command_most (command.Defines c n b) = omega arith
@@ -266,12 +278,12 @@ factor_valued s = omega (arith, factor_light s)
 
 pub measured : (s new : DimenScan) (v : Value) → ((fed : List dimens.Fed) → dimen.resume s (dimen_value v ∷ fed) ≡ dimen.resume new fed) → asks_weight (Dimension new) < value_frame + value_weight
 measured s new v e =
-    let same = ap (λ (a : dimens.Answer). ask_weight value_weight (dimen_ask a)) (e []) in
+    let same = ap (λ (a : DimenAsk). ask_weight value_weight (dimen_ask a)) (e []) in
     omega (arith, same, dimension_valued s v)
 
 pub glued : (s new : GlueScan) (v : Value) → ((fed : List glues.Fed) → glue.resume s (glue_value v ∷ fed) ≡ glue.resume new fed) → asks_weight (Glue new) < value_frame + value_weight
 glued s new v e =
-    let same = ap (λ (a : glues.Answer). ask_weight value_weight (glue_ask a)) (e []) in
+    let same = ap (λ (a : GlueAsk). ask_weight value_weight (glue_ask a)) (e []) in
     omega (arith, same, glue_valued s v)
 
 -- BEHIND A TOKEN
@@ -285,13 +297,13 @@ command_fed f s h new is = most_fed f (ap fed_weight is) new
 
 pub number_fed : (f : Frame) (s new : NumberScan) (x : Seen) → f ≡ Integer s → ((fed : List Fed) → number.resume s (Tok x ∷ fed) ≡ number.resume new fed) → asks_weight (Integer new) ≤ fed_weight f
 number_fed f s new x is e =
-    let same = ap (λ (a : Ask). ask_weight value_weight a) (e []) in
+    let same = ap (λ (a : NumberAsk). ask_weight value_weight (number_ask a)) (e []) in
     let most = ap fed_weight is in
     omega (arith, same, most, integer_fed s x)
 
 pub fraction_fed : (f : Frame) (s new : FactorScan) (x : Seen) → f ≡ Factor s → ((fed : List Fed) → factor.resume_factor s (Tok x ∷ fed) ≡ factor.resume_factor new fed) → asks_weight (Factor new) ≤ fed_weight f
 fraction_fed f s new x is e =
-    let same = ap (λ (a : Ask). ask_weight value_weight a) (e []) in
+    let same = ap (λ (a : FactorAsk). ask_weight value_weight (factor_ask a)) (e []) in
     let most = ap fed_weight is in
     omega (arith, same, most, factor_fed s x)
 
@@ -310,39 +322,39 @@ pub command_falls : (f : Frame) (s new : CommandScan) (p : Head) → f ≡ Comma
     asks_weight (Command new p) < asks_weight f
 command_falls f s new p is e =
     subst (λ (g : Frame). IsNoted (resume g [] []) → asks_weight (Command new p) < asks_weight g) (sym is)
-    (λ (h : IsNoted (resume_command s [] [])).
-    let same : ask_weight behind_weight (resume_command s [] (Noted ∷ [])) ≡ ask_weight behind_weight (resume_command new [] []) = ap (λ (a : Ask). ask_weight behind_weight a) e in
+    (λ (h : IsNoted (command_ask (resume_command s [] []))).
+    let same : command_weight (resume_command s [] (Noted ∷ [])) ≡ command_weight (resume_command new [] []) = ap (λ (a : CommandAsk). command_weight a) e in
     omega (arith, same, command_noted s h))
 
 pub keyword_falls : (f : Frame) (s new : KeywordScan) → f ≡ Keyword s → ((fed : List Fed) → keyword.resume s (Noted ∷ fed) ≡ keyword.resume new fed) → IsNoted (resume f [] []) →
     asks_weight (Keyword new) < asks_weight f
 keyword_falls f s new is e =
     subst (λ (g : Frame). IsNoted (resume g [] []) → asks_weight (Keyword new) < asks_weight g) (sym is)
-    (λ (h : IsNoted (keyword.resume s [])). let same = ap (λ (a : Ask). ask_weight value_weight a) (e []) in omega (arith, same, keyword_noted s h))
+    (λ (h : IsNoted (keyword_ask (keyword.resume s []))). let same = ap (λ (a : KeywordAsk). ask_weight value_weight (keyword_ask a)) (e []) in omega (arith, same, keyword_noted s h))
 
 pub number_falls : (f : Frame) (s new : NumberScan) → f ≡ Integer s → ((fed : List Fed) → number.resume s (Noted ∷ fed) ≡ number.resume new fed) → IsNoted (resume f [] []) →
     asks_weight (Integer new) < asks_weight f
 number_falls f s new is e =
     subst (λ (g : Frame). IsNoted (resume g [] []) → asks_weight (Integer new) < asks_weight g) (sym is)
-    (λ (h : IsNoted (number.resume s [])). let same = ap (λ (a : Ask). ask_weight value_weight a) (e []) in omega (arith, same, integer_noted s h))
+    (λ (h : IsNoted (number_ask (number.resume s []))). let same = ap (λ (a : NumberAsk). ask_weight value_weight (number_ask a)) (e []) in omega (arith, same, integer_noted s h))
 
 pub fraction_falls : (f : Frame) (s new : FactorScan) → f ≡ Factor s → ((fed : List Fed) → factor.resume_factor s (Noted ∷ fed) ≡ factor.resume_factor new fed) → IsNoted (resume f [] []) →
     asks_weight (Factor new) < asks_weight f
 fraction_falls f s new is e =
     subst (λ (g : Frame). IsNoted (resume g [] []) → asks_weight (Factor new) < asks_weight g) (sym is)
-    (λ (h : IsNoted (factor.resume_factor s [])). let same = ap (λ (a : Ask). ask_weight value_weight a) (e []) in omega (arith, same, factor_noted s h))
+    (λ (h : IsNoted (factor_ask (factor.resume_factor s []))). let same = ap (λ (a : FactorAsk). ask_weight value_weight (factor_ask a)) (e []) in omega (arith, same, factor_noted s h))
 
 pub dimension_falls : (f : Frame) (s new : DimenScan) → f ≡ Dimension s → ((fed : List dimens.Fed) → dimen.resume s (dimens.Noted ∷ fed) ≡ dimen.resume new fed) → IsNoted (resume f [] []) →
     asks_weight (Dimension new) < asks_weight f
 dimension_falls f s new is e =
     subst (λ (g : Frame). IsNoted (resume g [] []) → asks_weight (Dimension new) < asks_weight g) (sym is)
-    (λ (h : IsNoted (dimen_ask (dimen.resume s []))). let same = ap (λ (a : dimens.Answer). ask_weight value_weight (dimen_ask a)) (e []) in omega (arith, same, dimension_noted s h))
+    (λ (h : IsNoted (dimen_ask (dimen.resume s []))). let same = ap (λ (a : DimenAsk). ask_weight value_weight (dimen_ask a)) (e []) in omega (arith, same, dimension_noted s h))
 
 pub glue_falls : (f : Frame) (s new : GlueScan) → f ≡ Glue s → ((fed : List glues.Fed) → glue.resume s (glues.Noted ∷ fed) ≡ glue.resume new fed) → IsNoted (resume f [] []) →
     asks_weight (Glue new) < asks_weight f
 glue_falls f s new is e =
     subst (λ (g : Frame). IsNoted (resume g [] []) → asks_weight (Glue new) < asks_weight g) (sym is)
-    (λ (h : IsNoted (glue_ask (glue.resume s []))). let same = ap (λ (a : glues.Answer). ask_weight value_weight (glue_ask a)) (e []) in omega (arith, same, glue_noted s h))
+    (λ (h : IsNoted (glue_ask (glue.resume s []))). let same = ap (λ (a : GlueAsk). ask_weight value_weight (glue_ask a)) (e []) in omega (arith, same, glue_noted s h))
 
 -- BEHIND WHAT STANDS AT A LOCATION a frame that asked for it weighs less.
 
@@ -352,25 +364,25 @@ fetches_heavy f l end e = ap (λ (a : Ask). ask_weight (frame_end f) a) e ∙ ap
 pub number_fetched : (f : Frame) (s new : NumberScan) (v : SeenValue) → f ≡ Integer s → ((fed : List Fed) → number.resume s (Fetched v ∷ fed) ≡ number.resume new fed) →
     (l : Loc) → resume f [] [] ≡ Fetches l → asks_weight (Integer new) < asks_weight f
 number_fetched f s new v is e l asks =
-    let same = ap (λ (a : Ask). ask_weight value_weight a) (e []) in
+    let same = ap (λ (a : NumberAsk). ask_weight value_weight (number_ask a)) (e []) in
     omega (arith, same, fetches_heavy f l (sym (ap frame_end is)) asks, integer_fetched s v)
 
 pub fraction_fetched : (f : Frame) (s new : FactorScan) (v : SeenValue) → f ≡ Factor s → ((fed : List Fed) → factor.resume_factor s (Fetched v ∷ fed) ≡ factor.resume_factor new fed) →
     (l : Loc) → resume f [] [] ≡ Fetches l → asks_weight (Factor new) < asks_weight f
 fraction_fetched f s new v is e l asks =
-    let same = ap (λ (a : Ask). ask_weight value_weight a) (e []) in
+    let same = ap (λ (a : FactorAsk). ask_weight value_weight (factor_ask a)) (e []) in
     omega (arith, same, fetches_heavy f l (sym (ap frame_end is)) asks, factor_fetched s v)
 
 pub measure_fetched : (f : Frame) (s new : DimenScan) (v : SeenValue) → f ≡ Dimension s → ((fed : List dimens.Fed) → dimen.resume s (dimens.Fetched v ∷ fed) ≡ dimen.resume new fed) →
     (l : Loc) → resume f [] [] ≡ Fetches l → asks_weight (Dimension new) < asks_weight f
 measure_fetched f s new v is e l asks =
-    let same = ap (λ (a : dimens.Answer). ask_weight value_weight (dimen_ask a)) (e []) in
+    let same = ap (λ (a : DimenAsk). ask_weight value_weight (dimen_ask a)) (e []) in
     omega (arith, same, fetches_heavy f l (sym (ap frame_end is)) asks, dimension_fetched s v)
 
 pub skip_fetched : (f : Frame) (s new : GlueScan) (v : SeenValue) → f ≡ Glue s → ((fed : List glues.Fed) → glue.resume s (glues.Fetched v ∷ fed) ≡ glue.resume new fed) →
     (l : Loc) → resume f [] [] ≡ Fetches l → asks_weight (Glue new) < asks_weight f
 skip_fetched f s new v is e l asks =
-    let same = ap (λ (a : glues.Answer). ask_weight value_weight (glue_ask a)) (e []) in
+    let same = ap (λ (a : GlueAsk). ask_weight value_weight (glue_ask a)) (e []) in
     omega (arith, same, fetches_heavy f l (sym (ap frame_end is)) asks, glue_fetched s v)
 
 -- a keyword asks for nothing that stands at a location
@@ -388,7 +400,7 @@ build_falls f s new list is e =
 pub command_begun : (c : Call) (s : CommandScan) (h : Head) (o : Opening) → o ≡ opening.Reads (phrase.Command c) → ((held : Lists) (fed : List Fed) → row_asked c fed ≡ resume_command s held fed) →
     asks_weight (Command s h) ≤ begun_weight o
 command_begun c s h o is e =
-    let same : ask_weight behind_weight (row_asked c []) ≡ ask_weight behind_weight (resume_command s [] []) = ap (λ (a : Ask). ask_weight behind_weight a) (e [] []) in
+    let same : command_weight (row_asked c []) ≡ command_weight (resume_command s [] []) = ap (λ (a : CommandAsk). command_weight a) (e [] []) in
     let most : begun_weight o ≡ 11 = ap begun_weight is in
     omega (arith, same, most, begins_light (Reads (phrase.Command c)) tt)
 

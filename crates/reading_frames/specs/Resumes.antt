@@ -16,8 +16,10 @@ use Rattle.rows.specs.declared.words.Value.{Value}
 use Rattle.rows.specs.declared.words.Value.TheVariants as value
 use Rattle.rows.specs.declared.command.Call.{Call}
 use Rattle.rows.specs.declared.command.Effect.TheVariants.{PutBack, Reach}
-use Rattle.rows.specs.Readings.{Fed, Ask, Ends}
+use Rattle.rows.specs.Readings.{Fed, Ask}
 use Rattle.rows.specs.Readings as reading
+use Rattle.rows.specs.Commands.{CommandAsk, command_ask, Ends}
+use Rattle.rows.specs.Commands as asks
 use Rattle.row_frames.specs.Resumes as row
 use Rattle.rows.specs.Table.{reads_under_normal}
 use Rattle.plain_readings.specs.Readings.{kept_list}
@@ -26,6 +28,9 @@ use Rattle.plain_readings.specs.Lists.{build_fed, build_ask, built}
 use Rattle.plain_readings.specs.Spelling.{spelling, characters, endcsname_missing, makes}
 use Rattle.plain_readings.specs.FileNames.{file_naming, file_characters, opens}
 use Rattle.plain_readings.specs.Skips.{skipping}
+use Rattle.plain_readings.specs.Integers.{number_ask}
+use Rattle.plain_readings.specs.Factors.{factor_ask}
+use Rattle.plain_readings.specs.Keywords.{keyword_ask}
 use Rattle.plain_readings.specs.Measures.{dimen_fed, dimen_ask, glue_fed, glue_ask}
 use Rattle.scan_numbers.specs.Resumes as number
 use Rattle.scan_numbers.specs.FactorResumes as factor
@@ -57,11 +62,11 @@ use Rattle.reading_frames.specs.Views.{Lists, top_list, kept_list_of}
 
 -- A command, and the list with which it is to do something
 
-abbrev pub resume_command : CommandScan → Lists → List Fed → Ask
+abbrev pub resume_command : CommandScan → Lists → List Fed → CommandAsk
 resume_command (command.Reads f) held fed = row.resume f fed
-resume_command (command.Acts c e) held fed = reading.Acts c e
-resume_command (command.ActsOn c e listed) held fed = reading.ActsOn c e (kept_list_of listed held)
-resume_command (command.Defines c n listed) held fed = reading.Defines c n (kept_list_of listed held)
+resume_command (command.Acts c e) held fed = asks.Acts c e
+resume_command (command.ActsOn c e listed) held fed = asks.ActsOn c e (kept_list_of listed held)
+resume_command (command.Defines c n listed) held fed = asks.Defines c n (kept_list_of listed held)
 resume_command command.Ended held fed = Ends
 
 abbrev pub listed_lists : (listed : Bool) → Lists → Lists
@@ -75,7 +80,7 @@ has_list (command.Defines c n listed) = listed
 has_list s = false
 
 abbrev pub command_lists : CommandScan → Lists → List Fed → Lists
-command_lists (command.Reads f) held fed = kept_list (row.resume f fed)
+command_lists (command.Reads f) held fed = kept_list (command_ask (row.resume f fed))
 command_lists s held fed = listed_lists (has_list s) held
 
 -- how many lists of its own are held now
@@ -105,13 +110,13 @@ with_list false ts held = held
 
 -- `\csname`, behind the characters of this list
 
-abbrev pub name_at : Call → SpellPlace → List Token → List Fed → Ask
+abbrev pub name_at : Call → SpellPlace → List Token → List Fed → CommandAsk
 name_at c spell.Inside list fed = spelling c list fed
 name_at c spell.NoEnd list fed = endcsname_missing c list fed
 name_at c spell.Whole list fed = makes c list
 name_at c spell.Stopped list fed = Ends
 
-abbrev pub resume_name : SpellScan → List Token → List Fed → Ask
+abbrev pub resume_name : SpellScan → List Token → List Fed → CommandAsk
 resume_name scan list fed = name_at scan.call scan.place list fed
 
 -- the characters that it will have gathered
@@ -124,13 +129,13 @@ name_list scan list fed = name_list_at scan.place list fed
 
 -- `\input`, behind the characters of this list
 
-abbrev pub file_at : Call → FilePlace → List Token → List Fed → Ask
+abbrev pub file_at : Call → FilePlace → List Token → List Fed → CommandAsk
 file_at c file.Before list fed = file_naming c Nonblank list fed
 file_at c file.Inside list fed = file_naming c Expanded list fed
 file_at c (file.Whole back) list fed = opens c back list
 file_at c file.Stopped list fed = Ends
 
-abbrev pub resume_file : FileScan → List Token → List Fed → Ask
+abbrev pub resume_file : FileScan → List Token → List Fed → CommandAsk
 resume_file scan list fed = file_at scan.call scan.place list fed
 
 -- the characters of the name that it will have gathered
@@ -144,12 +149,12 @@ file_list scan list fed = file_list_at scan.place list fed
 
 -- Text that is skipped, where so many of its conditionals are open
 
-abbrev pub skip_at : Call → Aim → SkipPlace → List Fed → Ask
+abbrev pub skip_at : Call → Aim → SkipPlace → List Fed → CommandAsk
 skip_at c aim (skip.Inside s) fed = skipping c aim s.depth fed
-skip_at c aim (skip.Whole e) fed = reading.Acts c (Reach aim e)
+skip_at c aim (skip.Whole e) fed = asks.Acts c (Reach aim e)
 skip_at c aim skip.Stopped fed = Ends
 
-abbrev pub resume_skip : SkipScan → List Fed → Ask
+abbrev pub resume_skip : SkipScan → List Fed → CommandAsk
 resume_skip scan fed = skip_at scan.call scan.aim scan.place fed
 
 -- A list that is built, as far as this
@@ -186,17 +191,17 @@ token_count g = cell_count g.first + cell_count g.second
 
 -- WHAT A FRAME ANSWERS once it is fed with this, over the lists that are held
 abbrev pub resume : Frame → Lists → List Fed → Ask
-resume (Command scan head) held fed = resume_command scan held fed
-resume (Integer scan) held fed = number.resume scan fed
-resume (Factor scan) held fed = factor.resume_factor scan fed
+resume (Command scan head) held fed = command_ask (resume_command scan held fed)
+resume (Integer scan) held fed = number_ask (number.resume scan fed)
+resume (Factor scan) held fed = factor_ask (factor.resume_factor scan fed)
 resume (Dimension scan) held fed = dimen_ask (dimen.resume scan (dimen_fed fed))
 resume (Glue scan) held fed = glue_ask (glue.resume scan (glue_fed fed))
-resume (Keyword scan) held fed = keyword.resume scan fed
+resume (Keyword scan) held fed = keyword_ask (keyword.resume scan fed)
 resume (Build scan) held fed = build_ask (resume_build scan (top_list held) fed)
-resume (Spelling scan) held fed = resume_name scan (top_list held) fed
-resume (FileName scan) held fed = resume_file scan (top_list held) fed
-resume (Behind c x) held fed = reading.Acts c (PutBack x)
-resume (Skips scan) held fed = resume_skip scan fed
+resume (Spelling scan) held fed = command_ask (resume_name scan (top_list held) fed)
+resume (FileName scan) held fed = command_ask (resume_file scan (top_list held) fed)
+resume (Behind c x) held fed = command_ask (asks.Acts c (PutBack x))
+resume (Skips scan) held fed = command_ask (resume_skip scan fed)
 resume (Called name) held fed = reading.More Raw
 
 -- the lists that it will have built then

@@ -3,6 +3,7 @@ ghost use Rattle.std.specs.Prelude.{◌≡◌, ◌+◌, List, [], ◌∷◌, IfS
 ghost use Rattle.tex_defs.specs.declared.Token.{Token};
 ghost use Rattle.rows.specs.declared.words.Value.TheVariants as value_of;
 ghost use Rattle.rows.specs.Readings.{Fed, Tok, Noted, Fetched, Val};
+ghost use Rattle.rows.specs.Commands.{command_ask};
 ghost use Rattle.rows.specs.Run.{row};
 ghost use Rattle.row_frames.specs.Views as rows_view;
 ghost use Rattle.row_frames.specs.Resumes as rows_resume;
@@ -30,7 +31,7 @@ pub enum CommandScan {
 
 /// What a command asks for by its row, over a list of no token.
 fn of_row(asked: row_frames::Ask) -> Ask
-    ensures is { (held : Lists) → ask_of held result ≡ rows_view.ask_of [] asked }
+    ensures is { (held : Lists) → ask_of held result ≡ command_ask (rows_view.ask_of [] asked) }
     ensures owns { Owns result 0 }
     ensures found { IsFetchedAt result }
 {
@@ -49,7 +50,7 @@ fn of_row(asked: row_frames::Ask) -> Ask
 
 /// What a command asks for where it stands in its row.
 fn asked_in(row: &RowFrame) -> Ask
-    ensures is { (held : Lists) → ask_of held result ≡ rows_resume.resume row.now [] }
+    ensures is { (held : Lists) → ask_of held result ≡ command_ask (rows_resume.resume row.now []) }
     ensures owns { Owns result 0 }
     ensures found { IsFetchedAt result }
 {
@@ -99,7 +100,7 @@ impl CommandScan {
     /// A command begins.
     pub fn new(call: Call) -> CommandScan
         ensures asks { (held : Lists) (fed : List Fed) → row call fed ≡ resume_command result held fed }
-        ensures lists { (held : Lists) (fed : List Fed) → kept_list (row call fed) ≡ command_lists result held fed }
+        ensures lists { (held : Lists) (fed : List Fed) → kept_list (command_ask (row call fed)) ≡ command_lists result held fed }
         ensures count { command_count result ≡ 0 }
     {
         CommandScan::Reads(RowFrame::new(call))
@@ -109,7 +110,7 @@ impl CommandScan {
     // Not inlined, as `Frame::ask`.
     #[inline(never)]
     pub fn ask(&self) -> Ask
-        ensures is { (held : Lists) → ask_of held result ≡ resume_command self.now held [] }
+        ensures is { (held : Lists) → ask_of held result ≡ command_ask (resume_command self.now held []) }
         ensures owns { Owns result (command_count self.now) }
         ensures found { IsFetchedAt result }
     {

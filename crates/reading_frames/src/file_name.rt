@@ -5,6 +5,7 @@ ghost use Rattle.tex_syntax.specs.declared.words.Want.TheVariants.{Nonblank};
 ghost use Rattle.rows.specs.declared.words.Value.{Value};
 ghost use Rattle.equivalents.specs.Locations.{SeenValue};
 ghost use Rattle.rows.specs.Readings.{Fed, Tok, Noted, Val, Fetched};
+ghost use Rattle.rows.specs.Commands.{command_ask};
 ghost use Rattle.plain_readings.specs.FileNames as names;
 ghost use Rattle.plain_readings.specs.FileNames.{file_naming, file_characters};
 ghost use Rattle.reading_frames.specs.Views.{ask_of, IsFetchedAt, grown, Lists, top_list};
@@ -78,7 +79,7 @@ impl FileScan {
 
     /// What it asks for where it stands.
     pub fn ask(&self) -> Ask
-        ensures is { (held : Lists) → ask_of held result ≡ resume_file self.now (top_list held) [] }
+        ensures is { (held : Lists) → ask_of held result ≡ command_ask (resume_file self.now (top_list held) []) }
         ensures owns { Owns result 1 }
         ensures found { IsFetchedAt result }
     {

@@ -8,11 +8,13 @@ ghost use Rattle.reading_frames.specs.Views.{ask_of, has_no_token, reading_kind,
 ghost use Rattle.reading_frames.specs.Frames.{Begins, opened_lists};
 ghost use Rattle.reading_frames.specs.Resumes.{resume, building, list_count, below, frame_status, groups, is_call, read_at, reads_unguarded, token_count, with_list, Owns};
 ghost use Rattle.reading_frames.specs.Weights.{asks_weight, begun_weight, begun_with_weight, fed_weight, frame_end, opening_end, opening_frame, own_weight, put_count};
+ghost use Rattle.plain_readings.specs.Integers.{number_ask};
+ghost use Rattle.plain_readings.specs.Factors.{factor_ask};
+ghost use Rattle.plain_readings.specs.Keywords.{keyword_ask};
 ghost use Rattle.plain_readings.specs.Measures.{dimen_ask, dimen_inner, glue_ask, glue_inner};
 ghost use Rattle.plain_readings.specs.Weights.{value_frame, value_weight, IsNoted};
 ghost use Rattle.scan_numbers.specs.Views as numbers;
 ghost use Rattle.scan_numbers.specs.FactorViews as factors;
-ghost use Rattle.scan_dimens.specs.Views as keywords;
 ghost use Rattle.scan_dimens.specs.DimenViews as dimens;
 ghost use Rattle.scan_glue.specs.GlueViews as glues;
 
@@ -23,11 +25,12 @@ use crate::skip::SkipScan;
 use crate::spelling::SpellScan;
 use crate::text::BuildScan;
 use equivalents::Val as StoredValue;
+use plain_readings::{DimenAsk, DimenInner, FactorAsk, GlueAsk, GlueInner, KeywordAsk, NumberAsk};
 use row_frames::reads_under_normal;
 use rows::{Call, Datum, Effect, Head, Phrase, Value};
-use scan_dimens::{DimenAsk, DimenScan, KeywordAsk, KeywordScan};
-use scan_glue::{GlueAsk, GlueScan};
-use scan_numbers::{FactorAsk, FactorScan, NumberScan};
+use scan_dimens::{DimenScan, KeywordScan};
+use scan_glue::GlueScan;
+use scan_numbers::{FactorScan, NumberScan};
 use tex_defs::{Name, Seen};
 use tex_syntax::Want;
 
@@ -59,23 +62,23 @@ pub enum Frame {
 }
 
 // What an integer's scanner asks for.
-fn of_number(asked: scan_numbers::Ask) -> Ask
-    ensures is { (held : Lists) → ask_of held result ≡ numbers.ask_of asked }
+fn of_number(asked: NumberAsk) -> Ask
+    ensures is { (held : Lists) → ask_of held result ≡ number_ask asked }
     ensures owns { Owns result 0 }
     ensures found { numbers.IsFetchedAt asked → IsFetchedAt result }
 {
     match asked {
-        scan_numbers::Ask::More(want) => Ask::More(want),
-        scan_numbers::Ask::Begins => Ask::Inner(Phrase::Integer, false),
-        scan_numbers::Ask::Fetches(loc) => Ask::Fetches(loc),
-        scan_numbers::Ask::Tells(report, back) => Ask::Tells(report, back),
-        scan_numbers::Ask::Done(n, back) => Ask::Done(Value::Plain(Datum::Number(n)), back),
+        NumberAsk::More(want) => Ask::More(want),
+        NumberAsk::Begins => Ask::Inner(Phrase::Integer, false),
+        NumberAsk::Fetches(loc) => Ask::Fetches(loc),
+        NumberAsk::Tells(report, back) => Ask::Tells(report, back),
+        NumberAsk::Done(n, back) => Ask::Done(Value::Plain(Datum::Number(n)), back),
     }
 }
 
 // What the scanner of a factor asks for.
 fn of_factor(asked: FactorAsk) -> Ask
-    ensures is { (held : Lists) → ask_of held result ≡ factors.ask_of asked }
+    ensures is { (held : Lists) → ask_of held result ≡ factor_ask asked }
     ensures owns { Owns result 0 }
     ensures found { factors.IsFetchedAt asked → IsFetchedAt result }
 {
@@ -89,19 +92,19 @@ fn of_factor(asked: FactorAsk) -> Ask
 }
 
 // What a dimension reads within.
-fn dimen_kind(inner: scan_dimens::Inner) -> Phrase
-    ensures { result ≡ dimen_inner (dimens.inner_of inner) }
+fn dimen_kind(inner: DimenInner) -> Phrase
+    ensures { result ≡ dimen_inner inner }
 {
     match inner {
-        scan_dimens::Inner::Factor => Phrase::Factor,
-        scan_dimens::Inner::Number => Phrase::Integer,
-        scan_dimens::Inner::Key(keyword) => Phrase::Keyword(keyword),
+        DimenInner::Factor => Phrase::Factor,
+        DimenInner::Number => Phrase::Integer,
+        DimenInner::Key(keyword) => Phrase::Keyword(keyword),
     }
 }
 
 // What a dimension's scanner asks for.
 fn of_dimension(asked: DimenAsk) -> Ask
-    ensures is { (held : Lists) → ask_of held result ≡ dimen_ask (dimens.ask_of asked) }
+    ensures is { (held : Lists) → ask_of held result ≡ dimen_ask asked }
     ensures owns { Owns result 0 }
     ensures found { dimens.IsFetchedAt asked → IsFetchedAt result }
 {
@@ -116,19 +119,19 @@ fn of_dimension(asked: DimenAsk) -> Ask
 }
 
 // What glue reads within.
-fn glue_kind(inner: scan_glue::Inner) -> Phrase
-    ensures { result ≡ glue_inner (glues.inner_of inner) }
+fn glue_kind(inner: GlueInner) -> Phrase
+    ensures { result ≡ glue_inner inner }
 {
     match inner {
-        scan_glue::Inner::Dimension(kind) => Phrase::Dimension(kind),
-        scan_glue::Inner::Number => Phrase::Integer,
-        scan_glue::Inner::Key(keyword) => Phrase::Keyword(keyword),
+        GlueInner::Dimension(kind) => Phrase::Dimension(kind),
+        GlueInner::Number => Phrase::Integer,
+        GlueInner::Key(keyword) => Phrase::Keyword(keyword),
     }
 }
 
 // What the scanner of glue asks for.
 fn of_glue(asked: GlueAsk) -> Ask
-    ensures is { (held : Lists) → ask_of held result ≡ glue_ask (glues.ask_of asked) }
+    ensures is { (held : Lists) → ask_of held result ≡ glue_ask asked }
     ensures owns { Owns result 0 }
     ensures found { glues.IsFetchedAt asked → IsFetchedAt result }
 {
@@ -143,7 +146,7 @@ fn of_glue(asked: GlueAsk) -> Ask
 
 // What a keyword's scanner asks for.
 fn of_keyword(asked: KeywordAsk) -> Ask
-    ensures is { (held : Lists) → ask_of held result ≡ keywords.ask_of asked }
+    ensures is { (held : Lists) → ask_of held result ≡ keyword_ask asked }
     ensures owns { Owns result 0 }
     ensures found { IsFetchedAt result }
 {

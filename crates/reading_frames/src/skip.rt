@@ -4,6 +4,7 @@ ghost use Rattle.tex_defs.specs.declared.Token.{Token};
 ghost use Rattle.rows.specs.declared.words.Value.{Value};
 ghost use Rattle.equivalents.specs.Locations.{SeenValue};
 ghost use Rattle.rows.specs.Readings.{Fed, Tok, Noted, Val, Fetched};
+ghost use Rattle.rows.specs.Commands.{command_ask};
 ghost use Rattle.plain_readings.specs.Skips.{skipping};
 ghost use Rattle.reading_frames.specs.Views.{ask_of, IsFetchedAt, Lists};
 ghost use Rattle.reading_frames.specs.Resumes.{resume_skip, Owns};
@@ -50,7 +51,7 @@ impl SkipScan {
 
     /// What it asks for where it stands.
     pub fn ask(&self) -> Ask
-        ensures is { (held : Lists) → ask_of held result ≡ resume_skip self.now [] }
+        ensures is { (held : Lists) → ask_of held result ≡ command_ask (resume_skip self.now []) }
         ensures owns { Owns result 0 }
         ensures found { IsFetchedAt result }
     {

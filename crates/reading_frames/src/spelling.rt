@@ -4,6 +4,7 @@ ghost use Rattle.tex_defs.specs.declared.Token.{Token};
 ghost use Rattle.rows.specs.declared.words.Value.{Value};
 ghost use Rattle.equivalents.specs.Locations.{SeenValue};
 ghost use Rattle.rows.specs.Readings.{Fed, Tok, Noted, Val, Fetched};
+ghost use Rattle.rows.specs.Commands.{command_ask};
 ghost use Rattle.rows.specs.Tokens as tokens;
 ghost use Rattle.plain_readings.specs.Spelling as names;
 ghost use Rattle.plain_readings.specs.Spelling.{spelling, characters};
@@ -72,7 +73,7 @@ impl SpellScan {
 
     /// What it asks for where it stands.
     pub fn ask(&self) -> Ask
-        ensures is { (held : Lists) → ask_of held result ≡ resume_name self.now (top_list held) [] }
+        ensures is { (held : Lists) → ask_of held result ≡ command_ask (resume_name self.now (top_list held) []) }
         ensures owns { Owns result 1 }
         ensures found { IsFetchedAt result }
     {

@@ -5,7 +5,8 @@ use Rattle.rows.specs.declared.stage.Stage.{Stage}
 use Rattle.rows.specs.declared.command.Call.{Call}
 use Rattle.rows.specs.declared.command.Row.{Row}
 use Rattle.rows.specs.declared.command.Row.TheVariants.{One, Two, Three, Four}
-use Rattle.rows.specs.Readings.{Fed, Ask}
+use Rattle.rows.specs.Readings.{Fed}
+use Rattle.rows.specs.Commands.{CommandAsk}
 use Rattle.rows.specs.Table.{stages_in, stages_left, first_in, rest_in}
 use Rattle.rows.specs.Run.{StageOutcome, Takes, Passes, behind, run}
 use Rattle.row_frames.specs.declared.turn.Kept.{Kept}
@@ -19,18 +20,18 @@ at_most_four (Three a b c) = omega arith
 at_most_four (Four a b c d) = omega arith
 
 -- a row runs from the beginning of its first stage
-pub run_starts : (turn : Call → List Fed → Ask) (c : Call) (ss : List Stage) (ds : List Datum) (fed : List Fed) → run turn c ss ds fed ≡ resume_row turn c ss ds kept.Start fed
+pub run_starts : (turn : Call → List Fed → CommandAsk) (c : Call) (ss : List Stage) (ds : List Datum) (fed : List Fed) → run turn c ss ds fed ≡ resume_row turn c ss ds kept.Start fed
 run_starts turn c [] ds fed = refl
 run_starts turn c (s ∷ ss) ds fed = refl
 
 -- A command that has read `ds` stands in a stage, the first of what is left of its row, and is fed with `y`.
-module _ (turn : Call → List Fed → Ask) (c : Call) (left : Option Row) (stages : Row) (some : left ≡ Some stages) (s : Stage) (first : s ≡ first_in stages)
+module _ (turn : Call → List Fed → CommandAsk) (c : Call) (left : Option Row) (stages : Row) (some : left ≡ Some stages) (s : Stage) (first : s ≡ first_in stages)
     (ds : List Datum) (k : Kept) (y : Fed) (next : Option Row) (rest : stages_left next ≡ rest_in stages) where
   -- what the row comes to
-  abbrev pub At : List Fed → Ask
+  abbrev pub At : List Fed → CommandAsk
   At fed = resume_row turn c (stages_left left) ds k (y ∷ fed)
 
-  abbrev pub Next : List Datum → List Fed → Ask
+  abbrev pub Next : List Datum → List Fed → CommandAsk
   Next es fed = resume_row turn c (stages_left next) es kept.Start fed
 
   by_stage : (fed : List Fed) (o : StageOutcome) → within s c ds k (y ∷ fed) ≡ o → At fed ≡ behind turn c ds (λ es more. run turn c (rest_in stages) es more) o

@@ -7,7 +7,8 @@ use Rattle.rows.specs.declared.command.Call.{Call}
 use Rattle.rows.specs.declared.command.Effect.TheVariants as effect
 use Rattle.rows.specs.Table.{stages_left}
 use Rattle.rows.specs.Readings.{Fed}
-use Rattle.rows.specs.Readings as reading
+use Rattle.rows.specs.Commands.{CommandAsk}
+use Rattle.rows.specs.Commands as command
 use Rattle.rows.specs.Stages.{start}
 use Rattle.rows.specs.Effects.{command_effect}
 use Rattle.rows.specs.Run.{StageOutcome, Asks, started, looks, inner, numbers, noted, again, behind, run, no_turn, turned}
@@ -44,19 +45,19 @@ IsTurn s c ds ts y onward Leaves = (fed : List Fed) → onward fed ≡ outcome.P
 IsTurn s c ds ts y onward Gathers = (fed : List Fed) → onward fed ≡ outcome.Gathers ts
 IsTurn s c ds ts y onward Defines = (fed : List Fed) → onward fed ≡ outcome.Makes ts
 IsTurn s c ds ts y onward (Becomes d) = (fed : List Fed) → onward fed ≡ outcome.Becomes d fed
-IsTurn s c ds ts y onward (Unassigned d) = (fed : List Fed) → onward fed ≡ Asks (reading.Acts d effect.Unassigned)
-IsTurn s c ds ts y onward Ends = (fed : List Fed) → onward fed ≡ Asks reading.Ends
+IsTurn s c ds ts y onward (Unassigned d) = (fed : List Fed) → onward fed ≡ Asks (command.Acts d effect.Unassigned)
+IsTurn s c ds ts y onward Ends = (fed : List Fed) → onward fed ≡ Asks command.Ends
 
 -- what a command asks for that stands here in the first of these stages, and has read this
-abbrev pub resume_row : (turn : Call → List Fed → reading.Ask) → Call → List Stage → List Datum → Kept → List Fed → reading.Ask
-resume_row turn c [] ds kept fed = reading.Acts c (command_effect c ds)
+abbrev pub resume_row : (turn : Call → List Fed → CommandAsk) → Call → List Stage → List Datum → Kept → List Fed → CommandAsk
+resume_row turn c [] ds kept fed = command.Acts c (command_effect c ds)
 resume_row turn c (s ∷ ss) ds kept fed = behind turn c ds (λ es more. run turn c ss es more) (within s c ds kept fed)
 
 -- a command that goes on as another does so once
-abbrev pub turn_of : (is_turned : Bool) → Call → List Fed → reading.Ask
+abbrev pub turn_of : (is_turned : Bool) → Call → List Fed → CommandAsk
 turn_of true c fed = no_turn c fed
 turn_of false c fed = turned c fed
 
 -- what a frame answers once it is fed with this
-abbrev pub resume : RowFrame → List Fed → reading.Ask
+abbrev pub resume : RowFrame → List Fed → CommandAsk
 resume f fed = resume_row (λ c more. turn_of f.is_turned c more) f.call (stages_left f.left) (values f.read) f.kept fed

@@ -9,6 +9,7 @@ ghost use Rattle.rows.specs.declared.stage.Stage.TheVariants as stage;
 ghost use Rattle.row_frames.specs.Data.{values};
 
 use crate::data::{Data, location, name};
+use prim_table::{Class, first_number, last_number};
 use rows::{
     Bank, Call, Complaint, Datum, DimenKind, Got, Head, Internal, Met, Next, Note, Phrase, Prefix,
     Relation, Stage, Start, Value, byte_of, find_row, list_of, number_in, value_of, value_stage,
@@ -17,7 +18,7 @@ use rows::{
 use tex_defs::{Frozen, Meaning, Name, Seen, Token};
 use tex_syntax::{Report, Want};
 
-/// The numbers of the primitives `\relax`, `\long`, `\outer`, `\global`, `\def`, `\xdef`, `\read` and `\the`.
+/// The numbers of the primitives `\relax`, `\long`, `\outer`, `\global`, `\def`, `\xdef` and `\the`.
 const RELAX: u16 = 1;
 
 const LONG: u16 = 23;
@@ -30,12 +31,7 @@ const DEF: u16 = 26;
 
 const XDEF: u16 = 29;
 
-const READ: u16 = 53;
-
 const THE: u16 = 62;
-
-/// The first parameter; the parameters are the last primitives.
-const FIRST_PARAMETER: u16 = 85;
 
 /// What is inserted where a name is missing.
 const INACCESSIBLE: Token = Token::Named(Name::Frozen(Frozen::Inaccessible));
@@ -336,7 +332,9 @@ fn is_assignment(meaning: Meaning<()>) -> bool
 {
     match meaning {
         Meaning::Prim(n) => {
-            (DEF <= n && n <= READ || FIRST_PARAMETER <= n) && has_row(Head::Primitive(n))
+            (DEF <= n && n <= last_number(Class::Assignment)
+                || first_number(Class::IntegerParameter) <= n)
+                && has_row(Head::Primitive(n))
         }
         Meaning::Register { kind, no } => has_row(Head::Register(kind, no)),
         _ => false,

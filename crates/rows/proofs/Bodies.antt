@@ -23,7 +23,8 @@ use Rattle.rows.specs.declared.stage.Next.TheVariants as next
 use Rattle.rows.specs.declared.stage.Note.{Note}
 use Rattle.rows.specs.declared.stage.Note.TheVariants as note
 use Rattle.rows.specs.declared.command.Call.{Call}
-use Rattle.rows.specs.Readings.{Fed, Tok, Val, Noted, Ask, More, Inner, Defines}
+use Rattle.rows.specs.Readings.{Fed, Tok, Val, Noted}
+use Rattle.rows.specs.Commands.{CommandAsk, More, Inner, Defines, command_ask}
 use Rattle.rows.specs.Stages.{start, on_token, on_value, on_datum, numbered_by}
 use Rattle.rows.specs.Arithmetic.{number_in}
 use Rattle.rows.specs.Tokens.{is_at_most, is_up_to}
@@ -41,17 +42,17 @@ IsSuited (Tok x ∷ []) = Unit {0}
 IsSuited fed = ⊥
 
 -- no stage asks for a macro by itself
-abbrev IsPlain : Ask → Type 0
+abbrev IsPlain : CommandAsk → Type 0
 IsPlain (Defines c n ts) = ⊥
 IsPlain a = Unit {0}
 
 -- what comes where a stage asked for this
-abbrev Follows : Fed → Ask → StageOutcome → Type 0
+abbrev Follows : Fed → CommandAsk → StageOutcome → Type 0
 Follows y a (Asks b) = IsPlain b
 Follows y a (Takes d fed) = IsSuited fed
 Follows y a (Passes fed) = IsSuited fed
 Follows y a (Gathers ts) = Unit {0}
-Follows y a (Makes ts) = Brings y a → ts ≢ []
+Follows y a (Makes ts) = Brings y (command_ask a) → ts ≢ []
 Follows y a (Becomes c fed) = IsSuited fed
 
 -- what came of a stage, and what comes of it with one more
@@ -68,7 +69,7 @@ due_plain (note.Tells report back) = tt
 due_plain (note.Inserts t report back) = tt
 due_plain (note.Relaxes c n) = tt
 
-comes_first : (y : Fed) (a : Ask) (m : Next) → Follows y a (comes m [])
+comes_first : (y : Fed) (a : CommandAsk) (m : Next) → Follows y a (comes m [])
 comes_first y a (next.Takes d) = tt
 comes_first y a next.Stops = tt
 comes_first y a (next.Unassigned c) = tt
@@ -112,7 +113,7 @@ abbrev NotDefines : Got → Type 0
 NotDefines got.Defines = ⊥
 NotDefines g = Unit {0}
 
-value_plain : (y : Fed) (a : Ask) (g : Got) (ts : List Token) → NotDefines g → Follows y a (valued g ts [])
+value_plain : (y : Fed) (a : CommandAsk) (g : Got) (ts : List Token) → NotDefines g → Follows y a (valued g ts [])
 value_plain y a (got.Takes d) ts h = tt
 value_plain y a (got.Tells report m) ts h = tt
 value_plain y a got.Gathers ts h = tt
@@ -219,23 +220,23 @@ started_more y s c (Begins k) fits fed = begins_more y s k fits fed
 
 -- A ROW THAT IS FED WITH ONE MORE
 
-abbrev pub Keeps : Fed → Ask → Ask → Type 0
-Keeps y a b = Brings y a → HasBody a → HasBody b
+abbrev pub Keeps : Fed → CommandAsk → CommandAsk → Type 0
+Keeps y a b = Brings y (command_ask a) → HasBody (command_ask a) → HasBody (command_ask b)
 
-small_body : (onward : List Fed → Ask) → HasBody (onward []) → ((x : Seen) → Keeps (Tok x) (onward []) (onward (Tok x ∷ []))) → (fed : List Fed) → IsSuited fed → HasBody (onward fed)
+small_body : (onward : List Fed → CommandAsk) → HasBody (command_ask (onward [])) → ((x : Seen) → Keeps (Tok x) (onward []) (onward (Tok x ∷ []))) → (fed : List Fed) → IsSuited fed → HasBody (command_ask (onward fed))
 small_body onward h more [] small = h
 small_body onward h more (Tok x ∷ []) small = more x tt h
 small_body onward h more fed small = absurd small
 
-module _ (turn : Call → List Fed → Ask) (turn_more : (c : Call) (fed : List Fed) (y : Fed) → Keeps y (turn c fed) (turn c (fed ++ y ∷ [])))
-    (turn_small : (c : Call) (fed : List Fed) → IsSuited fed → HasBody (turn c fed)) where
-  abbrev After : Call → List Datum → (onward : List Datum → List Fed → Ask) → StageOutcome → Ask
+module _ (turn : Call → List Fed → CommandAsk) (turn_more : (c : Call) (fed : List Fed) (y : Fed) → Keeps y (turn c fed) (turn c (fed ++ y ∷ [])))
+    (turn_small : (c : Call) (fed : List Fed) → IsSuited fed → HasBody (command_ask (turn c fed))) where
+  abbrev After : Call → List Datum → (onward : List Datum → List Fed → CommandAsk) → StageOutcome → CommandAsk
   After c ds onward o = behind turn c ds onward o
 
-  module _ (c : Call) (ds : List Datum) (onward : List Datum → List Fed → Ask)
+  module _ (c : Call) (ds : List Datum) (onward : List Datum → List Fed → CommandAsk)
       (more : (es : List Datum) (fed : List Fed) (y : Fed) → Keeps y (onward es fed) (onward es (fed ++ y ∷ [])))
-      (small : (es : List Datum) (fed : List Fed) → IsSuited fed → HasBody (onward es fed)) where
-    follows_body : (y : Fed) (a : Ask) (o : StageOutcome) → Follows y a o → Brings y a → HasBody (After c ds onward o)
+      (small : (es : List Datum) (fed : List Fed) → IsSuited fed → HasBody (command_ask (onward es fed))) where
+    follows_body : (y : Fed) (a : CommandAsk) (o : StageOutcome) → Follows y a o → Brings y (command_ask a) → HasBody (command_ask (After c ds onward o))
     follows_body y a (Asks (Defines d n ts)) f h = absurd f
     follows_body y a (Asks b) f h = tt
     follows_body y a (Takes d fed) f h = small (ds ++ d ∷ []) fed f
@@ -246,17 +247,17 @@ module _ (turn : Call → List Fed → Ask) (turn_more : (c : Call) (fed : List 
 
     behind_more : (y : Fed) (o p : StageOutcome) → Extends y o p → Keeps y (After c ds onward o) (After c ds onward p)
     behind_more y (Asks a) p e h i = follows_body y a p e h
-    behind_more y (Takes d fed) p e h i = subst (λ (o : StageOutcome). HasBody (After c ds onward o)) (sym e) (more (ds ++ d ∷ []) fed y h i)
-    behind_more y (Passes fed) p e h i = subst (λ (o : StageOutcome). HasBody (After c ds onward o)) (sym e) (more ds fed y h i)
-    behind_more y (Gathers ts) p e h i = subst (λ (o : StageOutcome). HasBody (After c ds onward o)) (sym e) tt
-    behind_more y (Makes ts) p e h i = subst (λ (o : StageOutcome). HasBody (After c ds onward o)) (sym e) i
-    behind_more y (Becomes d fed) p e h i = subst (λ (o : StageOutcome). HasBody (After c ds onward o)) (sym e) (turn_more d fed y h i)
+    behind_more y (Takes d fed) p e h i = subst (λ (o : StageOutcome). HasBody (command_ask (After c ds onward o))) (sym e) (more (ds ++ d ∷ []) fed y h i)
+    behind_more y (Passes fed) p e h i = subst (λ (o : StageOutcome). HasBody (command_ask (After c ds onward o))) (sym e) (more ds fed y h i)
+    behind_more y (Gathers ts) p e h i = subst (λ (o : StageOutcome). HasBody (command_ask (After c ds onward o))) (sym e) tt
+    behind_more y (Makes ts) p e h i = subst (λ (o : StageOutcome). HasBody (command_ask (After c ds onward o))) (sym e) i
+    behind_more y (Becomes d fed) p e h i = subst (λ (o : StageOutcome). HasBody (command_ask (After c ds onward o))) (sym e) (turn_more d fed y h i)
 
   -- a row that was fed with nothing makes no macro
-  first_body : (c : Call) (ss : List Stage) (ds : List Datum) → HasBody (run turn c ss ds [])
+  first_body : (c : Call) (ss : List Stage) (ds : List Datum) → HasBody (command_ask (run turn c ss ds []))
   first_body c [] ds = tt
   first_body c (s ∷ ss) ds = at_start (start s c ds) where
-    at_start : (begun : Start) → HasBody (After c ds (λ es more. run turn c ss es more) (started s c begun []))
+    at_start : (begun : Start) → HasBody (command_ask (After c ds (λ es more. run turn c ss es more) (started s c begun [])))
     at_start (Looks want) = tt
     at_start (Begins k) = tt
 
@@ -267,14 +268,14 @@ module _ (turn : Call → List Fed → Ask) (turn_more : (c : Call) (fed : List 
       (λ es fed small. small_body (λ more. run turn c ss es more) (first_body c ss es) (λ x. run_more c ss es [] (Tok x)) fed small) y
       (started s c (start s c ds) fed) (started s c (start s c ds) (fed ++ y ∷ [])) (started_more y s c (start s c ds) (start_fits s c ds) fed)
 
-  run_small : (c : Call) (ss : List Stage) (ds : List Datum) (fed : List Fed) → IsSuited fed → HasBody (run turn c ss ds fed)
+  run_small : (c : Call) (ss : List Stage) (ds : List Datum) (fed : List Fed) → IsSuited fed → HasBody (command_ask (run turn c ss ds fed))
   run_small c ss ds fed small = small_body (λ more. run turn c ss ds more) (first_body c ss ds) (λ x. run_more c ss ds [] (Tok x)) fed small
 
 -- a command that goes on as another does so once
 turned_more : (c : Call) (fed : List Fed) (y : Fed) → Keeps y (turned c fed) (turned c (fed ++ y ∷ []))
 turned_more c fed y = run_more no_turn (λ c fed y h i. tt) (λ c fed small. tt) c (stages_of c.head) [] fed y
 
-turned_small : (c : Call) (fed : List Fed) → IsSuited fed → HasBody (turned c fed)
+turned_small : (c : Call) (fed : List Fed) → IsSuited fed → HasBody (command_ask (turned c fed))
 turned_small c fed small = run_small no_turn (λ c fed y h i. tt) (λ c fed small. tt) c (stages_of c.head) [] fed small
 
 pub row_more : (c : Call) (fed : List Fed) (y : Fed) → Keeps y (row c fed) (row c (fed ++ y ∷ []))

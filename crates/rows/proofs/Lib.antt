@@ -3,3 +3,4 @@ pub mod Runs
 pub mod Bodies
 pub mod Suiting
 pub mod Bounds
+pub mod Commands

@@ -23,7 +23,8 @@ use Rattle.rows.specs.declared.stage.Note.TheVariants as note
 use Rattle.rows.specs.declared.command.Call.{Call}
 use Rattle.rows.specs.declared.command.Effect.{Effect}
 use Rattle.rows.specs.declared.command.Effect.TheVariants as effect
-use Rattle.rows.specs.Readings.{Fed, Tok, Val, Noted, Ask, More, Inner, Acts, ActsOn, Defines, Ends}
+use Rattle.rows.specs.Readings.{Fed, Tok, Val, Noted}
+use Rattle.rows.specs.Commands.{CommandAsk, More, Inner, Acts, ActsOn, Defines, Ends}
 use Rattle.rows.specs.Table.{stages_of, value_stage}
 use Rattle.rows.specs.Stages.{start, value_phrase, on_token, on_value, numbered_by, name, location}
 use Rattle.rows.proofs.Tokens.{IsLow, MetLow, token_low}
@@ -55,7 +56,7 @@ start_low s c ds = tt
 
 -- a law speaks of an answer, and of whether a note came last
 module _
-    (P : Bool → Ask → Type 0)
+    (P : Bool → CommandAsk → Type 0)
     (more : (b : Bool) (want : Want) → P b (More want))
     (begin : (b : Bool) (k : Phrase) (begins : Bool) → IsLow k → P b (Inner k begins))
     (act : (b : Bool) (c : Call) (e : Effect) → P b (Acts c e))
@@ -134,8 +135,8 @@ module _
     started_fits s c (Looks want) low b fed = looks_fits s c want b fed
     started_fits s c (Begins k) low b fed = begins_fits s k low b fed
 
-    module _ (turn : Call → List Fed → Ask) (turns : (c : Call) (b : Bool) (fed : List Fed) → P (is_noted b fed) (turn c fed)) where
-      behind_holds : (c : Call) (ds : List Datum) (onward : List Datum → List Fed → Ask) → ((es : List Datum) (b : Bool) (fed : List Fed) → P (is_noted b fed) (onward es fed)) →
+    module _ (turn : Call → List Fed → CommandAsk) (turns : (c : Call) (b : Bool) (fed : List Fed) → P (is_noted b fed) (turn c fed)) where
+      behind_holds : (c : Call) (ds : List Datum) (onward : List Datum → List Fed → CommandAsk) → ((es : List Datum) (b : Bool) (fed : List Fed) → P (is_noted b fed) (onward es fed)) →
           (t : Bool) (o : StageOutcome) → Fits t o → P t (behind turn c ds onward o)
       behind_holds c ds onward h t (Asks a) fits = fits
       behind_holds c ds onward h t (Takes d fed) (b, e) = subst (λ (t : Bool). P t (onward (ds ++ d ∷ []) fed)) (sym e) (h (ds ++ d ∷ []) b fed)

@@ -51,7 +51,8 @@ use Rattle.rows.specs.declared.command.Effect.TheVariants as effect
 use Rattle.rows.specs.Arithmetic.{number_in, glue_in}
 use Rattle.rows.specs.Effects.{comes_to, set_to, list_to, value_made, shows_datum}
 use Rattle.rows.specs.Internal.{byte_of, first_integer, last_integer, first_dimension, last_dimension, first_glue, last_glue, first_list, last_list, location_in, internal_of, internal_parameter, internal_primitive, is_glue, is_list, list_of, list_parameter, or_else, value_of, variable_of, variable_primitive}
-use Rattle.rows.specs.Readings.{Fed, Tok, Val, Noted, Ask}
+use Rattle.rows.specs.Readings.{Fed, Tok, Val, Noted}
+use Rattle.rows.specs.Commands.{CommandAsk, command_ask}
 use Rattle.rows.specs.Run.{StageOutcome, Asks, Takes, Passes, Gathers, Makes, Becomes, comes, due, noted, valued, inner, begins, numbers, met_with, looks, again, started, behind, run, no_turn, turned, row}
 use Rattle.rows.specs.Stages.{datum_at, location_read, start, internal_met, numbered_by, on_token, on_value, on_datum, on_list}
 use Rattle.rows.specs.Table.{stages_in, stages_of, find_row, parameter_row, row_among, row_or_token, action_of, assignment_to}
@@ -120,7 +121,7 @@ GotFits s (got.Tells report m) = NextFits s m
 GotFits s g = Unit {0}
 
 abbrev Fits : Stage → StageOutcome → Type 0
-Fits s (Asks a) = AsksSuited a
+Fits s (Asks a) = AsksSuited (command_ask a)
 Fits s (Takes d fed) = IsRead s d
 Fits s (Passes fed) = MayPass s
 Fits s o = Unit {0}
@@ -286,7 +287,7 @@ numbered_fits : (s : Stage) (b : Bank) → ((n : ℕ) → IsRead s (datum.At (lo
 numbered_fits s b h (value.Plain (datum.Number n)) = range_fits (is_at_most 255 n) s n _ _ (λ is. h (byte_of n)) (h 0)
 numbered_fits s b h v = h 0
 
-due_sets : (n : Note) → AsksSuited (due n)
+due_sets : (n : Note) → AsksSuited (command_ask (due n))
 due_sets (note.Tells report back) = tt
 due_sets (note.Inserts t report back) = tt
 due_sets (note.Relaxes c n) = tt
@@ -359,9 +360,9 @@ abbrev ReadsSmall : Action → List Stage → List Datum → Type 0
 ReadsSmall a [] ds = IsSuited (comes_to a ds)
 ReadsSmall a (s ∷ ss) ds = IsSuited (comes_to a ds) × (((d : Datum) → IsRead s d → ReadsSmall a ss (ds ++ d ∷ [])) × (MayPass s → ReadsSmall a ss ds))
 
-module _ (turn : Call → List Fed → Ask) (turns : (c : Call) (fed : List Fed) → AsksSuited (turn c fed)) where
-  behind_sets : (c : Call) (s : Stage) (ds : List Datum) (onward : List Datum → List Fed → Ask) → IsSuited (comes_to (action_of c.head) ds) → ((d : Datum) → IsRead s d → (fed : List Fed) → AsksSuited (onward (ds ++ d ∷ []) fed)) → (MayPass s → (fed : List Fed) → AsksSuited (onward ds fed)) →
-      (o : StageOutcome) → Fits s o → AsksSuited (behind turn c ds onward o)
+module _ (turn : Call → List Fed → CommandAsk) (turns : (c : Call) (fed : List Fed) → AsksSuited (command_ask (turn c fed))) where
+  behind_sets : (c : Call) (s : Stage) (ds : List Datum) (onward : List Datum → List Fed → CommandAsk) → IsSuited (comes_to (action_of c.head) ds) → ((d : Datum) → IsRead s d → (fed : List Fed) → AsksSuited (command_ask (onward (ds ++ d ∷ []) fed))) → (MayPass s → (fed : List Fed) → AsksSuited (command_ask (onward ds fed))) →
+      (o : StageOutcome) → Fits s o → AsksSuited (command_ask (behind turn c ds onward o))
   behind_sets c s ds onward now h i (Asks a) fits = fits
   behind_sets c s ds onward now h i (Takes d fed) fits = h d fits fed
   behind_sets c s ds onward now h i (Passes fed) fits = i fits fed
@@ -369,7 +370,7 @@ module _ (turn : Call → List Fed → Ask) (turns : (c : Call) (fed : List Fed)
   behind_sets c s ds onward now h i (Makes ts) fits = tt
   behind_sets c s ds onward now h i (Becomes d fed) fits = turns d fed
 
-  run_sets : (c : Call) (ss : List Stage) (ds : List Datum) → ReadsSmall (action_of c.head) ss ds → (fed : List Fed) → AsksSuited (run turn c ss ds fed)
+  run_sets : (c : Call) (ss : List Stage) (ds : List Datum) → ReadsSmall (action_of c.head) ss ds → (fed : List Fed) → AsksSuited (command_ask (run turn c ss ds fed))
   run_sets c [] ds h fed = h
   run_sets c (s ∷ ss) ds h fed =
       behind_sets c s ds (λ es more. run turn c ss es more) h.0 (λ d read more. run_sets c ss (ds ++ d ∷ []) (h.1.0 d read) more) (λ pass more. run_sets c ss ds (h.1.1 pass) more)
@@ -593,6 +594,6 @@ head_reads (Register register.Toks n) = refl
 reads_small : (h : Head) → ReadsSmall (action_of h) (stages_of h) []
 reads_small h = row_reads (action_of h) (stages_of h) (head_reads h)
 
-pub row_sets : (c : Call) (fed : List Fed) → AsksSuited (row c fed)
+pub row_sets : (c : Call) (fed : List Fed) → AsksSuited (command_ask (row c fed))
 row_sets c fed =
     run_sets turned (λ d more. run_sets no_turn (λ e rest. tt) d (stages_of d.head) [] (reads_small d.head) more) c (stages_of c.head) [] (reads_small c.head) fed

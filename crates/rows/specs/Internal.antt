@@ -5,6 +5,8 @@ use Rattle.tex_defs.specs.declared.Meaning.TheVariants as means
 use Rattle.tex_defs.specs.declared.RegisterKind.TheVariants as register
 use Rattle.tex_syntax.specs.declared.words.Report.{Report}
 use Rattle.tex_syntax.specs.declared.words.Report.TheVariants as report
+use Rattle.prim_table.specs.declared.Class.TheVariants as class
+use Rattle.prim_table.specs.Primitives.{first_number, last_number, row_size}
 use Rattle.plain_tokens.specs.Categories.{is_between}
 use Rattle.plain_tokens.specs.Numerals.{whole_number, scaled}
 use Rattle.equivalents.specs.declared.values.CodeKind.TheVariants as code
@@ -35,22 +37,22 @@ bad_number (bank.Registers kind) n = report.BadRegisterCode n
 
 -- the first and the last of the parameters that are integers, and the first and the last of those that are dimensions and glue
 abbrev pub first_integer : ℕ
-first_integer = 85
+first_integer = first_number class.IntegerParameter
 
 abbrev pub last_integer : ℕ
-last_integer = 139
+last_integer = last_number class.IntegerParameter
 
 abbrev pub first_dimension : ℕ
-first_dimension = 140
+first_dimension = first_number class.DimensionParameter
 
 abbrev pub last_dimension : ℕ
-last_dimension = 160
+last_dimension = last_number class.DimensionParameter
 
 abbrev pub first_glue : ℕ
-first_glue = 161
+first_glue = first_number class.GlueParameter
 
 abbrev pub last_glue : ℕ
-last_glue = 178
+last_glue = last_number class.GlueParameter
 
 abbrev pub internal_parameter : ℕ → Option Internal
 internal_parameter n =
@@ -86,10 +88,10 @@ internal_of m = None
 -- LISTS OF TOKENS: the registers of `\toks` and the last eight parameters
 
 abbrev pub first_list : ℕ
-first_list = 179
+first_list = first_number class.TokenParameter
 
 abbrev pub last_list : ℕ
-last_list = 186
+last_list = last_number class.TokenParameter
 
 abbrev pub list_parameter : ℕ → Option Internal
 list_parameter n = if is_between first_list last_list n then Some (internal.At (loc.Tokens (n - first_list))) else None
@@ -143,11 +145,11 @@ with_sign negative n = if negative then (pos 0 -ℤ n) else n
 -- a location that is there, and no name's
 abbrev pub is_fetchable : Loc → Bool
 is_fetchable (loc.Code kind c) = nat_lt c 256
-is_fetchable (loc.Integer i) = nat_lt i 55
-is_fetchable (loc.Dimension i) = nat_lt i 21
-is_fetchable (loc.Glue i) = nat_lt i 18
+is_fetchable (loc.Integer i) = nat_lt i (row_size class.IntegerParameter)
+is_fetchable (loc.Dimension i) = nat_lt i (row_size class.DimensionParameter)
+is_fetchable (loc.Glue i) = nat_lt i (row_size class.GlueParameter)
 is_fetchable (loc.Register kind n) = nat_lt n 256
-is_fetchable (loc.Tokens i) = nat_lt i 8
+is_fetchable (loc.Tokens i) = nat_lt i (row_size class.TokenParameter)
 is_fetchable (loc.Means n) = false
 
 abbrev pub IsFetchable : Loc → Type 0

@@ -4,6 +4,7 @@ use Rattle.rows.specs.declared.words.Phrase.{Phrase}
 use Rattle.rows.specs.declared.words.Phrase.TheVariants.{Command, Definition}
 use Rattle.rows.specs.declared.command.Call.{Call}
 use Rattle.rows.specs.Readings.{Fed, Val, Noted, Ask, More, Inner, Done, Defines, Tells, Inserts, Puts, Fetches, Magnifies}
+use Rattle.rows.specs.Commands.{command_ask}
 use Rattle.rows.specs.Suiting.{AsksSuited}
 use Rattle.rows.specs.Run.{row}
 
@@ -14,7 +15,7 @@ Starts (Inner k begins) = Unit {0}
 Starts a = ⊥
 
 abbrev pub ReadingsStart : Type 0
-ReadingsStart = (c : Call) → Starts (row c [])
+ReadingsStart = (c : Call) → Starts (command_ask (row c []))
 
 -- RANKS: a command begins only readings of a lower rank, so it begins no command.
 abbrev pub rank : Phrase → ℕ
@@ -26,7 +27,7 @@ BeginsLower n (Inner k begins) = rank k < n
 BeginsLower n a = Unit {0}
 
 abbrev pub ReadingsBeginLower : Type 0
-ReadingsBeginLower = (c : Call) (fed : List Fed) → BeginsLower (rank (Command c)) (row c fed)
+ReadingsBeginLower = (c : Call) (fed : List Fed) → BeginsLower (rank (Command c)) (command_ask (row c fed))
 
 -- A COMMAND HAS NO VALUE, asks neither for what stands at a location nor for the magnification, and puts no token back by itself
 abbrev pub IsValueless : Ask → Type 0
@@ -37,7 +38,7 @@ IsValueless (Puts t more) = ⊥
 IsValueless a = Unit {0}
 
 abbrev pub RowsHaveNoValue : Type 0
-RowsHaveNoValue = (c : Call) (fed : List Fed) → IsValueless (row c fed)
+RowsHaveNoValue = (c : Call) (fed : List Fed) → IsValueless (command_ask (row c fed))
 
 -- NOTES: a report comes only where none was the last.
 abbrev pub is_noted : Bool → List Fed → Bool
@@ -51,7 +52,7 @@ NotesOnce b (Inserts t report back) = b ≡ false
 NotesOnce b a = Unit {0}
 
 abbrev pub NotesAreSingle : Type 0
-NotesAreSingle = (c : Call) (fed : List Fed) → NotesOnce (is_noted false fed) (row c fed)
+NotesAreSingle = (c : Call) (fed : List Fed) → NotesOnce (is_noted false fed) (command_ask (row c fed))
 
 -- MACROS: a list that becomes a macro's has a token, where each value of a definition's reading has one.
 abbrev pub HasBody : Ask → Type 0
@@ -64,8 +65,8 @@ Brings (Val v ts) (Inner (Definition n expanded) begins) = ts ≢ []
 Brings y a = Unit {0}
 
 abbrev pub MacrosHaveBodies : Type 0
-MacrosHaveBodies = (c : Call) (fed : List Fed) (y : Fed) → Brings y (row c fed) → HasBody (row c fed) → HasBody (row c (fed ++ y ∷ []))
+MacrosHaveBodies = (c : Call) (fed : List Fed) (y : Fed) → Brings y (command_ask (row c fed)) → HasBody (command_ask (row c fed)) → HasBody (command_ask (row c (fed ++ y ∷ [])))
 
 -- LOCATIONS: what a command sets suits its location, and what it uses is there.
 abbrev pub EffectsSuit : Type 0
-EffectsSuit = (c : Call) (fed : List Fed) → AsksSuited (row c fed)
+EffectsSuit = (c : Call) (fed : List Fed) → AsksSuited (command_ask (row c fed))

@@ -3,6 +3,7 @@ pub mod Internal
 pub mod Arithmetic
 pub mod Table
 pub mod Readings
+pub mod Commands
 pub mod Suiting
 pub mod Stages
 pub mod Tests

@@ -20,7 +20,8 @@ use Rattle.rows.specs.declared.stage.Note.TheVariants as note
 use Rattle.rows.specs.declared.command.Effect.TheVariants as effect
 use Rattle.rows.specs.declared.command.Call.{Call}
 use Rattle.rows.specs.Table.{stages_of}
-use Rattle.rows.specs.Readings.{Fed, Tok, Val, Noted, Ask, More, Inner, Acts, ActsOn, Defines, Ends, Tells, Inserts, Relaxes}
+use Rattle.rows.specs.Readings.{Fed, Tok, Val, Noted}
+use Rattle.rows.specs.Commands.{CommandAsk, More, Inner, Acts, ActsOn, Defines, Ends, Tells, Inserts, Relaxes}
 use Rattle.rows.specs.Stages.{start, on_token, on_value, numbered_by, name}
 use Rattle.rows.specs.Effects.{command_effect, as_definition}
 
@@ -29,7 +30,7 @@ use Rattle.rows.specs.Effects.{command_effect, as_definition}
 -- What comes of a stage: it asks for something; it has read this, or nothing that is kept, and these are for the next stage; it has
 -- gathered a list, which is the last thing that a command reads, or that of a macro; or the command goes on as another.
 pub data StageOutcome : Type 0 where
-  Asks : Ask → StageOutcome
+  Asks : CommandAsk → StageOutcome
   Takes : Datum → List Fed → StageOutcome
   Passes : List Fed → StageOutcome
   Gathers : List Token → StageOutcome
@@ -46,7 +47,7 @@ comes next.Stops fed = Asks Ends
 comes (next.Unassigned c) fed = Asks (Acts c effect.Unassigned)
 comes (next.Becomes c) fed = Becomes c fed
 
-abbrev pub due : Note → Ask
+abbrev pub due : Note → CommandAsk
 due (note.Tells report back) = Tells report back
 due (note.Inserts t report back) = Inserts t report back
 due (note.Relaxes c n) = Relaxes c n
@@ -114,7 +115,7 @@ started s c (Begins k) fed = begins s k fed
 -- ROWS
 
 -- what a command asks for behind a stage; `turn` is what comes where it goes on as another
-abbrev pub behind : (turn : Call → List Fed → Ask) → Call → List Datum → (onward : List Datum → List Fed → Ask) → StageOutcome → Ask
+abbrev pub behind : (turn : Call → List Fed → CommandAsk) → Call → List Datum → (onward : List Datum → List Fed → CommandAsk) → StageOutcome → CommandAsk
 behind turn c ds onward (Asks a) = a
 behind turn c ds onward (Takes d fed) = onward (ds ++ d ∷ []) fed
 behind turn c ds onward (Passes fed) = onward ds fed
@@ -123,16 +124,16 @@ behind turn c ds onward (Makes ts) = Defines (as_definition c) (name 0 ds) ts
 behind turn c ds onward (Becomes d fed) = turn d fed
 
 -- The stages are read one behind the other, each from what the one before it left; behind the last the command does what it does.
-abbrev pub run : (turn : Call → List Fed → Ask) → Call → List Stage → List Datum → List Fed → Ask
+abbrev pub run : (turn : Call → List Fed → CommandAsk) → Call → List Stage → List Datum → List Fed → CommandAsk
 run turn c [] ds fed = Acts c (command_effect c ds)
 run turn c (s ∷ ss) ds fed = behind turn c ds (λ es more. run turn c ss es more) (started s c (start s c ds) fed)
 
 -- A command goes on as another once: prefixes as the assignment behind them.
-abbrev pub no_turn : Call → List Fed → Ask
+abbrev pub no_turn : Call → List Fed → CommandAsk
 no_turn c fed = Ends
 
-abbrev pub turned : Call → List Fed → Ask
+abbrev pub turned : Call → List Fed → CommandAsk
 turned c fed = run no_turn c (stages_of c.head) [] fed
 
-abbrev pub row : Call → List Fed → Ask
+abbrev pub row : Call → List Fed → CommandAsk
 row c fed = run turned c (stages_of c.head) [] fed

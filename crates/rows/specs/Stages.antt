@@ -10,6 +10,8 @@ use Rattle.tex_defs.specs.declared.Seen.{Seen}
 use Rattle.tex_syntax.specs.declared.words.Want.TheVariants as want
 use Rattle.tex_syntax.specs.declared.words.Report.{Report}
 use Rattle.tex_syntax.specs.declared.words.Report.TheVariants as report
+use Rattle.prim_table.specs.declared.Class.TheVariants as class
+use Rattle.prim_table.specs.Primitives.{first_number, last_number}
 use Rattle.plain_tokens.specs.Tokens.{is_other, is_space, is_space_token}
 use Rattle.plain_tokens.specs.Categories.{is_between}
 use Rattle.plain_tokens.specs.Names.{name_of, means_relax, means_primitive, is_definition_primitive, long_primitive, outer_primitive, global_primitive, def_primitive}
@@ -194,11 +196,11 @@ is_definition m = false
 
 -- the number of the last primitive that is an assignment: `\read`
 abbrev pub last_assignment : ℕ
-last_assignment = 53
+last_assignment = last_number class.Assignment
 
 -- the number of the first parameter; the parameters are the last primitives
 abbrev pub first_parameter : ℕ
-first_parameter = 85
+first_parameter = first_number class.IntegerParameter
 
 -- the assignments that are read by rows
 abbrev pub is_assignment : Meaning Unit → Bool

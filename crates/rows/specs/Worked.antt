@@ -40,7 +40,8 @@ use Rattle.rows.specs.declared.command.Action.TheVariants as action
 use Rattle.rows.specs.declared.command.Row.{Row}
 use Rattle.rows.specs.declared.command.TheConstants.{SYNTAX}
 use Rattle.rows.specs.Table.{has_row, reads_under_normal, stages_in}
-use Rattle.rows.specs.Readings.{Fed, Tok, Val, Noted, Ask, More, Inner, Acts, ActsOn, Defines, Ends, Tells, Inserts, Relaxes}
+use Rattle.rows.specs.Readings.{Fed, Tok, Val, Noted}
+use Rattle.rows.specs.Commands.{CommandAsk, More, Inner, Acts, ActsOn, Defines, Ends, Tells, Inserts, Relaxes}
 use Rattle.rows.specs.Run.{row}
 
 -- WHAT COMES
@@ -141,12 +142,12 @@ register_call n = record { head = head.Register register.Count n; name = x_name;
 abbrev pub name_call : RegisterKind → (number : ℕ) → Call
 name_call kind n = record (register_call n) { head = head.Register kind n }
 
--- all that it asks for, before each item and behind the last
-abbrev pub asked : (List Fed → Ask) → List Fed → List Ask
+-- all that is asked for, before each item and behind the last
+abbrev pub asked : {A : Type 0} → (List Fed → A) → List Fed → List A
 asked ask [] = ask [] ∷ []
 asked ask (item ∷ fed) = ask [] ∷ asked (λ more. ask (item ∷ more)) fed
 
-abbrev pub steps : ℕ → List Fed → List Ask
+abbrev pub steps : ℕ → List Fed → List CommandAsk
 steps n fed = asked (row (call n)) fed
 
 -- `\ignorespaces`, `\message`, `\errmessage` and `\show`
@@ -516,17 +517,17 @@ abbrev pub implicit_less : Seen
 implicit_less = record { token = token.Named x_name; meaning = means.Char other 60 }
 
 -- a conditional goes on by this truth of its test
-abbrev pub chooses : ℕ → Bool → Ask
+abbrev pub chooses : ℕ → Bool → CommandAsk
 chooses n truth = Acts (call n) (effect.Choose (Truth truth))
 
 -- what `\ifnum` and what `\ifdim` asks for, where a relation stands between the values, and where it is missing, and what comes of the test
-abbrev pub related : Bool → List Ask
+abbrev pub related : Bool → List CommandAsk
 related truth = Inner Integer false ∷ More Nonblank ∷ Inner Integer false ∷ chooses 67 truth ∷ []
 
-abbrev pub unrelated : Bool → List Ask
+abbrev pub unrelated : Bool → List CommandAsk
 unrelated truth = Inner Integer false ∷ More Nonblank ∷ Tells (MissingRelation 67) true ∷ Inner Integer false ∷ chooses 67 truth ∷ []
 
-abbrev pub measures : Bool → List Ask
+abbrev pub measures : Bool → List CommandAsk
 measures truth = Inner (Dimension in_points) false ∷ More Nonblank ∷ Inner (Dimension in_points) false ∷ chooses 68 truth ∷ []
 
 -- `\ifnum1<2`, `\ifnum2<2`, `\ifnum-2=-2`, `\ifnum2>-2` and `\ifnum2>2`; a letter in place of the relation, `<` of category 11 and a name that means `<`, where
@@ -559,7 +560,7 @@ pub record WorkedNumberTests : Type 0 where
       steps 76 (number (negsuc 0) ∷ Noted ∷ []) ≡ Inner Integer false ∷ Tells (BadRegisterCode (negsuc 0)) false ∷ chooses 76 false ∷ []
 
 -- what `\if` (65) and what `\ifcat` (66) asks for, and what comes of the test
-abbrev pub sees : ℕ → Bool → List Ask
+abbrev pub sees : ℕ → Bool → List CommandAsk
 sees n truth = More Expanded ∷ More Expanded ∷ chooses n truth ∷ []
 
 -- the characters `a` of category 12 and `b`, and `\x` as a name that means the letter `a`

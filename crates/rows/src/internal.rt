@@ -3,13 +3,9 @@ ghost use Rattle.std.specs.Prelude.{◌≡◌, ◌-◌, ◌≤◌, ◌<◌};
 ghost use Rattle.rows.specs.Internal as internal;
 
 use equivalents::{CodeKind, Loc};
+use prim_table::{Class, first_number, is_in_row, row_size};
 use tex_defs::{Meaning, RegisterKind};
 use tex_syntax::Report;
-
-/// The first and the last of the parameters that are integers.
-const FIRST_INTEGER: u16 = 85;
-
-const LAST_INTEGER: u16 = 139;
 
 /// Locations that are told by a number from 0 to 255 behind a name. *The TeXbook*, chapters 7 and 15.
 #[derive(Clone, Copy)]
@@ -65,13 +61,18 @@ pub(crate) fn internal_parameter(number: u16) -> Option<Internal>
     ensures is { result ≡ internal.internal_parameter number }
     ensures found { internal.IsFound result }
 {
-    let loc = match number {
-        FIRST_INTEGER..=LAST_INTEGER => Loc::Integer((number - FIRST_INTEGER) as u8),
-        140..=160 => Loc::Dimension((number - 140) as u8),
-        161..=178 => Loc::Glue((number - 161) as u8),
-        _ => return None,
-    };
-    Some(Internal::At(loc))
+    if is_in_row(Class::IntegerParameter, number) {
+        let i = number - first_number(Class::IntegerParameter);
+        Some(Internal::At(Loc::Integer(i as u8)))
+    } else if is_in_row(Class::DimensionParameter, number) {
+        let i = number - first_number(Class::DimensionParameter);
+        Some(Internal::At(Loc::Dimension(i as u8)))
+    } else if is_in_row(Class::GlueParameter, number) {
+        let i = number - first_number(Class::GlueParameter);
+        Some(Internal::At(Loc::Glue(i as u8)))
+    } else {
+        None
+    }
 }
 
 /// What a primitive stands for where a number is read.
@@ -118,9 +119,11 @@ pub(crate) fn list_parameter(number: u16) -> Option<Internal>
     ensures is { result ≡ internal.list_parameter number }
     ensures found { internal.IsFound result }
 {
-    match number {
-        179..=186 => Some(Internal::At(Loc::Tokens((number - 179) as u8))),
-        _ => None,
+    if is_in_row(Class::TokenParameter, number) {
+        let i = number - first_number(Class::TokenParameter);
+        Some(Internal::At(Loc::Tokens(i as u8)))
+    } else {
+        None
     }
 }
 
@@ -179,25 +182,16 @@ pub fn is_list(loc: Loc) -> bool
     }
 }
 
-/// How many parameters are integers, how many dimensions, glue and lists of tokens.
-const INTEGER_PARAMETERS: u8 = 55;
-
-const DIMENSION_PARAMETERS: u8 = 21;
-
-const GLUE_PARAMETERS: u8 = 18;
-
-const TOKEN_PARAMETERS: u8 = 8;
-
 /// Whether a location is there, and no name's.
 pub fn is_fetchable(loc: Loc) -> bool
     ensures { result ≡ internal.is_fetchable loc }
 {
     match loc {
         Loc::Code { .. } | Loc::Register { .. } => true,
-        Loc::Integer(i) => i < INTEGER_PARAMETERS,
-        Loc::Dimension(i) => i < DIMENSION_PARAMETERS,
-        Loc::Glue(i) => i < GLUE_PARAMETERS,
-        Loc::Tokens(i) => i < TOKEN_PARAMETERS,
+        Loc::Integer(i) => u16::from(i) < row_size(Class::IntegerParameter),
+        Loc::Dimension(i) => u16::from(i) < row_size(Class::DimensionParameter),
+        Loc::Glue(i) => u16::from(i) < row_size(Class::GlueParameter),
+        Loc::Tokens(i) => u16::from(i) < row_size(Class::TokenParameter),
         Loc::Means(_) => false,
     }
 }

@@ -5,7 +5,9 @@ use Rattle.tex_defs.specs.declared.Name.{Name}
 use Rattle.tex_defs.specs.declared.Token.{Token}
 use Rattle.tex_syntax.specs.declared.words.Want.TheVariants.{Raw}
 use Rattle.plain_tokens.specs.Arguments as call
-use Rattle.plain_tokens.specs.Arguments.{ParMode, Short, Checked, Case, Argument, ExtraBrace, ParEnded, Skipped, Going, Found, Gathered, Failed, case_at, search, same, start_of, places_of, delimiters_of, is_nil, is_some_place, has_parameters, mode_of}
+use Rattle.plain_tokens.specs.declared.par_mode.ParMode.{ParMode}
+use Rattle.plain_tokens.specs.declared.par_mode.ParMode.TheVariants.{Short, Checked}
+use Rattle.plain_tokens.specs.Arguments.{Case, Argument, ExtraBrace, ParEnded, Skipped, Going, Found, Gathered, Failed, case_at, search, same, start_of, places_of, delimiters_of, is_nil, is_some_place, has_parameters, mode_of}
 use Rattle.rows.specs.Readings.{Fed, Tok, Noted, Cut, More}
 use Rattle.plain_readings.specs.Calls.{call_ask, call_fed, gathered, arguments}
 

@@ -1,5 +1,7 @@
 -- The moves of an expansion, and of a command that begins: none of them touches a reading that was open.
 use Rattle.std.proofs.Common.{◌≡◌, ℕ, List, [], ◌∷◌, ◌++◌, map, slice_index_or, Bool, true, false, refl}
+use Rattle.prim_table.specs.Primitives.{is_expanded, is_in_row}
+use Rattle.prim_table.specs.declared.Class.TheVariants as class
 use Rattle.std.specs.Prelude.{Option, Some, None, if◌then◌else◌, ◌||◌, nat_eq, nat_lt}
 use Rattle.tex_syntax.specs.declared.words.Want.{Want}
 use Rattle.tex_syntax.specs.declared.words.Want.TheVariants.{Raw, Unentered, Expanded, Copied, Nonblank, Command}
@@ -15,7 +17,7 @@ use Rattle.tex_defs.specs.declared.Token.TheVariants as token
 use Rattle.tex_defs.specs.declared.Fatal.TheVariants.{HundredErrors}
 use Rattle.tex_defs.specs.Places.{Transcript}
 use Rattle.tex_defs.specs.declared.Name.{Name}
-use Rattle.plain_tokens.specs.Categories.{begin_group, end_group, is_between}
+use Rattle.plain_tokens.specs.Categories.{begin_group, end_group}
 use Rattle.plain_tokens.specs.Names.{name_of, means_relax, relax_primitive, end_primitive}
 use Rattle.plain_tokens.specs.Tokens.{is_space, is_undefined, made_text}
 use Rattle.plain_tokens.specs.Meanings.{fi_primitive, name_meaning, seen_as}
@@ -40,7 +42,7 @@ use Rattle.conditionals.specs.declared.skip.Ender.TheVariants.{Fi, Else, Or}
 use Rattle.conditionals.specs.Choices as choices
 use Rattle.conditionals.specs.Limits as limits
 use Rattle.conditionals.specs.Open.{limit_of, constant_test}
-use Rattle.conditionals.specs.Skipping.{first_conditional, else_primitive, or_primitive, ender_number}
+use Rattle.conditionals.specs.Skipping.{else_primitive, or_primitive, ender_number}
 use Rattle.save_stack.specs.declared.GroupKind.{GroupKind}
 use Rattle.save_stack.specs.declared.GroupKind.TheVariants.{Simple, SemiSimple}
 use Rattle.plain_state.specs.Reports.{hundred_line, token_line_bytes}
@@ -50,7 +52,7 @@ use Rattle.rows.specs.Table.{has_row}
 use Rattle.plain_readings.specs.Spelling.{endcsname_primitive}
 use Rattle.plain_readings.specs.Readings.{Spelling, FileName, Arguments}
 use Rattle.plain_machine.specs.States.{Move, FileEnds, NameInProgress, Grows, ListGrown, Assigned, GroupOpened, Begun, Closed, Written, Stopped}
-use Rattle.plain_machine.specs.Plan.{Page, style_of, entered, reported, reports_room, put_inserted, put_one, put_made, put_text, put_characters, token_line, conditionals_left, finish, command, register, primitive, call_of, begun, csname_primitive, jobname_primitive, input_primitive, endinput_primitive, input_met, frozen_relax, skips, limited_or_skips, chosen, conditional_begun, ender_comes, ender_met, conditional_met, is_expandable_primitive, job_in, expansion, begingroup_primitive, endgroup_primitive, put_each, brace_met, endgroup_met, character, called, called_meaning, called_list, put_body, body_put, stomach, wanted, expanded, expanded_as, given_back, behind_assignment, kept_for_group, passed, ended_by, reached, name_made, relax_if_undefined, spelt, newly_spelt}
+use Rattle.plain_machine.specs.Plan.{Page, style_of, entered, reported, reports_room, put_inserted, put_one, put_made, put_text, put_characters, token_line, conditionals_left, finish, command, register, primitive, call_of, begun, csname_primitive, jobname_primitive, input_primitive, endinput_primitive, input_met, frozen_relax, skips, limited_or_skips, chosen, conditional_begun, ender_comes, ender_met, conditional_met, job_in, expansion, begingroup_primitive, endgroup_primitive, put_each, brace_met, endgroup_met, character, called, called_meaning, called_list, put_body, body_put, stomach, wanted, expanded, expanded_as, given_back, behind_assignment, kept_for_group, passed, ended_by, reached, name_made, relax_if_undefined, spelt, newly_spelt}
 use Rattle.run_laws.proofs.Keeping.{Calm, calm_join, Begins, calm_begins, one_of}
 
 -- MOVES THAT LEAVE THE READINGS
@@ -86,11 +88,6 @@ grown_calm (t ∷ ts) = grown_calm ts
 pub inserted_calm : (o : Option Token) → Calm (put_inserted o)
 inserted_calm None = tt
 inserted_calm (Some t) = tt
-
--- the tokens behind a group, put in front one behind the other
-each_calm : (ts : List Token) → Calm (put_each ts)
-each_calm [] = tt
-each_calm (t ∷ ts) = calm_join (put_one t) (put_each ts) tt (each_calm ts)
 
 left_calm : (style : Style) (cs : List Conditional) → Calm (conditionals_left style cs)
 left_calm style [] = tt
@@ -262,7 +259,7 @@ expansion_begins page t n =
     let name : List Move = put_characters (job_in page.strings) in
     let job : List Move = begun t (Primitive n) ++ (name ++ Closed ∷ []) in
     let c : Call = call_of t (Primitive n) in
-    let testing : List Move = if is_between first_conditional or_primitive n then conditional_met page t c n else begun t (Primitive n) in
+    let testing : List Move = if is_in_row class.Conditional n then conditional_met page t c n else begun t (Primitive n) in
     let ending : List Move = if nat_eq n endinput_primitive then FileEnds ∷ [] else testing in
     let beginning : List Move = if nat_eq n input_primitive then input_met page t c else ending in
     let others : List Move = if nat_eq n jobname_primitive then job else beginning in
@@ -270,14 +267,14 @@ expansion_begins page t n =
     (begins_if (nat_eq n jobname_primitive) job beginning (calm_begins true name (Closed ∷ []) (characters_calm (job_in page.strings)) tt)
     (begins_if (nat_eq n input_primitive) (input_met page t c) ending (input_begins page t c)
     (begins_if (nat_eq n endinput_primitive) (FileEnds ∷ []) testing tt
-    (begins_if (is_between first_conditional or_primitive n) (conditional_met page t c n) (begun t (Primitive n)) (conditional_begins page t c n) tt))))
+    (begins_if (is_in_row class.Conditional n) (conditional_met page t c n) (begun t (Primitive n)) (conditional_begins page t c n) tt))))
 
 -- what is true of moves by which a reading may begin, and of these moves, is true where a token is expanded, or comes to these moves
 module _ (P : List Move → Type 0) (begins : (ms : List Move) → Begins false ms → P ms) (page : Page) (moves : List Move) (h : P moves) where
   as_holds : (t : Token) (m : Meaning Unit) → P (expanded_as page t m moves)
   as_holds t means.Undefined = begins (reported page reports.UndefinedName []) (reported_begins page reports.UndefinedName)
   as_holds t (means.Macro long outer list) = begins (called page t) (called_begins page t)
-  as_holds t (means.Prim n) = one_of P (is_expandable_primitive n) (expansion page t n) moves (begins (expansion page t n) (expansion_begins page t n)) h
+  as_holds t (means.Prim n) = one_of P (is_expanded n) (expansion page t n) moves (begins (expansion page t n) (expansion_begins page t n)) h
   as_holds t m = h
 
   pub expanded_holds : (x : Seen) → P (expanded page x moves)

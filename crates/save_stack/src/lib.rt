@@ -164,13 +164,6 @@ impl<V> Groups<V> {
         self.levels.len() as u32
     }
 
-    /// How many locations there may be.
-    pub fn most(&self) -> u32
-        ensures { result ≡ self.now.most }
-    {
-        self.most
-    }
-
     /// Adds a location, which has this value at each level and counts as assigned at the outermost one.
     pub fn add(&mut self, value: V)
         requires { length self.old.levels < self.old.most }

@@ -7,8 +7,9 @@ use Rattle.tex_defs.specs.declared.Token.{Token}
 use Rattle.tex_defs.specs.declared.Token.TheVariants.{EndPlaces}
 use Rattle.tex_defs.specs.declared.Seen.{Seen}
 use Rattle.tex_syntax.specs.declared.words.Want.TheVariants.{Expanded}
-use Rattle.rows.specs.Readings.{Fed, Tok, Noted, More}
+use Rattle.rows.specs.Readings.{Fed, Tok, Noted}
 use Rattle.plain_tokens.specs.Tokens.{is_space}
+use Rattle.plain_readings.specs.declared.asks.KeywordAsk.TheVariants.{More}
 use Rattle.plain_readings.specs.Keywords.{letters, is_letter, is_skipped, ends_found, giving_back, keyword_from}
 use Rattle.scan_dimens.specs.Views.{letters_at, back_at, kept}
 use Rattle.scan_dimens.specs.Resumes.{resume, resume_at}

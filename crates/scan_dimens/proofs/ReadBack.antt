@@ -18,7 +18,9 @@ use Rattle.scaled_arith.specs.Scaled.{fraction_of}
 use Rattle.scan_numbers.specs.Laws.{digit}
 use Rattle.scan_numbers.proofs.Spelt.{digit_holds}
 use Rattle.char_text.proofs.Fractions.{AllNine, printed_reads}
-use Rattle.plain_readings.specs.Dimens.{Fed, Tok, Factored, Answer, Done, dimension, factored, fraction, behind_digits, with_digit, amount, finished}
+use Rattle.plain_readings.specs.Dimens.{Fed, Tok, Factored, dimension, factored, fraction, behind_digits, with_digit, amount, finished}
+use Rattle.plain_readings.specs.declared.asks.DimenAsk.{DimenAsk}
+use Rattle.plain_readings.specs.declared.asks.DimenAsk.TheVariants.{Done}
 use Rattle.scan_dimens.specs.DimenViews.{IsDimension}
 use Rattle.scan_dimens.specs.DimenWorked.{others, a_character, behind, plain}
 use Rattle.scan_dimens.specs.DimenLaws.{characters, first, IsReadBack}
@@ -60,7 +62,7 @@ begun_at c h negative fed =
 
 -- THE DIGITS BEHIND THE POINT
 
-taken : (b : Bool) (p q : Answer) → b ≡ true → (if b then p else q) ≡ p
+taken : (b : Bool) (p q : DimenAsk) → b ≡ true → (if b then p else q) ≡ p
 taken b p q e = ap (λ (b : Bool). if b then p else q) e
 
 room : (ds : List ℕ) (d : ℕ) → length ds < 17 → with_digit ds d ≡ ds ++ d ∷ []
@@ -95,7 +97,7 @@ small n h =
     ap (λ (b : Bool). if b then None else Some (pos n)) e
 
 -- behind the unit
-abbrev ended : (negative : Bool) → Option ℤ → Seen → Answer
+abbrev ended : (negative : Bool) → Option ℤ → Seen → DimenAsk
 ended negative v x = finished negative v 0 (not (is_space x)) []
 
 -- behind the signs

@@ -4,7 +4,8 @@ use Rattle.std.specs.Fmt.{decimal}
 use Rattle.tex_defs.specs.declared.Seen.{Seen}
 use Rattle.plain_tokens.specs.Numerals.{scaled}
 use Rattle.plain_tokens.specs.Tokens.{is_space}
-use Rattle.plain_readings.specs.Dimens.{Fed, Tok, Factored, Done, dimension}
+use Rattle.plain_readings.specs.Dimens.{Fed, Tok, Factored, dimension}
+use Rattle.plain_readings.specs.declared.asks.DimenAsk.TheVariants.{Done}
 use Rattle.scan_dimens.specs.DimenViews.{IsDimension}
 use Rattle.scan_dimens.specs.DimenWorked.{others, a_character, behind, plain}
 

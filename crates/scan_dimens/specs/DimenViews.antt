@@ -4,31 +4,15 @@ use Rattle.equivalents.specs.declared.values.Loc.{Loc}
 use Rattle.equivalents.specs.declared.values.Loc.TheVariants as loc
 use Rattle.rows.specs.Arithmetic.{too_large}
 use Rattle.rows.specs.Internal.{IsFetchable}
-use Rattle.plain_readings.specs.Dimens as dimens
+use Rattle.plain_readings.specs.declared.asks.DimenAsk.{DimenAsk}
+use Rattle.plain_readings.specs.declared.asks.DimenAsk.TheVariants as ask
 use Rattle.plain_readings.specs.declared.measures.Quantity.{Quantity}
 use Rattle.plain_readings.specs.declared.measures.Measure.{Measure}
 use Rattle.scan_dimens.specs.declared.decimals.Digits.{Digits}
-use Rattle.scan_dimens.specs.declared.dimen.Inner.{Inner}
-use Rattle.scan_dimens.specs.declared.dimen.Inner.TheVariants as inner
-use Rattle.scan_dimens.specs.declared.dimen.DimenAsk.{DimenAsk}
-use Rattle.scan_dimens.specs.declared.dimen.DimenAsk.TheVariants as ask
 use Rattle.scan_dimens.specs.declared.dimen.Sought.{Sought}
 use Rattle.scan_dimens.specs.declared.dimen.Sought.TheVariants as sought
 use Rattle.scan_dimens.specs.declared.dimen.DimenPlace.{DimenPlace}
 use Rattle.scan_dimens.specs.declared.dimen.DimenPlace.TheVariants as place
-
-abbrev pub inner_of : Inner → dimens.Inner
-inner_of inner.Factor = dimens.Factor
-inner_of inner.Number = dimens.Number
-inner_of (inner.Key w) = dimens.Key w
-
-abbrev pub ask_of : DimenAsk → dimens.Answer
-ask_of (ask.More want) = dimens.More want
-ask_of (ask.Begins i begins) = dimens.Begins (inner_of i) begins
-ask_of (ask.Fetches l) = dimens.Fetches l
-ask_of ask.Magnifies = dimens.Magnifies
-ask_of (ask.Tells report back) = dimens.Tells report back
-ask_of (ask.Done n order back) = dimens.Done n order back
 
 -- the digits that are kept
 abbrev pub digits_of : Digits → List ℕ

@@ -16,36 +16,39 @@ use Rattle.equivalents.specs.First.{magnification}
 use Rattle.rows.specs.declared.words.Keyword.{Keyword}
 use Rattle.rows.specs.declared.words.Keyword.TheVariants.{Fil, L, True, Em, Ex, Pt, In, Pc, Cm, Mm, Bp, Dd, Cc, Sp, Mu}
 use Rattle.rows.specs.Worked.{character, primitive, x_name, a_space}
-use Rattle.plain_readings.specs.Dimens.{Fed, Tok, Factored, Numbered, Found, Noted, Fetched, Answer, More, Begins, Fetches, Magnifies, Tells, Done, Factor, Number, Key, dimension}
+use Rattle.plain_readings.specs.Dimens.{Fed, Tok, Factored, Numbered, Found, Noted, Fetched, dimension}
+use Rattle.plain_readings.specs.declared.asks.DimenAsk.{DimenAsk}
+use Rattle.plain_readings.specs.declared.asks.DimenAsk.TheVariants.{More, Begins, Fetches, Magnifies, Tells, Done}
+use Rattle.plain_readings.specs.declared.asks.DimenInner.TheVariants.{Factor, Number, Key}
 use Rattle.rows.specs.declared.words.DimenKind.{DimenKind}
 
 -- WHAT IS ASKED FOR before each item and behind the last
 
-abbrev pub asked : (List Fed → Answer) → List Fed → List Answer
+abbrev pub asked : (List Fed → DimenAsk) → List Fed → List DimenAsk
 asked now [] = now [] ∷ []
 asked now (item ∷ fed) = now [] ∷ asked (λ more. now (item ∷ more)) fed
 
-abbrev pub steps : DimenKind → List Fed → List Answer
+abbrev pub steps : DimenKind → List Fed → List DimenAsk
 steps k fed = asked (dimension k false) fed
 
 -- these words, one after the other
-abbrev pub words : List Keyword → List Answer → List Answer
+abbrev pub words : List Keyword → List DimenAsk → List DimenAsk
 words [] asks = asks
 words (w ∷ ws) asks = Begins (Key w) false ∷ words ws asks
 
 -- the token that is looked at for a unit, and then words, of which these come behind `true`
-abbrev pub units : List Keyword → List Answer → List Answer
+abbrev pub units : List Keyword → List DimenAsk → List DimenAsk
 units ws asks = Begins (Key Em) true ∷ words (Ex ∷ True ∷ ws) asks
 
 -- an integer, and then the words for units
-abbrev pub whole : List Keyword → List Answer → List Answer
+abbrev pub whole : List Keyword → List DimenAsk → List DimenAsk
 whole ws asks = More Nonblank ∷ Begins Factor true ∷ More Nonblank ∷ units ws asks
 
 abbrev pub all_units : List Keyword
 all_units = Pt ∷ In ∷ Pc ∷ Cm ∷ Mm ∷ Bp ∷ Dd ∷ Cc ∷ Sp ∷ []
 
 -- so many tokens by expansion
-abbrev pub expanded : ℕ → List Answer → List Answer
+abbrev pub expanded : ℕ → List DimenAsk → List DimenAsk
 expanded zero asks = asks
 expanded (suc n) asks = More Expanded ∷ expanded n asks
 

@@ -1,17 +1,8 @@
--- What the scanner's words stand for, and where it may stand.
+-- Where a scanner may stand, and what it keeps.
 use Rattle.std.specs.Prelude.{ℕ, ◌-◌, List, drop}
 use Rattle.tex_defs.specs.declared.Token.{Token}
-use Rattle.rows.specs.Readings as reading
-use Rattle.plain_readings.specs.Keywords.{ends_found}
-use Rattle.scan_dimens.specs.declared.keyword.KeywordAsk.{KeywordAsk}
-use Rattle.scan_dimens.specs.declared.keyword.KeywordAsk.TheVariants.{More, Puts, Done}
 use Rattle.scan_dimens.specs.declared.keyword.KeywordPlace.{KeywordPlace}
 use Rattle.scan_dimens.specs.declared.keyword.KeywordPlace.TheVariants.{Letters, PutsBack, Ended}
-
-abbrev pub ask_of : KeywordAsk → reading.Ask
-ask_of (More want) = reading.More want
-ask_of (Puts t more) = reading.Puts t more
-ask_of (Done found) = ends_found found
 
 -- behind how many letters it stands, and how many tokens are to be put back; elsewhere a number that counts nothing
 abbrev pub letters_at : KeywordPlace → ℕ

@@ -9,7 +9,7 @@ ghost use Rattle.scan_dimens.specs.DimenViews as sees;
 use crate::decimals::{Digits, is_integer_at, is_other, is_space};
 use crate::units::{in_units, magnified, physical_unit, points, scaled_points, times};
 use equivalents::{Loc, Val as StoredValue};
-use plain_readings::Quantity;
+use plain_readings::{DimenAsk, DimenInner, Quantity};
 use rows::{
     Bank, Datum, DimenKind, GREATEST_DIMENSION, Internal, Keyword, Value, byte_of, integer_of,
     internal_of, is_mu, list_of, measured,
@@ -20,33 +20,6 @@ use tex_syntax::{Report, UnitTaken, Want};
 
 /// The place of the magnification among the parameters that are integers.
 const MAGNIFICATION: u8 = 17;
-
-/// What is read within a dimension.
-#[derive(Clone, Copy)]
-pub enum Inner {
-    /// An integer, and whether a point stands directly behind its decimal digits.
-    Factor,
-    /// The number of a register or of a character.
-    Number,
-    Key(Keyword),
-}
-
-/// What a scanner of a dimension asks for.
-#[must_use]
-#[derive(Clone, Copy)]
-pub enum DimenAsk {
-    More(Want),
-    /// Something within, and whether it begins with the last token.
-    Begins(Inner, bool),
-    /// What stands at a location.
-    Fetches(Loc),
-    /// That the magnification be checked.
-    Magnifies,
-    /// A report, and whether the last token is put back before it.
-    Tells(Report, bool),
-    /// It is done, with this value in sp or in units of this order of infinity, and whether the last token is put back.
-    Done(i32, u8, bool),
-}
 
 /// What an internal value is looked for as.
 #[derive(Clone, Copy)]
@@ -163,7 +136,7 @@ impl DimenScan {
     ghost use Rattle.plain_readings.specs.Measures.{dimen_value, dimen_item};
     ghost use Rattle.plain_readings.specs.Dimens.{Fed, Tok, Noted, Fetched, Factored, Numbered, Found, by_magnification, positive_part, dimension, finished, spaced, valued, unit_behind, unit_with, unit_at, word_unit, internal_or_word, internal_or_factor, unsigned, factor_read, behind_digits, with_factor, with_number, fetched, fraction, points, amount};
     ghost use Rattle.scan_dimens.specs.DimenViews as sees;
-    ghost use Rattle.scan_dimens.specs.DimenViews.{ask_of, digits_of, EndsInRange, IsFetchedAt, IsRead, IsMagnified, IsDimension};
+    ghost use Rattle.scan_dimens.specs.DimenViews.{digits_of, EndsInRange, IsFetchedAt, IsRead, IsMagnified, IsDimension};
     ghost use Rattle.scan_numbers.specs.Views.{IsInRange};
     ghost use Rattle.scan_dimens.specs.DimenResumes.{resume, onward};
 
@@ -180,17 +153,17 @@ impl DimenScan {
 
     /// What it asks for where it stands.
     pub fn ask(&self) -> DimenAsk
-        ensures answer { ask_of result ≡ resume self.now [] }
+        ensures answer { result ≡ resume self.now [] }
         ensures range { EndsInRange result }
         ensures found { IsFetchedAt result }
     {
         match self.place {
             DimenPlace::Signs | DimenPlace::UnitSought(_) => DimenAsk::More(Want::Nonblank),
-            DimenPlace::Factor => DimenAsk::Begins(Inner::Factor, true),
+            DimenPlace::Factor => DimenAsk::Begins(DimenInner::Factor, true),
             DimenPlace::Point(_) | DimenPlace::Fraction(..) | DimenPlace::Space(..) => {
                 DimenAsk::More(Want::Expanded)
             }
-            DimenPlace::Numbered(..) => DimenAsk::Begins(Inner::Number, false),
+            DimenPlace::Numbered(..) => DimenAsk::Begins(DimenInner::Number, false),
             DimenPlace::BadNumber(_, bank, n) => DimenAsk::Tells(bank.complaint(n), false),
             DimenPlace::Fetching(_, loc) => DimenAsk::Fetches(loc),
             DimenPlace::Incompatible(_) => DimenAsk::Tells(Report::IncompatibleUnits, false),
@@ -203,17 +176,17 @@ impl DimenScan {
             DimenPlace::Illegal(unit, _) => DimenAsk::Tells(Report::IllegalUnit(unit), false),
             DimenPlace::TooLarge(_, back) => DimenAsk::Tells(Report::DimensionTooLarge, back),
             DimenPlace::Ended(value, order, back) => DimenAsk::Done(value, order, back),
-            DimenPlace::Fil(_, begins) => DimenAsk::Begins(Inner::Key(Keyword::Fil), begins),
-            DimenPlace::Longer(..) => DimenAsk::Begins(Inner::Key(Keyword::L), false),
-            DimenPlace::Mu(_) => DimenAsk::Begins(Inner::Key(Keyword::Mu), true),
-            DimenPlace::Em(_) => DimenAsk::Begins(Inner::Key(Keyword::Em), true),
-            DimenPlace::Ex(_) => DimenAsk::Begins(Inner::Key(Keyword::Ex), false),
-            DimenPlace::True(_) => DimenAsk::Begins(Inner::Key(Keyword::True), false),
+            DimenPlace::Fil(_, begins) => DimenAsk::Begins(DimenInner::Key(Keyword::Fil), begins),
+            DimenPlace::Longer(..) => DimenAsk::Begins(DimenInner::Key(Keyword::L), false),
+            DimenPlace::Mu(_) => DimenAsk::Begins(DimenInner::Key(Keyword::Mu), true),
+            DimenPlace::Em(_) => DimenAsk::Begins(DimenInner::Key(Keyword::Em), true),
+            DimenPlace::Ex(_) => DimenAsk::Begins(DimenInner::Key(Keyword::Ex), false),
+            DimenPlace::True(_) => DimenAsk::Begins(DimenInner::Key(Keyword::True), false),
             DimenPlace::Physical(place, _) => match physical_unit(place) {
-                Some(unit) => DimenAsk::Begins(Inner::Key(unit.word), false),
-                None => DimenAsk::Begins(Inner::Key(Keyword::Sp), false),
+                Some(unit) => DimenAsk::Begins(DimenInner::Key(unit.word), false),
+                None => DimenAsk::Begins(DimenInner::Key(Keyword::Sp), false),
             },
-            DimenPlace::ScaledPoints(_) => DimenAsk::Begins(Inner::Key(Keyword::Sp), false),
+            DimenPlace::ScaledPoints(_) => DimenAsk::Begins(DimenInner::Key(Keyword::Sp), false),
         }
     }
 

@@ -4,23 +4,13 @@ ghost use Rattle.plain_readings.specs.Keywords as keywords;
 ghost use Rattle.scan_dimens.specs.Views.{kept, letters_at, back_at};
 
 use crate::decimals::is_space;
+use plain_readings::KeywordAsk;
 use rows::Keyword;
 use tex_defs::{Seen, Token};
 use tex_syntax::Want;
 
 /// How many letters the longest keyword has.
 const LONGEST: usize = 5;
-
-/// What a scanner asks for.
-#[must_use]
-#[derive(Clone, Copy)]
-pub enum KeywordAsk {
-    More(Want),
-    /// That this token be put back, and how many more are to follow.
-    Puts(Token, u8),
-    /// It is done, and whether the keyword was there.
-    Done(bool),
-}
 
 /// Where a scanner stands.
 #[derive(Clone, Copy)]
@@ -100,7 +90,7 @@ impl KeywordScan {
     ghost use Rattle.rows.specs.declared.words.Value.{Value};
     ghost use Rattle.rows.specs.Readings.{Fed, Tok, Noted, Val, Fetched, Cut};
     ghost use Rattle.plain_readings.specs.Keywords.{keyword_from};
-    ghost use Rattle.scan_dimens.specs.Views.{ask_of, kept};
+    ghost use Rattle.scan_dimens.specs.Views.{kept};
     ghost use Rattle.scan_dimens.specs.Resumes.{resume, kept_in};
 
     /// A keyword begins.
@@ -117,7 +107,7 @@ impl KeywordScan {
 
     /// What it asks for where it stands.
     pub fn ask(&self) -> KeywordAsk
-        ensures { ask_of result ≡ resume self.now [] }
+        ensures { result ≡ resume self.now [] }
     {
         match self.place {
             KeywordPlace::Letters(_) => KeywordAsk::More(Want::Expanded),

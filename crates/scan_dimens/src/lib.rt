@@ -9,6 +9,6 @@ mod laws;
 mod units;
 
 pub use decimals::Digits;
-pub use dimen::{DimenAsk, DimenPlace, DimenScan, Inner, Sought};
-pub use keyword::{KeywordAsk, KeywordPlace, KeywordScan};
+pub use dimen::{DimenPlace, DimenScan, Sought};
+pub use keyword::{KeywordPlace, KeywordScan};
 pub use laws::{dimensions_are_read, printed_dimensions_are_read_back};

@@ -6,25 +6,10 @@ use Rattle.equivalents.specs.declared.values.Loc.TheVariants as loc
 use Rattle.equivalents.specs.Locations.{zero_glue}
 use Rattle.rows.specs.Internal.{IsFetchable}
 use Rattle.scan_dimens.specs.DimenViews.{IsDimension}
-use Rattle.plain_readings.specs.Glues as glues
-use Rattle.scan_glue.specs.declared.glue.Inner.{Inner}
-use Rattle.scan_glue.specs.declared.glue.Inner.TheVariants as inner
-use Rattle.scan_glue.specs.declared.glue.GlueAsk.{GlueAsk}
-use Rattle.scan_glue.specs.declared.glue.GlueAsk.TheVariants as ask
+use Rattle.plain_readings.specs.declared.asks.GlueAsk.{GlueAsk}
+use Rattle.plain_readings.specs.declared.asks.GlueAsk.TheVariants as ask
 use Rattle.scan_glue.specs.declared.glue.GluePlace.{GluePlace}
 use Rattle.scan_glue.specs.declared.glue.GluePlace.TheVariants as place
-
-abbrev pub inner_of : Inner → glues.Inner
-inner_of (inner.Dimension k) = glues.Dimension k
-inner_of inner.Number = glues.Number
-inner_of (inner.Key w) = glues.Key w
-
-abbrev pub ask_of : GlueAsk → glues.Answer
-ask_of (ask.More want) = glues.More want
-ask_of (ask.Begins i begins) = glues.Begins (inner_of i) begins
-ask_of (ask.Fetches l) = glues.Fetches l
-ask_of (ask.Tells report) = glues.Tells report
-ask_of (ask.Done g) = glues.Done g
 
 -- glue whose parts were scanned: each below 2^30 in absolute value, at an order of infinity of 0 to 3
 pub record IsScanned (g : Glue) : Type 0 where

@@ -12,29 +12,32 @@ use Rattle.equivalents.specs.declared.values.Loc.TheVariants as loc
 use Rattle.equivalents.specs.declared.values.Val.TheVariants as val
 use Rattle.rows.specs.declared.words.Keyword.TheVariants.{Plus, Minus}
 use Rattle.rows.specs.Worked.{character, primitive, x_name}
-use Rattle.plain_readings.specs.Glues.{Fed, Tok, Measured, Numbered, Found, Noted, Fetched, Answer, More, Begins, Fetches, Tells, Done, Dimension, Number, Key, finite, infinite, glue}
+use Rattle.plain_readings.specs.Glues.{Fed, Tok, Measured, Numbered, Found, Noted, Fetched, finite, infinite, glue}
+use Rattle.plain_readings.specs.declared.asks.GlueAsk.{GlueAsk}
+use Rattle.plain_readings.specs.declared.asks.GlueAsk.TheVariants.{More, Begins, Fetches, Tells, Done}
+use Rattle.plain_readings.specs.declared.asks.GlueInner.TheVariants.{Dimension, Number, Key}
 use Rattle.rows.specs.Arithmetic.{sum, product, quotient}
 
 -- WHAT IS ASKED FOR before each item and behind the last
 
-abbrev pub asked : (List Fed → Answer) → List Fed → List Answer
+abbrev pub asked : (List Fed → GlueAsk) → List Fed → List GlueAsk
 asked now [] = now [] ∷ []
 asked now (item ∷ fed) = now [] ∷ asked (λ more. now (item ∷ more)) fed
 
-abbrev pub steps : (mu : Bool) → List Fed → List Answer
+abbrev pub steps : (mu : Bool) → List Fed → List GlueAsk
 steps mu fed = asked (glue mu false) fed
 
 -- the token behind the signs, and the width that begins with it
-abbrev pub width_asked : (mu : Bool) → List Answer → List Answer
+abbrev pub width_asked : (mu : Bool) → List GlueAsk → List GlueAsk
 width_asked mu asks = More Nonblank ∷ Begins (Dimension (finite mu)) true ∷ asks
 
-abbrev pub plus_asked : List Answer → List Answer
+abbrev pub plus_asked : List GlueAsk → List GlueAsk
 plus_asked asks = Begins (Key Plus) false ∷ asks
 
-abbrev pub minus_asked : List Answer → List Answer
+abbrev pub minus_asked : List GlueAsk → List GlueAsk
 minus_asked asks = Begins (Key Minus) false ∷ asks
 
-abbrev pub part_asked : (mu : Bool) → List Answer → List Answer
+abbrev pub part_asked : (mu : Bool) → List GlueAsk → List GlueAsk
 part_asked mu asks = Begins (Dimension (infinite mu)) false ∷ asks
 
 -- WHAT COMES

@@ -9,36 +9,13 @@ ghost use Rattle.plain_readings.specs.Glues as glues;
 ghost use Rattle.scan_glue.specs.GlueViews as sees;
 
 use equivalents::{Glue, Loc, Val as StoredValue};
+use plain_readings::{GlueAsk, GlueInner};
 use rows::{
     Bank, Datum, DimenKind, GREATEST_DIMENSION, Internal, Keyword, Value, byte_of, internal_of,
     is_glue, is_mu,
 };
 use tex_defs::{Seen, Token};
 use tex_syntax::{Report, Want};
-
-/// What is read within glue.
-#[derive(Clone, Copy)]
-pub enum Inner {
-    /// The width, the stretch or the shrink.
-    Dimension(DimenKind),
-    /// The number of a register.
-    Number,
-    Key(Keyword),
-}
-
-/// What a scanner of glue asks for.
-#[must_use]
-#[derive(Clone, Copy)]
-pub enum GlueAsk {
-    More(Want),
-    /// Something within, and whether it begins with the last token.
-    Begins(Inner, bool),
-    /// What stands at a location.
-    Fetches(Loc),
-    Tells(Report),
-    /// It is done, with this glue.
-    Done(Glue),
-}
 
 /// Where a scanner of glue stands; the glue at a place has the parts so far.
 #[derive(Clone, Copy)]
@@ -162,8 +139,9 @@ impl GlueScan {
     ghost use Rattle.rows.specs.Readings.{Cut};
     ghost use Rattle.plain_readings.specs.Measures.{glue_value, glue_item};
     ghost use Rattle.plain_readings.specs.Glues as glues;
+    ghost use Rattle.plain_readings.specs.declared.asks.GlueInner.TheVariants as inner;
     ghost use Rattle.plain_readings.specs.Glues.{Fed, Tok, Measured, Noted, Fetched, Numbered, Found};
-    ghost use Rattle.scan_glue.specs.GlueViews.{ask_of, EndsInRange, IsFetchedAt};
+    ghost use Rattle.scan_glue.specs.GlueViews.{EndsInRange, IsFetchedAt};
     ghost use Rattle.scan_glue.specs.GlueResumes.{resume};
 
     /// Glue begins, in mu or not.
@@ -179,19 +157,19 @@ impl GlueScan {
 
     /// What it asks for where it stands.
     pub fn ask(&self) -> GlueAsk
-        ensures answer { ask_of result ≡ resume self.now [] }
+        ensures answer { result ≡ resume self.now [] }
         ensures range { EndsInRange self.now.place result }
         ensures found { IsFetchedAt result }
     {
         match self.place {
             GluePlace::Signs => GlueAsk::More(Want::Nonblank),
-            GluePlace::Numbered(_) => GlueAsk::Begins(Inner::Number, false),
+            GluePlace::Numbered(_) => GlueAsk::Begins(GlueInner::Number, false),
             GluePlace::BadNumber(bank, n) => GlueAsk::Tells(bank.complaint(n)),
             GluePlace::Fetching(loc) => GlueAsk::Fetches(loc),
             GluePlace::Incompatible(_) => GlueAsk::Tells(Report::IncompatibleUnits),
             GluePlace::Width => GlueAsk::Begins(self.dimension(false), true),
-            GluePlace::Plus(_) => GlueAsk::Begins(Inner::Key(Keyword::Plus), false),
-            GluePlace::Minus(_) => GlueAsk::Begins(Inner::Key(Keyword::Minus), false),
+            GluePlace::Plus(_) => GlueAsk::Begins(GlueInner::Key(Keyword::Plus), false),
+            GluePlace::Minus(_) => GlueAsk::Begins(GlueInner::Key(Keyword::Minus), false),
             GluePlace::Stretch(_) | GluePlace::Shrink(_) => {
                 GlueAsk::Begins(self.dimension(true), false)
             }
@@ -312,10 +290,10 @@ impl GlueScan {
     }
 
     /// A dimension of this glue.
-    fn dimension(&self, infinite: bool) -> Inner
-        ensures { sees.inner_of result ≡ glues.Dimension (record { mu = self.now.mu; infinite = infinite }) }
+    fn dimension(&self, infinite: bool) -> GlueInner
+        ensures { result ≡ inner.Dimension (record { mu = self.now.mu; infinite = infinite }) }
     {
-        Inner::Dimension(DimenKind {
+        GlueInner::Dimension(DimenKind {
             mu: self.mu,
             infinite,
         })

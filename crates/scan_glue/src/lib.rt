@@ -5,5 +5,5 @@
 mod glue;
 mod laws;
 
-pub use glue::{GlueAsk, GluePlace, GlueScan, Inner};
+pub use glue::{GluePlace, GlueScan};
 pub use laws::{glue_is_read, glue_is_summed};

@@ -3,14 +3,15 @@ use Rattle.std.proofs.Common.{◌≡◌, ◌≤◌, ◌<◌, ◌+◌, ◌*◌, �
 use Rattle.std.proofs.lemmas.Bool.Decides.{nat_tests}
 use Rattle.tex_defs.specs.declared.Seen.{Seen}
 use Rattle.plain_tokens.specs.Tokens.{is_space}
-use Rattle.rows.specs.Readings.{Fed, Tok, Ask}
+use Rattle.rows.specs.Readings.{Fed, Tok}
+use Rattle.plain_readings.specs.declared.asks.NumberAsk.{NumberAsk}
 use Rattle.plain_readings.specs.Integers.{integer, digits, digits_dropped, too_big, number_ended, ends_with, signed, is_digit, digit_of, greatest_integer}
 use Rattle.scan_numbers.specs.Laws.{digit, spelt, AreDigits, number_behind, Spells, IsTooBig}
 
-taken : (b : Bool) (p q : Ask) → b ≡ true → (if b then p else q) ≡ p
+taken : (b : Bool) (p q : NumberAsk) → b ≡ true → (if b then p else q) ≡ p
 taken b p q e = ap (λ (b : Bool). if b then p else q) e
 
-skipped : (b : Bool) (p q : Ask) → b ≡ false → (if b then p else q) ≡ q
+skipped : (b : Bool) (p q : NumberAsk) → b ≡ false → (if b then p else q) ≡ q
 skipped b p q e = ap (λ (b : Bool). if b then p else q) e
 
 is_fit : (n : ℕ) → n ≤ greatest_integer → nat_le n greatest_integer ≡ true

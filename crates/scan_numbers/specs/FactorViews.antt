@@ -1,24 +1,14 @@
 -- What the words of the scanner of the integer before a fraction stand for, and what it keeps.
 use Rattle.std.specs.Prelude.{◌≡◌, Bool, false, List, Option, Some, None}
-use Rattle.rows.specs.declared.words.Datum.TheVariants as datum
-use Rattle.rows.specs.declared.words.Value.TheVariants as value
-use Rattle.rows.specs.declared.words.Phrase.TheVariants as phrase
 use Rattle.rows.specs.Internal.{IsFetchable}
 use Rattle.rows.specs.Readings as reading
 use Rattle.plain_readings.specs.Integers.{integer, is_digit}
 use Rattle.plain_readings.specs.Factors.{is_point}
+use Rattle.plain_readings.specs.declared.asks.FactorAsk.{FactorAsk}
+use Rattle.plain_readings.specs.declared.asks.FactorAsk.TheVariants.{Fetches, Done}
 use Rattle.scan_numbers.specs.Views.{IsInRange}
 use Rattle.scan_numbers.specs.Resumes.{resume}
 use Rattle.scan_numbers.specs.declared.number.NumberScan.{NumberScan}
-use Rattle.scan_numbers.specs.declared.factor.FactorAsk.{FactorAsk}
-use Rattle.scan_numbers.specs.declared.factor.FactorAsk.TheVariants.{More, Begins, Fetches, Tells, Done}
-
-abbrev pub ask_of : FactorAsk → reading.Ask
-ask_of (More want) = reading.More want
-ask_of Begins = reading.Inner phrase.Integer false
-ask_of (Fetches l) = reading.Fetches l
-ask_of (Tells report back) = reading.Tells report back
-ask_of (Done n point back) = reading.Done (value.Plain (datum.Factor n point)) back
 
 abbrev pub EndsInRange : FactorAsk → Type 0
 EndsInRange (Done n point back) = IsInRange n

@@ -8,7 +8,8 @@ use Rattle.tex_syntax.specs.declared.words.Want.TheVariants.{Expanded}
 use Rattle.tex_syntax.specs.declared.words.Report.TheVariants.{NumberTooBig}
 use Rattle.plain_tokens.specs.Categories.{other}
 use Rattle.plain_tokens.specs.Tokens.{is_space}
-use Rattle.rows.specs.Readings.{Fed, Tok, Noted, More, Tells}
+use Rattle.rows.specs.Readings.{Fed, Tok, Noted}
+use Rattle.plain_readings.specs.declared.asks.NumberAsk.TheVariants.{More, Tells}
 use Rattle.plain_readings.specs.Integers.{integer, ends_with, signed, is_digit, greatest_integer}
 use Rattle.plain_readings.specs.Worked.{others}
 use Rattle.scan_numbers.specs.Views.{IsInRange}

@@ -1,15 +1,12 @@
 -- What the scanner's words stand for, and the range of its values.
-use Rattle.std.specs.Prelude.{ℕ, ℤ, pos, negsuc, ◌≤ℤ◌, false}
-use Rattle.rows.specs.declared.words.Phrase.TheVariants as phrase
+use Rattle.std.specs.Prelude.{ℕ, ℤ, pos, negsuc, ◌≤ℤ◌}
 use Rattle.equivalents.specs.declared.values.Loc.{Loc}
 use Rattle.equivalents.specs.declared.values.Loc.TheVariants as loc
 use Rattle.rows.specs.Internal.{IsFetchable}
-use Rattle.rows.specs.Readings as reading
-use Rattle.plain_readings.specs.Integers.{ends_with}
+use Rattle.plain_readings.specs.declared.asks.NumberAsk.{NumberAsk}
+use Rattle.plain_readings.specs.declared.asks.NumberAsk.TheVariants.{Fetches, Done}
 use Rattle.scan_numbers.specs.declared.digits.Radix.{Radix}
 use Rattle.scan_numbers.specs.declared.digits.Radix.TheVariants.{Octal, Decimal, Hexadecimal}
-use Rattle.scan_numbers.specs.declared.number.Ask.{Ask}
-use Rattle.scan_numbers.specs.declared.number.Ask.TheVariants.{More, Begins, Fetches, Tells, Done}
 use Rattle.scan_numbers.specs.declared.number.Place.{Place}
 use Rattle.scan_numbers.specs.declared.number.Place.TheVariants.{Digits, Fetching, MuFound, Ended}
 
@@ -18,24 +15,17 @@ radix_number Octal = 8
 radix_number Decimal = 10
 radix_number Hexadecimal = 16
 
-abbrev pub ask_of : Ask → reading.Ask
-ask_of (More want) = reading.More want
-ask_of Begins = reading.Inner phrase.Integer false
-ask_of (Fetches l) = reading.Fetches l
-ask_of (Tells report back) = reading.Tells report back
-ask_of (Done n back) = ends_with n back
-
 -- between -2147483647 and 2147483647
 pub record IsInRange (n : ℤ) : Type 0 where
   pub low : negsuc 2147483646 ≤ℤ n
   pub high : n ≤ℤ pos 2147483647
 
-abbrev pub EndsInRange : Ask → Type 0
+abbrev pub EndsInRange : NumberAsk → Type 0
 EndsInRange (Done n back) = IsInRange n
 EndsInRange a = Unit {0}
 
 -- what is fetched stands at a location that is there
-abbrev pub IsFetchedAt : Ask → Type 0
+abbrev pub IsFetchedAt : NumberAsk → Type 0
 IsFetchedAt (Fetches l) = IsFetchable l
 IsFetchedAt a = Unit {0}
 

@@ -7,7 +7,8 @@ use Rattle.tex_defs.specs.declared.Seen.{Seen}
 use Rattle.tex_syntax.specs.declared.words.Report.TheVariants.{ImproperConstant, MissingNumber, NumberTooBig}
 use Rattle.plain_tokens.specs.Categories.{letter, other}
 use Rattle.rows.specs.Worked.{character, primitive, x, a_letter, a_space}
-use Rattle.rows.specs.Readings.{Fed, Tok, Noted, Tells}
+use Rattle.rows.specs.Readings.{Fed, Tok, Noted}
+use Rattle.plain_readings.specs.declared.asks.NumberAsk.TheVariants.{Tells}
 use Rattle.plain_readings.specs.Integers.{integer, ends_with}
 use Rattle.plain_readings.specs.Worked.{others}
 

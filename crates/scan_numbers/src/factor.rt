@@ -2,26 +2,11 @@
 ghost use Rattle.scan_numbers.specs.FactorViews.{IsFresh};
 
 use crate::digits::{is_decimal, is_point};
-use crate::number::{Ask, NumberScan};
-use equivalents::{Loc, Val as StoredValue};
+use crate::number::NumberScan;
+use equivalents::Val as StoredValue;
+use plain_readings::{FactorAsk, NumberAsk};
 use rows::Value;
 use tex_defs::Seen;
-use tex_syntax::{Report, Want};
-
-/// What a scanner of the integer before a fraction asks for.
-#[must_use]
-#[derive(Clone, Copy)]
-pub enum FactorAsk {
-    More(Want),
-    /// Another integer, the number of a register or of a character.
-    Begins,
-    /// What stands at a location.
-    Fetches(Loc),
-    /// A report, and whether the last token is put back before it.
-    Tells(Report, bool),
-    /// It is done, with this value, whether a point stands directly behind its decimal digits, and whether the last token is put back.
-    Done(i32, bool, bool),
-}
 
 /// The scanner of the integer before a fraction.
 #[derive(Clone, Copy)]
@@ -40,7 +25,7 @@ impl FactorScan {
     ghost use Rattle.rows.specs.declared.words.Value.{Value};
     ghost use Rattle.rows.specs.Readings.{Fed, Tok, Noted, Val, Fetched, Cut};
     ghost use Rattle.plain_readings.specs.Factors.{factor};
-    ghost use Rattle.scan_numbers.specs.FactorViews.{began_with, decimal_behind, ask_of, EndsInRange, IsFetchedAt};
+    ghost use Rattle.scan_numbers.specs.FactorViews.{began_with, decimal_behind, EndsInRange, IsFetchedAt};
     ghost use Rattle.scan_numbers.specs.FactorResumes.{resume_factor};
 
     /// The integer before a fraction begins.
@@ -57,16 +42,16 @@ impl FactorScan {
     /// What it asks for where it stands.
     #[tactic(auto, using(crate::proofs::Factors::asked, crate::proofs::Factors::ended))]
     pub fn ask(&self) -> FactorAsk
-        ensures answer { ask_of result ≡ resume_factor self.now [] }
+        ensures answer { result ≡ resume_factor self.now [] }
         ensures range { EndsInRange result }
         ensures found { IsFetchedAt result }
     {
         match self.scan.ask() {
-            Ask::More(want) => FactorAsk::More(want),
-            Ask::Begins => FactorAsk::Begins,
-            Ask::Fetches(loc) => FactorAsk::Fetches(loc),
-            Ask::Tells(report, back) => FactorAsk::Tells(report, back),
-            Ask::Done(n, back) => {
+            NumberAsk::More(want) => FactorAsk::More(want),
+            NumberAsk::Begins => FactorAsk::Begins,
+            NumberAsk::Fetches(loc) => FactorAsk::Fetches(loc),
+            NumberAsk::Tells(report, back) => FactorAsk::Tells(report, back),
+            NumberAsk::Done(n, back) => {
                 FactorAsk::Done(n, self.began_with_decimal() && self.point && back, back)
             }
         }

@@ -8,6 +8,6 @@ mod laws;
 mod number;
 
 pub use digits::Radix;
-pub use factor::{FactorAsk, FactorScan};
+pub use factor::FactorScan;
 pub use laws::{constants_are_read, digits_are_read, texts_are_read_back};
-pub use number::{Ask, NumberScan, Place};
+pub use number::{NumberScan, Place};

@@ -6,27 +6,13 @@ ghost use Rattle.scan_numbers.specs.Views.{IsInRange, digits_value, end_value, l
 
 use crate::digits::{GREATEST, Radix, code_of, is_other, is_space, signed, with_sign};
 use equivalents::{Loc, Val as StoredValue};
+use plain_readings::NumberAsk;
 use rows::{Bank, Datum, Internal, Value, byte_of, integer_of, internal_of, is_mu};
 use tex_defs::Seen;
 use tex_syntax::{Report, Want};
 
 /// The code that is taken in place of an improper constant.
 const IMPROPER_CODE: u32 = 48;
-
-/// What a scanner asks for.
-#[must_use]
-#[derive(Clone, Copy)]
-pub enum Ask {
-    More(Want),
-    /// Another integer, the number of a register or of a character.
-    Begins,
-    /// What stands at a location.
-    Fetches(Loc),
-    /// A report, and whether the last token is put back before it.
-    Tells(Report, bool),
-    /// It is done, with this value, and whether the last token is put back.
-    Done(i32, bool),
-}
 
 /// Where a scanner stands.
 #[derive(Clone, Copy)]
@@ -79,7 +65,7 @@ impl NumberScan {
     ghost use Rattle.rows.specs.Readings.{Fed, Tok, Noted, Val, Fetched, Cut};
     ghost use Rattle.plain_readings.specs.Integers.{integer, constant, first_digit, digits, number_ended, fetched, with_number, by_meaning};
     ghost use Rattle.rows.specs.Internal as internals;
-    ghost use Rattle.scan_numbers.specs.Views.{radix_number, ask_of, EndsInRange, IsFetchedAt};
+    ghost use Rattle.scan_numbers.specs.Views.{radix_number, EndsInRange, IsFetchedAt};
     ghost use Rattle.scan_numbers.specs.Resumes.{resume};
 
     /// An integer begins.
@@ -93,25 +79,25 @@ impl NumberScan {
     }
 
     /// What it asks for where it stands.
-    pub fn ask(&self) -> Ask
-        ensures answer { ask_of result ≡ resume self.now [] }
+    pub fn ask(&self) -> NumberAsk
+        ensures answer { result ≡ resume self.now [] }
         ensures range { EndsInRange result }
         ensures found { IsFetchedAt result }
     {
         match self.place {
-            Place::Signs => Ask::More(Want::Nonblank),
-            Place::Quote => Ask::More(Want::Raw),
+            Place::Signs => NumberAsk::More(Want::Nonblank),
+            Place::Quote => NumberAsk::More(Want::Raw),
             Place::First(_) | Place::Digits(..) | Place::Dropped(_) | Place::Behind(_) => {
-                Ask::More(Want::Expanded)
+                NumberAsk::More(Want::Expanded)
             }
-            Place::TooBig(_) => Ask::Tells(Report::NumberTooBig, false),
-            Place::NoNumber => Ask::Tells(Report::MissingNumber, true),
-            Place::NoCode => Ask::Tells(Report::ImproperConstant, true),
-            Place::Numbered(_) => Ask::Begins,
-            Place::BadNumber(bank, n) => Ask::Tells(bank.complaint(n), false),
-            Place::Fetching(loc) => Ask::Fetches(loc),
-            Place::MuFound(_) => Ask::Tells(Report::IncompatibleUnits, false),
-            Place::Ended(value, back) => Ask::Done(value, back),
+            Place::TooBig(_) => NumberAsk::Tells(Report::NumberTooBig, false),
+            Place::NoNumber => NumberAsk::Tells(Report::MissingNumber, true),
+            Place::NoCode => NumberAsk::Tells(Report::ImproperConstant, true),
+            Place::Numbered(_) => NumberAsk::Begins,
+            Place::BadNumber(bank, n) => NumberAsk::Tells(bank.complaint(n), false),
+            Place::Fetching(loc) => NumberAsk::Fetches(loc),
+            Place::MuFound(_) => NumberAsk::Tells(Report::IncompatibleUnits, false),
+            Place::Ended(value, back) => NumberAsk::Done(value, back),
         }
     }
 

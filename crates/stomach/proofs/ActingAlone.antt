@@ -109,12 +109,7 @@ pub value_cuts : (sizes : Sizes) (e : Engine) (i : Stored) (book : Book) (w : Wo
 value_cuts sizes e i book w global l v more full same st refuses =
     unchanged_cuts sizes e i book w (Set global l v) more full same (asks_same sizes e book (Some full) st.sound _ _ (set_demands_of book.number global e.input.groups l) refuses)
 
--- where a number may stand there is a location
-pub number_location : (g : Groups) (l : Loc) (z : ℤ) → IsInRow l → Suits l (val.Number z) → IsLocation g l
-number_location g (loc.Means n) z row suits = absurd suits
-number_location g l z row suits = row
-
--- and where glue may
+-- where glue may stand there is a location
 pub glue_location : (g : Groups) (l : Loc) (h : Glue) → IsInRow l → Suits l (val.Skip h) → IsLocation g l
 glue_location g (loc.Means n) h row suits = absurd suits
 glue_location g l h row suits = row

@@ -47,11 +47,7 @@ steps_at e (Some c) book (r ∷ rs) h = rw (← h.asked) (call_steps e (with_wor
 pub plan_steps : (sizes : Sizes) (e : Engine) (book : Book) → AllStand sizes e book → steps (plan_of e book) ≡ one_if (stepping e)
 plan_steps sizes e book h = steps_at e (call_in e.input.call) book book.work (split e book.number book.work h.all)
 
--- a rule that begins with no step has none
-pub plan_silent : (sizes : Sizes) (e : Engine) → stepping e ≡ false → (book : Book) → AllStand sizes e book → steps (plan_of e book) ≡ 0
-plan_silent sizes e g book h = plan_steps sizes e book h ∙ ap one_if g
-
--- and one that does has one
+-- a rule that begins with a step has one
 pub plan_one : (sizes : Sizes) (e : Engine) → stepping e ≡ true → (book : Book) → AllStand sizes e book → steps (plan_of e book) ≡ 1
 plan_one sizes e g book h = plan_steps sizes e book h ∙ ap one_if g
 

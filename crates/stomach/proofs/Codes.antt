@@ -12,6 +12,7 @@ use Rattle.conditionals.specs.Skipping.{ends_at, open_behind, part}
 use Rattle.rows.specs.declared.words.Phrase.{Phrase}
 use Rattle.rows.specs.declared.words.Phrase.TheVariants.{Command, Integer, Factor, Dimension, Glue, Keyword, Text, Definition}
 use Rattle.rows.specs.declared.command.Call.{Call}
+use Rattle.rows.specs.Commands.{CommandAsk, command_ask}
 use Rattle.rows.specs.Readings.{Fed, Tok, Ask, Acts, ActsOn}
 use Rattle.rows.specs.Suiting.{AsksSuited}
 use Rattle.rows.proofs.Suiting.{row_sets}
@@ -37,23 +38,23 @@ call_sets name call.Mismatch = tt
 call_sets name (call.Ended false args work) = tt
 call_sets name (call.Ended true args work) = tt
 
-named_sets : (c : Call) (ts : List Token) (meant : Option Token) (longer : List Token → Ask) → ((us : List Token) → AsksSuited (longer us)) → AsksSuited (named_on c ts meant longer)
+named_sets : (c : Call) (ts : List Token) (meant : Option Token) (longer : List Token → CommandAsk) → ((us : List Token) → AsksSuited (command_ask (longer us))) → AsksSuited (command_ask (named_on c ts meant longer))
 named_sets c ts None longer h = tt
 named_sets c ts (Some t) longer h = by (is_blank t) where
-  by : (b : Bool) → AsksSuited (if b then opens c false ts else longer (ts ++ t ∷ []))
+  by : (b : Bool) → AsksSuited (command_ask (if b then opens c false ts else longer (ts ++ t ∷ [])))
   by true = tt
   by false = h (ts ++ t ∷ [])
 
-file_sets : (c : Call) (want : Want) (ts : List Token) (fed : List Fed) → AsksSuited (file_naming c want ts fed)
+file_sets : (c : Call) (want : Want) (ts : List Token) (fed : List Fed) → AsksSuited (command_ask (file_naming c want ts fed))
 file_sets c want ts [] = tt
 file_sets c want ts (Tok x ∷ fed) = named_sets c ts (character_meant x.meaning) (λ us. file_naming c Expanded us fed) (λ us. file_sets c Expanded us fed)
 file_sets c want ts (y ∷ fed) = tt
 
-ended_sets : (c : Call) (aim : Aim) (o : Option Ender) (onward : Ask) → AsksSuited onward → AsksSuited (ended c aim o onward)
+ended_sets : (c : Call) (aim : Aim) (o : Option Ender) (onward : CommandAsk) → AsksSuited (command_ask onward) → AsksSuited (command_ask (ended c aim o onward))
 ended_sets c aim None onward h = h
 ended_sets c aim (Some e) onward h = tt
 
-skipping_sets : (c : Call) (aim : Aim) (depth : ℕ) (fed : List Fed) → AsksSuited (skipping c aim depth fed)
+skipping_sets : (c : Call) (aim : Aim) (depth : ℕ) (fed : List Fed) → AsksSuited (command_ask (skipping c aim depth fed))
 skipping_sets c aim depth [] = tt
 skipping_sets c aim depth (Tok x ∷ fed) = ended_sets c aim (ends_at depth (part x.meaning)) (skipping c aim (open_behind depth (part x.meaning)) fed) (skipping_sets c aim (open_behind depth (part x.meaning)) fed)
 skipping_sets c aim depth (y ∷ fed) = tt

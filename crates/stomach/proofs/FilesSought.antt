@@ -30,7 +30,8 @@ use Rattle.engine_state.specs.declared.engine.Engine.{Engine}
 use Rattle.engine_state.specs.Book.{Book, with_work}
 use Rattle.engine_state.specs.CutReadings.{CutsIn}
 use Rattle.engine_state.specs.Stands.{Stands, SameFrames, SameBut, state_of, page_of}
-use Rattle.engine_state.specs.Steps.{weight, pending_weight, readings_weight}
+use Rattle.plain_machine.specs.Weights.{pending_weight}
+use Rattle.engine_state.specs.Steps.{weight, readings_weight}
 use Rattle.engine_state.proofs.CuttingReadings.{in_by, later_in}
 use Rattle.engine_state.proofs.Joining.{quiet_here}
 use Rattle.engine_state.proofs.Storing.{sized_but, store_settled}

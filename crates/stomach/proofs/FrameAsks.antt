@@ -1,14 +1,11 @@
 -- What a frame asks for now: a command is begun within it only with a token, and only where it is a command itself; and what it does with a list, as
 -- defining a macro, it does only with the list that it owns.
 use Rattle.std.proofs.Common.{◌≡◌, ◌+◌, ℕ, Bool, true, false, List, [], ◌∷◌, drop, refl, ap, sym, subst}
-use Rattle.std.specs.Prelude.{◌≢◌, Option, None, Some}
+use Rattle.std.specs.Prelude.{◌≢◌, Some}
 use Rattle.tex_defs.specs.declared.Token.{Token}
 use Rattle.plain_state.specs.Definitions as build
 use Rattle.conditionals.specs.declared.choice.Aim.{Aim}
 use Rattle.rows.specs.declared.words.Datum.{Datum}
-use Rattle.rows.specs.declared.words.Datum.TheVariants as datum
-use Rattle.rows.specs.declared.words.Value.TheVariants as value
-use Rattle.rows.specs.declared.words.Keyword.{Keyword}
 use Rattle.rows.specs.declared.words.Phrase.{Phrase}
 use Rattle.rows.specs.declared.words.Phrase.TheVariants as phrase
 use Rattle.rows.specs.declared.stage.Stage.{Stage}
@@ -16,7 +13,8 @@ use Rattle.rows.specs.declared.stage.Stage.TheVariants as stage
 use Rattle.rows.specs.declared.stage.Note.{Note}
 use Rattle.rows.specs.declared.stage.Note.TheVariants as note
 use Rattle.rows.specs.declared.command.Call.{Call}
-use Rattle.rows.specs.Readings.{Fed, Ask, Inner, Done, ActsOn, Defines}
+use Rattle.rows.specs.Commands.{CommandAsk, command_ask}
+use Rattle.rows.specs.Readings.{Fed, Ask, Inner, ActsOn, Defines}
 use Rattle.rows.specs.Run.{due, started, behind, run}
 use Rattle.rows.specs.Stages.{start, location, value_phrase}
 use Rattle.rows.specs.Table.{stages_left, value_stage}
@@ -24,24 +22,29 @@ use Rattle.row_frames.specs.declared.turn.Kept.{Kept}
 use Rattle.row_frames.specs.declared.turn.Kept.TheVariants as kept
 use Rattle.row_frames.specs.Data.{values}
 use Rattle.row_frames.specs.Resumes.{within, resume_row, turn_of}
-use Rattle.scan_numbers.specs.declared.number.Place.{Place}
-use Rattle.scan_numbers.specs.declared.number.Place.TheVariants as number
-use Rattle.scan_numbers.specs.Resumes.{resume_at}
-use Rattle.scan_numbers.specs.FactorResumes as factor
-use Rattle.scan_numbers.specs.declared.number.NumberScan.{NumberScan}
-use Rattle.plain_readings.specs.Dimens as dimens
-use Rattle.plain_readings.specs.Factors.{as_factor}
-use Rattle.plain_readings.specs.Glues as glues
-use Rattle.plain_readings.specs.Keywords.{letters, giving_back, keyword_from}
+use Rattle.scan_numbers.specs.Resumes.{resume as number_at}
+use Rattle.scan_numbers.specs.FactorResumes.{resume_factor as factor_at}
+use Rattle.plain_readings.specs.declared.asks.NumberAsk.{NumberAsk}
+use Rattle.plain_readings.specs.declared.asks.NumberAsk.TheVariants as number
+use Rattle.plain_readings.specs.declared.asks.FactorAsk.{FactorAsk}
+use Rattle.plain_readings.specs.declared.asks.FactorAsk.TheVariants as factor
+use Rattle.plain_readings.specs.declared.asks.KeywordAsk.{KeywordAsk}
+use Rattle.plain_readings.specs.declared.asks.KeywordAsk.TheVariants as keyword
+use Rattle.plain_readings.specs.Factors.{factor_ask}
+use Rattle.plain_readings.specs.Integers.{number_ask}
+use Rattle.plain_readings.specs.Keywords.{keyword_ask}
+use Rattle.plain_readings.specs.declared.asks.DimenAsk.{DimenAsk}
+use Rattle.plain_readings.specs.declared.asks.DimenAsk.TheVariants as dimen_asks
+use Rattle.plain_readings.specs.declared.asks.DimenInner.TheVariants as dimen_inners
+use Rattle.plain_readings.specs.declared.asks.GlueAsk.{GlueAsk}
+use Rattle.plain_readings.specs.declared.asks.GlueAsk.TheVariants as glue_asks
+use Rattle.plain_readings.specs.declared.asks.GlueInner.TheVariants as glue_inners
 use Rattle.plain_readings.specs.Lists.{build_ask}
 use Rattle.plain_readings.specs.Measures.{dimen_ask, glue_ask}
 use Rattle.plain_readings.specs.Weights.{act_frame}
-use Rattle.scan_dimens.specs.Resumes.{resume_at as keyword_at}
+use Rattle.scan_dimens.specs.Resumes.{resume as keyword_at}
 use Rattle.scan_dimens.specs.DimenResumes as dimen
 use Rattle.scan_glue.specs.GlueResumes as glue
-use Rattle.scan_dimens.specs.Views.{kept as kept_tokens}
-use Rattle.scan_dimens.specs.declared.keyword.KeywordPlace.{KeywordPlace}
-use Rattle.scan_dimens.specs.declared.keyword.KeywordPlace.TheVariants as keyword
 use Rattle.reading_frames.specs.Views.{Lists, top_list, kept_list_of}
 use Rattle.reading_frames.specs.Resumes.{resume, resume_build, name_at, file_at, skip_at, list_count, listed_count}
 use Rattle.reading_frames.specs.Stack.{asks_in, innermost_count}
@@ -81,7 +84,7 @@ listless_modest (Inner (phrase.Command c) false) h = absurd h
 listless_modest (Defines c n ts) h = absurd h
 listless_modest a h = tt
 
-due_listless : (n : Note) → IsListless (due n)
+due_listless : (n : Note) → IsListless (command_ask (due n))
 due_listless (note.Tells report back) = tt
 due_listless (note.Inserts t report back) = tt
 due_listless (note.Relaxes c n) = tt
@@ -101,8 +104,8 @@ value_listless stage.Dimension = tt
 value_listless (stage.Glue mu) = tt
 value_listless s = tt
 
-module _ (turn : Call → List Fed → Ask) (c : Call) (ds : List Datum) (onward : List Datum → List Fed → Ask) where
-  started_listless : (s : Stage) → IsListless (behind turn c ds onward (started s c (start s c ds) []))
+module _ (turn : Call → List Fed → CommandAsk) (c : Call) (ds : List Datum) (onward : List Datum → List Fed → CommandAsk) where
+  started_listless : (s : Stage) → IsListless (command_ask (behind turn c ds onward (started s c (start s c ds) [])))
   started_listless stage.Number = tt
   started_listless (stage.NumberTo greatest complaint) = tt
   started_listless (stage.NumberUpTo greatest) = tt
@@ -127,7 +130,7 @@ module _ (turn : Call → List Fed → Ask) (c : Call) (ds : List Datum) (onward
   started_listless (stage.MacroText expanded) = tt
   started_listless (stage.Prefixes p) = tt
 
-  within_listless : (s : Stage) (k : Kept) → IsListless (behind turn c ds onward (within s c ds k []))
+  within_listless : (s : Stage) (k : Kept) → IsListless (command_ask (behind turn c ds onward (within s c ds k [])))
   within_listless s kept.Start = started_listless s
   within_listless s (kept.Looking d want) = tt
   within_listless s (kept.Within k) = with_listless k
@@ -135,85 +138,66 @@ module _ (turn : Call → List Fed → Ask) (c : Call) (ds : List Datum) (onward
   within_listless s (kept.Noting n m) = due_listless n
   within_listless s (kept.Retrying d want n) = due_listless n
 
-row_listless : (turn : Call → List Fed → Ask) (c : Call) (ss : List Stage) (ds : List Datum) (k : Kept) → IsListless (resume_row turn c ss ds k [])
+row_listless : (turn : Call → List Fed → CommandAsk) (c : Call) (ss : List Stage) (ds : List Datum) (k : Kept) → IsListless (command_ask (resume_row turn c ss ds k []))
 row_listless turn c [] ds k = tt
 row_listless turn c (s ∷ ss) ds k = within_listless turn c ds (λ es more. run turn c ss es more) s k
 
-number_meek : (negative : Bool) (p : Place) → IsMeek (resume_at negative p [])
-number_meek negative number.Signs = tt
-number_meek negative number.Quote = tt
-number_meek negative (number.First radix) = tt
-number_meek negative (number.Digits radix n) = tt
-number_meek negative (number.TooBig radix) = tt
-number_meek negative (number.Dropped radix) = tt
-number_meek negative (number.Behind code) = tt
-number_meek negative number.NoNumber = tt
-number_meek negative number.NoCode = tt
-number_meek negative (number.Numbered b) = tt
-number_meek negative (number.BadNumber b n) = tt
-number_meek negative (number.Fetching l) = tt
-number_meek negative (number.MuFound n) = tt
-number_meek negative (number.Ended n back) = tt
+number_meek : (a : NumberAsk) → IsMeek (number_ask a)
+number_meek (number.More want) = tt
+number_meek number.Begins = tt
+number_meek (number.Fetches l) = tt
+number_meek (number.Tells report back) = tt
+number_meek (number.Done n back) = tt
 
-as_factor_meek : (decimal point : Bool) (a : Ask) → IsMeek a → IsMeek (as_factor decimal point a)
-as_factor_meek decimal point (Done (value.Plain (datum.Number n)) back) h = tt
-as_factor_meek decimal point (Done v back) h = tt
-as_factor_meek decimal point a h = h
+factor_meek : (a : FactorAsk) → IsMeek (factor_ask a)
+factor_meek (factor.More want) = tt
+factor_meek factor.Begins = tt
+factor_meek (factor.Fetches l) = tt
+factor_meek (factor.Tells report back) = tt
+factor_meek (factor.Done n point back) = tt
 
-factor_meek : (decimal : Option Bool) (point : Bool) (scan : NumberScan) → IsMeek (factor.resume_at decimal point scan [])
-factor_meek None point scan = tt
-factor_meek (Some decimal) point scan = as_factor_meek decimal point (resume_at scan.negative scan.place []) (number_meek scan.negative scan.place)
+dimen_meek : (a : DimenAsk) → IsMeek (dimen_ask a)
+dimen_meek (dimen_asks.More want) = tt
+dimen_meek (dimen_asks.Begins dimen_inners.Factor begins) = tt
+dimen_meek (dimen_asks.Begins dimen_inners.Number begins) = tt
+dimen_meek (dimen_asks.Begins (dimen_inners.Key w) begins) = tt
+dimen_meek (dimen_asks.Fetches l) = tt
+dimen_meek dimen_asks.Magnifies = tt
+dimen_meek (dimen_asks.Tells report back) = tt
+dimen_meek (dimen_asks.Done n order back) = tt
 
-dimen_meek : (a : dimens.Answer) → IsMeek (dimen_ask a)
-dimen_meek (dimens.More want) = tt
-dimen_meek (dimens.Begins dimens.Factor begins) = tt
-dimen_meek (dimens.Begins dimens.Number begins) = tt
-dimen_meek (dimens.Begins (dimens.Key w) begins) = tt
-dimen_meek (dimens.Fetches l) = tt
-dimen_meek dimens.Magnifies = tt
-dimen_meek (dimens.Tells report back) = tt
-dimen_meek (dimens.Done n order back) = tt
+glue_meek : (a : GlueAsk) → IsMeek (glue_ask a)
+glue_meek (glue_asks.More want) = tt
+glue_meek (glue_asks.Begins (glue_inners.Dimension k) begins) = tt
+glue_meek (glue_asks.Begins glue_inners.Number begins) = tt
+glue_meek (glue_asks.Begins (glue_inners.Key w) begins) = tt
+glue_meek (glue_asks.Fetches l) = tt
+glue_meek (glue_asks.Tells report) = tt
+glue_meek (glue_asks.Done g) = tt
 
-glue_meek : (a : glues.Answer) → IsMeek (glue_ask a)
-glue_meek (glues.More want) = tt
-glue_meek (glues.Begins (glues.Dimension k) begins) = tt
-glue_meek (glues.Begins glues.Number begins) = tt
-glue_meek (glues.Begins (glues.Key w) begins) = tt
-glue_meek (glues.Fetches l) = tt
-glue_meek (glues.Tells report) = tt
-glue_meek (glues.Done g) = tt
-
-letters_meek : (cs : List ℕ) (ts : List Token) → IsMeek (keyword_from cs ts [])
-letters_meek [] ts = tt
-letters_meek (c ∷ cs) ts = tt
-
-back_meek : (ts : List Token) → IsMeek (giving_back ts [])
-back_meek [] = tt
-back_meek (t ∷ ts) = tt
-
-keyword_meek : (w : Keyword) (ts : List Token) (p : KeywordPlace) → IsMeek (keyword_at w ts p [])
-keyword_meek w ts (keyword.Letters n) = letters_meek (drop n (letters w)) (kept_tokens n ts)
-keyword_meek w ts (keyword.PutsBack n) = back_meek (kept_tokens n ts)
-keyword_meek w ts (keyword.Ended found) = tt
+keyword_meek : (a : KeywordAsk) → IsMeek (keyword_ask a)
+keyword_meek (keyword.More want) = tt
+keyword_meek (keyword.Puts t more) = tt
+keyword_meek (keyword.Done found) = tt
 
 build_meek : (a : build.Answer) → IsMeek (build_ask a)
 build_meek (build.More want list) = tt
 build_meek (build.Tells report back list) = tt
 build_meek (build.Done list) = tt
 
-name_modest : (c : Call) (p : SpellPlace) (list : List Token) → IsModest (name_at c p list [])
+name_modest : (c : Call) (p : SpellPlace) (list : List Token) → IsModest (command_ask (name_at c p list []))
 name_modest c spell.Inside list = tt
 name_modest c spell.NoEnd list = tt
 name_modest c spell.Whole list = tt
 name_modest c spell.Stopped list = tt
 
-file_modest : (c : Call) (p : FilePlace) (list : List Token) → IsModest (file_at c p list [])
+file_modest : (c : Call) (p : FilePlace) (list : List Token) → IsModest (command_ask (file_at c p list []))
 file_modest c file.Before list = tt
 file_modest c file.Inside list = tt
 file_modest c (file.Whole back) list = tt
 file_modest c file.Stopped list = tt
 
-skip_meek : (c : Call) (a : Aim) (p : SkipPlace) → IsMeek (skip_at c a p [])
+skip_meek : (c : Call) (a : Aim) (p : SkipPlace) → IsMeek (command_ask (skip_at c a p []))
 skip_meek c a (skip.Inside text) = tt
 skip_meek c a (skip.Whole e) = tt
 skip_meek c a skip.Stopped = tt
@@ -231,11 +215,11 @@ begins_none (Command (command.Acts d e) p) held c is = cc
 begins_none (Command (command.ActsOn d e listed) p) held c is = cc
 begins_none (Command (command.Defines d n listed) p) held c is = cc
 begins_none (Command command.Ended p) held c is = cc
-begins_none (Integer scan) held c is = not_meek _ _ is (number_meek scan.negative scan.place)
-begins_none (Factor scan) held c is = not_meek _ _ is (factor_meek scan.decimal scan.point scan.scan)
+begins_none (Integer scan) held c is = not_meek _ _ is (number_meek (number_at scan []))
+begins_none (Factor scan) held c is = not_meek _ _ is (factor_meek (factor_at scan []))
 begins_none (Dimension scan) held c is = not_meek _ _ is (dimen_meek (dimen.resume scan []))
 begins_none (Glue scan) held c is = not_meek _ _ is (glue_meek (glue.resume scan []))
-begins_none (Word scan) held c is = not_meek _ _ is (keyword_meek scan.keyword scan.tokens scan.place)
+begins_none (Word scan) held c is = not_meek _ _ is (keyword_meek (keyword_at scan []))
 begins_none (Build scan) held c is = not_meek _ _ is (build_meek (resume_build scan (top_list held) []))
 begins_none (Spelling scan) held c is = not_so _ _ is (name_modest scan.call scan.place (top_list held))
 begins_none (FileName scan) held c is = not_so _ _ is (file_modest scan.call scan.place (top_list held))
@@ -245,11 +229,11 @@ begins_none (Called name) held c is = cc
 
 -- what begins one is no reading that ends with a value
 begins_heavy : (f : Frame) (held : Lists) (c : Call) (begins : Bool) → resume f held [] ≡ Inner (phrase.Command c) begins → own_weight f ≡ act_frame
-begins_heavy (Integer scan) held c begins is = absurd (not_meek _ _ is (number_meek scan.negative scan.place))
-begins_heavy (Factor scan) held c begins is = absurd (not_meek _ _ is (factor_meek scan.decimal scan.point scan.scan))
+begins_heavy (Integer scan) held c begins is = absurd (not_meek _ _ is (number_meek (number_at scan [])))
+begins_heavy (Factor scan) held c begins is = absurd (not_meek _ _ is (factor_meek (factor_at scan [])))
 begins_heavy (Dimension scan) held c begins is = absurd (not_meek _ _ is (dimen_meek (dimen.resume scan [])))
 begins_heavy (Glue scan) held c begins is = absurd (not_meek _ _ is (glue_meek (glue.resume scan [])))
-begins_heavy (Word scan) held c begins is = absurd (not_meek _ _ is (keyword_meek scan.keyword scan.tokens scan.place))
+begins_heavy (Word scan) held c begins is = absurd (not_meek _ _ is (keyword_meek (keyword_at scan [])))
 begins_heavy (Build scan) held c begins is = absurd (not_meek _ _ is (build_meek (resume_build scan (top_list held) [])))
 begins_heavy f held c begins is = refl
 
@@ -281,11 +265,11 @@ list_own (Command (command.Acts d e) p) held ts has some = absurd has
 list_own (Command (command.ActsOn d e listed) p) held ts has some = owned listed held ts has some
 list_own (Command (command.Defines d m listed) p) held ts has some = owned listed held ts has some
 list_own (Command command.Ended p) held ts has some = absurd has
-list_own (Integer scan) held ts has some = absurd (meek_not _ ts (number_meek scan.negative scan.place) has)
-list_own (Factor scan) held ts has some = absurd (meek_not _ ts (factor_meek scan.decimal scan.point scan.scan) has)
+list_own (Integer scan) held ts has some = absurd (meek_not _ ts (number_meek (number_at scan [])) has)
+list_own (Factor scan) held ts has some = absurd (meek_not _ ts (factor_meek (factor_at scan [])) has)
 list_own (Dimension scan) held ts has some = absurd (meek_not _ ts (dimen_meek (dimen.resume scan [])) has)
 list_own (Glue scan) held ts has some = absurd (meek_not _ ts (glue_meek (glue.resume scan [])) has)
-list_own (Word scan) held ts has some = absurd (meek_not _ ts (keyword_meek scan.keyword scan.tokens scan.place) has)
+list_own (Word scan) held ts has some = absurd (meek_not _ ts (keyword_meek (keyword_at scan [])) has)
 list_own (Build scan) held ts has some = refl
 list_own (Spelling scan) held ts has some = refl
 list_own (FileName scan) held ts has some = refl

@@ -27,9 +27,6 @@ use Rattle.stomach.specs.Ran.{Came, whole_state}
 
 -- WHAT WAS PENDING
 
-first_of_came : (got : List ℕ) (left : List (List ℕ)) → readers.first_left (came_first got left) ≡ got ++ readers.first_left left
-first_of_came got left = refl
-
 module _ (number : ℕ → ℕ) (bytes : List ℕ) (left : List (List ℕ)) where
   abbrev IsSame : Pending → Pending → Type 0
   IsSame p q = extended_pending (came_first bytes left) (pending_of number p) ≡ extended_pending left (pending_of number q)
@@ -112,10 +109,6 @@ is_given_more e e' e'' all mid left a b = record {
 }
 
 -- WHAT STAYS
-
-module _ (sizes : Sizes) (e : Engine) (p : Pending) where
-  abbrev with_pending : Engine
-  with_pending = record e { input = record e.input { pending = p } }
 
 module _ (sizes : Sizes) (bytes : List ℕ) where
   given_store : (e : Engine) (next : Option (List ℕ)) → SameStore e.input (record e.input { pending = came_in next bytes e.input.pending })

@@ -32,7 +32,8 @@ use Rattle.engine_state.specs.Book.{Book, with_work}
 use Rattle.engine_state.specs.CutReadings.{CutsIn}
 use Rattle.engine_state.specs.Rules.{world_of, Reports, Went}
 use Rattle.engine_state.specs.Stands.{Stands, SameBut, page_of, state_of}
-use Rattle.engine_state.specs.Steps.{pending_weight, weight}
+use Rattle.plain_machine.specs.Weights.{pending_weight}
+use Rattle.engine_state.specs.Steps.{weight}
 use Rattle.engine_state.proofs.CuttingReadings.{in_by, later_in}
 use Rattle.engine_state.proofs.Joining.{quiet_here, went_by, went_on}
 use Rattle.engine_state.proofs.Uncalled.{all_of}

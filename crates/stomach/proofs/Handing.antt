@@ -24,16 +24,14 @@ use Rattle.macro_call.specs.PlainScans.{resume_scan}
 use Rattle.plain_tokens.specs.Arguments.{Called}
 use Rattle.engine_state.specs.Calls.{AllStand, ended_answer, open_call_of}
 use Rattle.engine_state.specs.declared.engine.Engine.{Engine}
-use Rattle.gullet.specs.declared.expansion.Stepped.{Stepped}
-use Rattle.gullet.specs.declared.expansion.Stepped.TheVariants.{Unexpandable}
+use Rattle.engine_state.specs.declared.outcome.Next.{Next}
 use Rattle.engine_state.specs.declared.outcome.Ruled.{Ruled}
 use Rattle.engine_state.specs.declared.outcome.Ruled.TheVariants.{Step, Free, Halted}
 use Rattle.engine_state.specs.Book.{Book, with_work}
-use Rattle.engine_state.specs.Stands.{SameReadings, state_of, page_of}
-use Rattle.engine_state.specs.Steps.{IsFree, IsHalted, StepsIf, asked_by, asks_now}
-use Rattle.gullet.specs.Stepping.{Steps, StepStepsIf, IsKept, Stays, expands}
+use Rattle.engine_state.specs.Stands.{state_of, page_of}
+use Rattle.engine_state.specs.Steps.{IsFree, IsHalted, NextStepsIf, StepsIf, asked_by, asks_now}
+use Rattle.gullet.specs.Stepping.{Stays, expands}
 use Rattle.engine_state.specs.Rules.{onward_of, feeds_of, Takes, Comes, DoesRule, DoesOnward}
-use Rattle.engine_state.proofs.Uncalled.{no_call}
 use Rattle.engine_state.proofs.Coming.{comes_went, comes_halts}
 use Rattle.gullet.proofs.Stepping.{no}
 use Rattle.stomach.specs.Obeying.{is_dropped}
@@ -102,17 +100,9 @@ module _ (sizes : Sizes) (want : Option Want) (s : State) (e1 e2 : Engine) (book
   rule_on Free none h = absurd h
   rule_on (Halted o) none h = comes_halts sizes want s e1 e2 book w v w' moves x 1 c o 0 (none tt) h
 
--- what a step came to
-pub steps_as : (sizes : Sizes) (want : Option Want) (s : State) (e' : Engine) (book : Book) (w w' : World) (ms : List Move) (n m : Stepped) → n ≡ m → Steps sizes want s e' book w w' ms n → Steps sizes want s e' book w w' ms m
-steps_as sizes want s e' book w w' ms n m is h = subst (λ (x : Stepped). Steps sizes want s e' book w w' ms x) is h
-
--- where the token stays, no call gathers its arguments, as before
-pub kept_uncalled : (e e1 : Engine) (n : Stepped) (x : Seen) → n ≡ Unexpandable x → (IsKept n → SameReadings e e1) → e.input.call ≡ NotCalling → e1.input.call ≡ NotCalling
-kept_uncalled e e1 n x is same none = no_call e1.input.call ((same (subst IsKept (sym is) tt)).call ∙ ap call_in none)
-
 -- whether there was a step
-pub steps_stepped : (b : Bool) (n m : Stepped) → n ≡ m → StepStepsIf n b → StepStepsIf m b
-steps_stepped b n m is h = subst (λ (x : Stepped). StepStepsIf x b) is h
+pub next_counts : (b : Bool) (n m : Next) → n ≡ m → NextStepsIf n b → NextStepsIf m b
+next_counts b n m is h = subst (λ (x : Next). NextStepsIf x b) is h
 
 pub stepped_steps : (r : Result Ruled Broken) (b : Bool) → b ≡ true → IfOk r (λ ruled. IsFree ruled → ⊥) → IfOk r (λ ruled. StepsIf ruled b)
 stepped_steps (Ok Step) b is h = is

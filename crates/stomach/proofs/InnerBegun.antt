@@ -33,7 +33,8 @@ use Rattle.engine_state.specs.Book.{Book, with_work}
 use Rattle.engine_state.specs.CutReadings.{CutsIn}
 use Rattle.engine_state.specs.Rules.{Went}
 use Rattle.engine_state.specs.Stands.{Stands, SameFrames, state_of, page_of}
-use Rattle.engine_state.specs.Steps.{weight, asked, pending_weight}
+use Rattle.plain_machine.specs.Weights.{pending_weight}
+use Rattle.engine_state.specs.Steps.{weight, asked}
 use Rattle.engine_state.proofs.Uncalled.{all_of}
 use Rattle.engine_state.proofs.CallWeighing.{lighter_by}
 use Rattle.gullet.proofs.JobName.{full_in}

@@ -14,7 +14,8 @@ use Rattle.gullet.specs.declared.expansion.Once.TheVariants as once
 use Rattle.gullet.specs.Stepping.{IsExpanded}
 use Rattle.engine_state.specs.declared.engine.Engine.{Engine}
 use Rattle.engine_state.specs.Stands.{SameFrames, SameBut}
-use Rattle.engine_state.specs.Steps.{weight, readings_weight, pending_weight}
+use Rattle.plain_machine.specs.Weights.{pending_weight}
+use Rattle.engine_state.specs.Steps.{weight, readings_weight}
 use Rattle.stomach.specs.Obeying.{Obeys}
 use Rattle.stomach.specs.Obeying as obeys
 use Rattle.stomach.proofs.RuleCloses.{closed_lighter_behind}

@@ -80,10 +80,6 @@ module _ (sizes : Sizes) (e : Engine) (a : Ask) (asks : (held : Lists) (work : L
 
 -- ITS MOVES
 
-still_join : (ms ns : List Move) → AreStill ms → AreStill ns → AreStill (ms ++ ns)
-still_join [] ns a b = b
-still_join (m ∷ ms) ns a b = (a.0, still_join ms ns a.1 b)
-
 front_still : (page : Page) (back : Bool) (name : List ℕ) → AreStill (input_front page back name)
 front_still page true name = (tt, (tt, (tt, (tt, (tt, (tt, (tt, (tt, tt))))))))
 front_still page false name = (tt, (tt, (tt, (tt, tt))))

@@ -23,7 +23,8 @@ use Rattle.engine_state.specs.Rules.{world_of, plan_of}
 use Rattle.engine_state.specs.Stands.{state_of}
 use Rattle.input_state.specs.declared.answer.Call.{Call}
 use Rattle.input_state.specs.Callings.{call_in}
-use Rattle.engine_state.specs.Steps.{weight, readings_weight, pending_weight, stepping, asks_now, wants_token, asks_start}
+use Rattle.plain_machine.specs.Weights.{pending_weight}
+use Rattle.engine_state.specs.Steps.{weight, readings_weight, stepping, asks_now, wants_token, asks_start}
 use Rattle.stomach.specs.declared.early.Early.{Early}
 use Rattle.stomach.specs.declared.early.Early.TheVariants as early
 use Rattle.stomach.specs.declared.runs.Ended.TheVariants as ended

@@ -30,7 +30,8 @@ use Rattle.engine_state.specs.declared.engine.Engine.{Engine}
 use Rattle.engine_state.specs.Book.{Book, with_work}
 use Rattle.engine_state.specs.Rules.{world_of, Halts, ReportsAs, Went}
 use Rattle.engine_state.specs.Stands.{Stands, IsSized, SameBut, SameFrames, OnlyColumn, page_of, state_of}
-use Rattle.engine_state.specs.Steps.{pending_weight, weight}
+use Rattle.plain_machine.specs.Weights.{pending_weight}
+use Rattle.engine_state.specs.Steps.{weight}
 use Rattle.engine_state.proofs.CallWeighing.{lighter_by}
 use Rattle.engine_state.proofs.Joining.{went_by, halts_least}
 use Rattle.engine_state.proofs.ReadingCloses.{ClosesStands, ClosesState, closed_here}

@@ -31,7 +31,8 @@ use Rattle.engine_state.specs.Calls.{AllStand}
 use Rattle.engine_state.specs.CutReadings.{CutsIn}
 use Rattle.engine_state.specs.Rules.{world_of, Halts, Reports, Went}
 use Rattle.engine_state.specs.Stands.{Stands, SameFrames, state_of, page_of, own_style}
-use Rattle.engine_state.specs.Steps.{asks_bare, weight, pending_weight}
+use Rattle.plain_machine.specs.Weights.{pending_weight}
+use Rattle.engine_state.specs.Steps.{asks_bare, weight}
 use Rattle.engine_state.proofs.CallKept.{frames_still}
 use Rattle.engine_state.proofs.CallsIn.{uncalled_reported}
 use Rattle.engine_state.proofs.CheckingMoves.{bare_kept}

@@ -9,7 +9,8 @@ ghost use Rattle.reading_frames.specs.Weights.{frames_weight, innermost_weight, 
 ghost use Rattle.plain_machine.specs.Plan.{acts, ended_by, passed, reached};
 ghost use Rattle.engine_state.specs.Clauses.{Still, MakesAlways, EndsAtHundredth, CutsReport, GoesAtReading, CutsAtReading, GoesOnward, CutsOnward, ReportsSo};
 ghost use Rattle.engine_state.specs.Stands.{Stands, SameFrames};
-ghost use Rattle.engine_state.specs.Steps.{pending_weight, weight, IsFree, IsHalted, IsStep};
+ghost use Rattle.plain_machine.specs.Weights.{pending_weight};
+ghost use Rattle.engine_state.specs.Steps.{weight, IsFree, IsHalted, IsStep};
 ghost use Rattle.stomach.specs.Halting.{DoesRuleAtReading, CutsRuleAtReading};
 ghost use Rattle.stomach.specs.Skipping.{Passes};
 ghost use Rattle.input_state.specs.Callings.{NotCalling};

@@ -10,7 +10,7 @@ ghost use Rattle.engine_state.specs.Clauses.{Still, HoldsLists, MakesMoves, Cuts
 ghost use Rattle.engine_state.specs.Entering.{joined, with_names, EntryFits, EntryRefused};
 ghost use Rattle.input_state.specs.Stored.{spelt as spelt_in};
 ghost use Rattle.engine_state.specs.Stands.{Stands, SameFrames};
-ghost use Rattle.engine_state.specs.Steps.{pending_weight};
+ghost use Rattle.plain_machine.specs.Weights.{pending_weight};
 ghost use Rattle.stomach.specs.Naming.{IsTooLong, OnlySpelt};
 
 use crate::effects::give_meaning;

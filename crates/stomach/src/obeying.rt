@@ -6,7 +6,8 @@ ghost use Rattle.engine_state.specs.Clauses.{CutsFree, DoesSilently, GoesOnward,
 ghost use Rattle.engine_state.specs.CutReadings.{CutsIn};
 ghost use Rattle.engine_state.specs.Stands.{Stands, SameFrames};
 ghost use Rattle.engine_state.specs.Rules.{DoesOnward};
-ghost use Rattle.engine_state.specs.Steps.{pending_weight, IsFree, IsHalted};
+ghost use Rattle.plain_machine.specs.Weights.{pending_weight};
+ghost use Rattle.engine_state.specs.Steps.{IsFree, IsHalted};
 ghost use Rattle.engine_state.specs.declared.outcome.Ruled.TheVariants.{Step};
 ghost use Rattle.stomach.specs.Clauses.{HandsToken};
 ghost use Rattle.stomach.specs.Obeying.{Obeys, is_dropped as plain_dropped};

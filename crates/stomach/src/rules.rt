@@ -13,8 +13,8 @@ ghost use Rattle.input_state.specs.Callings.{NotCalling, call_in};
 ghost use Rattle.gullet.specs.Stepping.{wants_raw};
 ghost use Rattle.engine_state.specs.Clauses.{CutsWhere, DoesWhere, Taking};
 ghost use Rattle.engine_state.specs.CutReadings.{CutsIn};
-ghost use Rattle.engine_state.specs.Stands.{Stands, SameFrames};
-ghost use Rattle.engine_state.specs.Rules.{plan_of, next_moves, DoesRule};
+ghost use Rattle.engine_state.specs.Stands.{Stands, SameFrames, page_of};
+ghost use Rattle.engine_state.specs.Rules.{plan_of, onward_of, next_moves, DoesOnward, DoesRule};
 ghost use Rattle.engine_state.specs.Steps.{asked, stepping, stops_run, IsStep, IsFree, IsHalted, StepsIf, weight, asks_now, asks_start};
 ghost use Rattle.stomach.specs.Clauses.{DoesIf};
 ghost use Rattle.stomach.specs.Innermost.{IsAsked, IsInnermost};
@@ -27,15 +27,41 @@ use crate::innermost::Innermost;
 use crate::lists::set_list;
 use crate::naming::make_name;
 use crate::obeying::hand_on;
-use engine_state::{Broken, Engine, PAR, Ruled, stops};
-use gullet::{Stepped, fail_call, put_call, run_away_call, step};
+use engine_state::{Broken, Engine, Next, PAR, Ruled, stops};
+use gullet::{enters_names, expand, fail_call, put_call, run_away_call, stays};
 use input_state::Call as MacroCall;
 use macro_call::CallAsk;
 use reading_frames::Ask;
 use rows::{Call, Effect};
-use tex_defs::Fatal;
+use tex_defs::{Fatal, Seen};
 use tex_syntax::{Outcome, Report, Want};
 use world_io::Sink;
+
+/// A token that was met is handed on where it stays, and expanded where it doesn't.
+///
+/// # Errors
+/// There is no room for what comes, or a write failed: the engine stands for the moment before.
+#[inline(always)]
+fn meet_token<S: Sink>(
+    engine: &mut Engine,
+    out: &mut S,
+    want: Option<Want>,
+    seen: Seen,
+) -> Result<Ruled, Broken>
+    requires idle { engine.old.input.making ≡ None }
+    requires uncalled { wants_raw want ≡ false → engine.old.input.call ≡ NotCalling }
+    ensures rule { IfOk result (DoesWhere (Taking want) DoesOnward engine.old engine.new (S.told out.old) (S.told out.new) (λ book. onward_of (page_of engine.old book) want book.work seen)) }
+    ensures err { IfErr result (CutsWhere (Taking want) engine.old engine.new (S.told out.old) (S.told out.new) (λ book. onward_of (page_of engine.old book) want book.work seen)) }
+    ensures halts { IfOk result (λ ruled. IsHalted ruled → SameFrames engine.old engine.new) }
+    ensures goes { IfOk result (λ ruled. IsHalted ruled → wants_raw want ≡ false) }
+    ensures on { IfOk result (λ ruled. IsFree ruled → ⊥) }
+    ensures idle { OnOk result (engine.new.input.making ≡ None) }
+{
+    if stays(want, seen) {
+        return hand_on(engine, out, want, seen);
+    }
+    expand(engine, out, seen)
+}
 
 /// The next token, and what becomes of it where it is wanted: by a call, a frame, or, where none is open, the stomach.
 fn token_rule<S: Sink>(
@@ -53,11 +79,11 @@ fn token_rule<S: Sink>(
     ensures halts { IfOk result (λ ruled. IsHalted ruled → SameFrames engine.old engine.new) }
     ensures idle { OnOk result (engine.new.input.making ≡ None) }
 {
-    match step(engine, out, want)? {
-        Stepped::More => Ok(Ruled::Step),
-        Stepped::Skipped => Ok(Ruled::Free),
-        Stepped::Unexpandable(x) => hand_on(engine, out, want, x),
-        Stepped::Over(outcome) => Ok(Ruled::Halted(outcome)),
+    match engine.next_token(out, enters_names(want))? {
+        Next::Token(seen) => meet_token(engine, out, want, seen),
+        Next::Line => Ok(Ruled::Step),
+        Next::Skipped => Ok(Ruled::Free),
+        Next::Over(outcome) => Ok(Ruled::Halted(outcome)),
     }
 }
 

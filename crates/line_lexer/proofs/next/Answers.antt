@@ -2,7 +2,7 @@ use Rattle.std.proofs.Common.{◌≡◌, ◌≤◌, ◌+◌, ◌-◌, ℕ, List,
 use Rattle.std.proofs.lemmas.List.{length-take-le}
 use borrow.Rule.Slice.PartMut.{put_mid}
 use Rattle.line_lexer.specs.declared.Lexed.{Lexed}
-use Rattle.line_lexer.specs.Answers.{state_of, span, given}
+use Rattle.line_lexer.specs.Answers.{span, given}
 use Rattle.line_lexer.proofs.LinePlaces.{given_in, behind_in}
 use Rattle.line_lexer.proofs.next.Goals as goal
 
@@ -17,8 +17,8 @@ returns-clause-gives c =
     let bytes = c.args.bytes.now in
     let line = c.lex-answer.new.line in
     let long : length line ≡ size = line_long bytes line at c.args.line.now.end c.requires.in_order c.requires.within c.lex-answer.auto.line in
-    ap (λ (x : Lexed). given (put_mid at size bytes line) (state_of c.lex-answer.result.state) (span (put_mid at size bytes line) (at + c.lex-answer.result.next) c.args.line.now.end) x) c.moved.ensures ∙
-    given_in bytes line at size (omega arith) long c.lex-answer.result.lexed (state_of c.lex-answer.result.state) c.args.line.now.end c.lex-answer.result.next (omega arith)
+    ap (λ (x : Lexed). given (put_mid at size bytes line) c.lex-answer.result.state (span (put_mid at size bytes line) (at + c.lex-answer.result.next) c.args.line.now.end) x) c.moved.ensures ∙
+    given_in bytes line at size (omega arith) long c.lex-answer.result.lexed c.lex-answer.result.state c.args.line.now.end c.lex-answer.result.next (omega arith)
     (omega (arith, c.lex-answer.ensures.inside)) c.lex-answer.ensures.takes ∙
     c.lex-answer.ensures.gives
 

@@ -11,7 +11,7 @@ use Rattle.engine_state.specs.Book.{Book}
 use Rattle.engine_state.specs.Clauses.{GoesFree}
 use Rattle.engine_state.specs.Rules.{Cuts, Went}
 use Rattle.engine_state.specs.Stands.{Stands, state_of, page_of}
-use Rattle.engine_state.specs.Steps.{pending_weight}
+use Rattle.plain_machine.specs.Weights.{pending_weight}
 use Rattle.engine_state.specs.declared.broken.Broken.TheVariants as broken
 use Rattle.engine_state.specs.declared.engine.Engine.{Engine}
 use Rattle.engine_state.proofs.Uncalled.{all_of}

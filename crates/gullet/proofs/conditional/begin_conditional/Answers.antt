@@ -13,7 +13,8 @@ use Rattle.engine_state.specs.declared.broken.Broken.TheVariants as broken
 use Rattle.engine_state.specs.declared.engine.Engine.{Engine}
 use Rattle.engine_state.specs.Book.{with_work}
 use Rattle.engine_state.specs.Stands.{state_of, page_of}
-use Rattle.engine_state.specs.Steps.{pending_weight, weight}
+use Rattle.plain_machine.specs.Weights.{pending_weight}
+use Rattle.engine_state.specs.Steps.{weight}
 use Rattle.engine_state.proofs.Counting.{counts_of}
 use Rattle.engine_state.proofs.CuttingReadings.{in_by}
 use Rattle.engine_state.proofs.Joining.{same_err, on_ok, err_to}

@@ -4,7 +4,7 @@ use Rattle.plain_machine.specs.Plan.{chosen, skips}
 use Rattle.plain_machine.specs.States.{LimitSet}
 use Rattle.engine_state.specs.declared.engine.Engine.{Engine}
 use Rattle.engine_state.specs.Stands.{state_of, page_of}
-use Rattle.engine_state.specs.Steps.{pending_weight}
+use Rattle.plain_machine.specs.Weights.{pending_weight}
 use Rattle.engine_state.proofs.CuttingReadings.{in_by}
 use Rattle.engine_state.proofs.Joining.{on_ok, err_to, went_by}
 use Rattle.gullet.proofs.Choosing.{chosen_by, went_here}

@@ -8,7 +8,7 @@ use Rattle.plain_machine.specs.States.{ConditionClosed}
 use Rattle.plain_readings.specs.Weights.{act_weight}
 use Rattle.engine_state.specs.declared.engine.Engine.{Engine}
 use Rattle.engine_state.specs.Stands.{state_of, page_of}
-use Rattle.engine_state.specs.Steps.{pending_weight}
+use Rattle.plain_machine.specs.Weights.{pending_weight}
 use Rattle.engine_state.proofs.Uncalled.{all_of}
 use Rattle.engine_state.proofs.CuttingReadings.{column_in, cuts_in, in_by}
 use Rattle.engine_state.proofs.Joining.{same_err, ok_to, err_to, on_ok, onward_by, went_by, column_went}

@@ -5,7 +5,8 @@ use Rattle.plain_machine.specs.States.{Closed}
 use Rattle.tex_defs.specs.declared.Fatal.TheVariants as fatal
 use Rattle.input_state.specs.Stored.{Stored}
 use Rattle.input_state.specs.Callings.{call_in}
-use Rattle.engine_state.specs.Steps.{pending_weight, wants_token}
+use Rattle.plain_machine.specs.Weights.{pending_weight}
+use Rattle.engine_state.specs.Steps.{wants_token}
 use Rattle.engine_state.specs.Book.{with_work}
 use Rattle.engine_state.proofs.CallEnding.{failed_went, failed_halts}
 use Rattle.engine_state.proofs.CallWeighing.{lighter_by}
@@ -26,7 +27,7 @@ pub returns-clause-rule : goal.returns-clause-rule
 returns-clause-rule g c =
     let yes : c.in_ok-report.field-0 ≡ true = grind (arith, common_steps, c.if-not-branch.false) in let e = c.args.engine.now in let e1 = c.report.new.self in
     let l = c.close_reading.ensures in
-    λ sizes f book r rs call is st. failed_went sizes e e1 c.close_reading.new.self book r rs f _ _ c.args.report st c.report.ensures.frames c.report.ensures.input (c.in_ok-report.ensures.sized yes sizes) l.ends l.column
+    λ sizes f book r rs call is st. failed_went sizes e e1 c.close_reading.new.self book r rs f _ _ c.args.report st c.report.ensures.frames c.report.ensures.input (c.in_ok-report.ensures.sized yes sizes) l.ends l.others.in_line
     (c.in_ok-report.ensures.on yes sizes f (with_work (r ∷ rs) book) (Closed ∷ []))
 
 pub returns-clause-light : goal.returns-clause-light

@@ -1,7 +1,7 @@
 use Rattle.std.proofs.Common.{ap}
 use Rattle.reading_frames.specs.Stack.{Stack}
 use Rattle.input_state.specs.Stored.{Stored}
-use Rattle.engine_state.specs.Steps.{pending_weight}
+use Rattle.plain_machine.specs.Weights.{pending_weight}
 use Rattle.engine_state.proofs.CallWeighing.{closed_within}
 use Rattle.gullet.proofs.gathering.put_call.Goals as goal
 

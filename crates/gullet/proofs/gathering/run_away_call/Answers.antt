@@ -4,7 +4,8 @@ use Rattle.input_state.specs.Stored.{Stored}
 use Rattle.input_state.specs.Callings.{call_in}
 use Rattle.engine_state.specs.declared.engine.Engine.{Engine}
 use Rattle.engine_state.specs.Book.{with_work}
-use Rattle.engine_state.specs.Steps.{pending_weight, wants_token}
+use Rattle.plain_machine.specs.Weights.{pending_weight}
+use Rattle.engine_state.specs.Steps.{wants_token}
 use Rattle.engine_state.specs.Calls.{argument_bytes}
 use Rattle.gullet.proofs.CallAway.{call_away_full, call_away_rule, call_away_cuts}
 use Rattle.engine_state.proofs.CallEnding.{written_stands, put_stands}

@@ -7,15 +7,16 @@ use Rattle.tex_syntax.specs.declared.words.Want.{Want}
 use Rattle.tex_syntax.specs.declared.words.Want.TheVariants.{Expanded, Nonblank}
 use Rattle.rows.specs.declared.command.Call.{Call}
 use Rattle.rows.specs.Tokens.{is_character}
-use Rattle.rows.specs.Readings.{Fed, Tok, Noted, Ask}
+use Rattle.rows.specs.Readings.{Fed, Tok, Noted}
+use Rattle.rows.specs.Commands.{CommandAsk, command_ask}
 use Rattle.plain_readings.specs.Spelling.{is_endcsname, makes, endcsname_missing, spelling, characters}
 use Rattle.plain_readings.specs.FileNames.{character_meant, is_blank, opens, named_on, file_naming, character_before, file_characters}
 use Rattle.plain_readings.specs.Laws.{Spells}
 use Rattle.plain_readings.proofs.laws.names_are_held.Goals as goal
 
 -- behind these characters
-abbrev Held : Call → (held : List Token) → Ask → Type 0
-Held c held a = Spells c (held ∷ []) a
+abbrev Held : Call → (held : List Token) → CommandAsk → Type 0
+Held c held a = Spells c (held ∷ []) (command_ask a)
 
 made : (c : Call) (ts : List Token) → Held c (ts ++ []) (makes c ts)
 made c ts = (refl, ap (λ (us : List Token). us ∷ []) (append-nil ts))
@@ -25,11 +26,11 @@ missing c ts [] = tt
 missing c ts (Noted ∷ fed) = made c ts
 missing c ts (y ∷ fed) = tt
 
-either : (b : Bool) (c : Call) (held : List Token) (p q : Ask) → Held c held p → Held c held q → Held c held (if b then p else q)
+either : (b : Bool) (c : Call) (held : List Token) (p q : CommandAsk) → Held c held p → Held c held q → Held c held (if b then p else q)
 either true c held p q h i = h
 either false c held p q h i = i
 
-met : (b : Bool) (c : Call) (ts us : List Token) (t : Token) (p q : Ask) → Held c ((ts ++ t ∷ []) ++ us) p → Held c (ts ++ []) q → Held c (ts ++ (if b then t ∷ us else [])) (if b then p else q)
+met : (b : Bool) (c : Call) (ts us : List Token) (t : Token) (p q : CommandAsk) → Held c ((ts ++ t ∷ []) ++ us) p → Held c (ts ++ []) q → Held c (ts ++ (if b then t ∷ us else [])) (if b then p else q)
 met true c ts us t p q h i = subst (λ (held : List Token). Held c held p) (append_assoc ts (t ∷ []) us) h
 met false c ts us t p q h i = i
 
@@ -45,11 +46,11 @@ spelt c ts (y ∷ fed) = tt
 opened : (c : Call) (back : Bool) (ts : List Token) → Held c (ts ++ []) (opens c back ts)
 opened c back ts = (refl, ap (λ (us : List Token). us ∷ []) (append-nil ts))
 
-blank : (b : Bool) (c : Call) (ts us : List Token) (t : Token) (p q : Ask) → Held c (ts ++ []) p → Held c ((ts ++ t ∷ []) ++ us) q → Held c (ts ++ (if b then [] else t ∷ us)) (if b then p else q)
+blank : (b : Bool) (c : Call) (ts us : List Token) (t : Token) (p q : CommandAsk) → Held c (ts ++ []) p → Held c ((ts ++ t ∷ []) ++ us) q → Held c (ts ++ (if b then [] else t ∷ us)) (if b then p else q)
 blank true c ts us t p q h i = h
 blank false c ts us t p q h i = subst (λ (held : List Token). Held c held q) (append_assoc ts (t ∷ []) us) i
 
-meant : (o : Option Token) (c : Call) (ts us : List Token) (longer : List Token → Ask) → ((vs : List Token) → Held c (vs ++ us) (longer vs)) →
+meant : (o : Option Token) (c : Call) (ts us : List Token) (longer : List Token → CommandAsk) → ((vs : List Token) → Held c (vs ++ us) (longer vs)) →
     Held c (ts ++ character_before o us) (named_on c ts o longer)
 meant None c ts us longer h = opened c true ts
 meant (Some t) c ts us longer h = blank (is_blank t) c ts us t _ _ (opened c false ts) (h (ts ++ t ∷ []))

@@ -6,11 +6,12 @@ use Rattle.rows.specs.declared.stage.Start.TheVariants.{Looks, Begins}
 use Rattle.rows.specs.declared.command.Call.{Call}
 use Rattle.rows.specs.Stages.{start}
 use Rattle.rows.specs.Table.{row_of, first_in, rest_in}
+use Rattle.rows.specs.Commands.{command_ask}
 use Rattle.rows.specs.Run.{started, behind, run, turned}
 use Rattle.rows.specs.Laws.{Starts}
 use Rattle.rows.proofs.laws.readings_start.Goals as goal
 
-first_starts : (c : Call) (s : Stage) (ss : List Stage) (begun : Start) → Starts (behind turned c [] (λ es more. run turned c ss es more) (started s c begun []))
+first_starts : (c : Call) (s : Stage) (ss : List Stage) (begun : Start) → Starts (command_ask (behind turned c [] (λ es more. run turned c ss es more) (started s c begun [])))
 first_starts c s ss (Looks want) = tt
 first_starts c s ss (Begins k) = tt
 

@@ -9,7 +9,7 @@ use Rattle.plain_machine.specs.Plan.{reached, skips}
 use Rattle.engine_state.specs.CutReadings.{CutsIn}
 use Rattle.engine_state.specs.Rules.{world_of, Cuts, Halts, Went}
 use Rattle.engine_state.specs.Stands.{state_of, page_of}
-use Rattle.engine_state.specs.Steps.{pending_weight}
+use Rattle.plain_machine.specs.Weights.{pending_weight}
 use Rattle.engine_state.specs.declared.engine.Engine.{Engine}
 use Rattle.engine_state.proofs.CuttingReadings.{column_in, stands_in}
 use Rattle.engine_state.proofs.Joining.{column_went, same_err}

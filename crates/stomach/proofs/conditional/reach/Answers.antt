@@ -25,13 +25,13 @@ returns-in_err-ruled-clause-err g c = let e = c.args.engine.now in let e1 = c.cl
     same_err c.from_residual.result n.field-0.0 _ c.from_residual.ensures.1
     (λ sizes f book r rs st.
     in_by sizes _ e2 _ _ _ _ n.field-0.0 (ap (λ (x : Step). Closed ∷ reached (page_of e book) c.args.call x) (stepped e e1 c.args.aim c.args.ender c.above_sought-above.result c.feed.result (l.same c.requires.uncalled).others.conditionals c.above_sought-above.ensures c.feed.ensures.step))
-    (obeyed_cut sizes e e1 book r rs f s (l.state sizes book r rs st) l.column e2 (g.S.Sink.told c.follow.new.out) (λ page. reached page c.args.call c.feed.result) n.field-0.0 (n.ensures.err sizes f (with_work rs book) (l.stands sizes book r rs st))))
+    (obeyed_cut sizes e e1 book r rs f s (l.state sizes book r rs st) l.others.in_line e2 (g.S.Sink.told c.follow.new.out) (λ page. reached page c.args.call c.feed.result) n.field-0.0 (n.ensures.err sizes f (with_work rs book) (l.stands sizes book r rs st))))
 
 pub returns-clause-rule : goal.returns-clause-rule
 returns-clause-rule g c = let e = c.args.engine.now in let e1 = c.close_reading.new.self in let e2 = c.follow.new.engine in let l = c.close_reading.ensures in let n = c.in_ok-ruled in let s = g.S.Sink.told c.args.out.now in
     λ sizes f book r rs st.
     rules_by sizes _ e2 _ _ _ _ c.free.result (ap (λ (x : Step). Closed ∷ reached (page_of e book) c.args.call x) (stepped e e1 c.args.aim c.args.ender c.above_sought-above.result c.feed.result (l.same c.requires.uncalled).others.conditionals c.above_sought-above.ensures c.feed.ensures.step))
-    (obeyed_rule sizes e e1 book r rs f s (l.state sizes book r rs st) l.column e2 (g.S.Sink.told c.follow.new.out) (λ page. reached page c.args.call c.feed.result) n.ruled c.free.result c.free.ensures
+    (obeyed_rule sizes e e1 book r rs f s (l.state sizes book r rs st) l.others.in_line e2 (g.S.Sink.told c.follow.new.out) (λ page. reached page c.args.call c.feed.result) n.ruled c.free.result c.free.ensures
     ((l.same c.requires.uncalled).call ∙ c.requires.uncalled) n.ensures.halts (l.stands sizes book r rs st) (n.ensures.rule sizes f (with_work rs book) (l.stands sizes book r rs st)))
 
 pub returns-clause-light : goal.returns-clause-light

@@ -15,7 +15,7 @@ pub returns-clause-rule : goal.returns-clause-rule
 returns-clause-rule g c = let e = c.args.engine.now in let n = c.in_ok-act_alone.ensures in let l = c.close_reading.ensures in
     λ alone small sizes f book r rs st. let done = n.stands sizes _ st in
     alone_rule sizes e c.act_alone.new.engine book r rs f (g.S.Sink.told c.args.out.now) (g.S.Sink.told c.act_alone.new.out) c.args.call c.args.effect c.close_reading.new.self alone
-    (n.did small sizes f _ st) (l.state sizes book r rs done) l.column (l.stands sizes book r rs done)
+    (n.did small sizes f _ st) (l.state sizes book r rs done) l.others.in_line (l.stands sizes book r rs done)
 
 pub returns-clause-light : goal.returns-clause-light
 returns-clause-light g c = let n = c.in_ok-act_alone.ensures in let l = c.close_reading.ensures in

@@ -11,12 +11,12 @@ pub returns-in_err-ruled-clause-err : goal.returns-in_err-ruled-clause-err
 returns-in_err-ruled-clause-err g c = let e = c.args.engine.now in let e1 = c.close_reading.new.self in let e2 = c.obey.new.engine in let l = c.close_reading.ensures in let n = c.in_err-ruled in
     same_err c.from_residual.result n.field-0.0 _ c.from_residual.ensures.1
     (λ sizes f book r rs st.
-    obeyed_cut sizes e e1 book r rs f (g.S.Sink.told c.args.out.now) (l.state sizes book r rs st) l.column e2 (g.S.Sink.told c.obey.new.out) (λ page. command page c.args.x.token c.args.x.meaning) n.field-0.0 (n.ensures.err sizes f _ (l.stands sizes book r rs st)))
+    obeyed_cut sizes e e1 book r rs f (g.S.Sink.told c.args.out.now) (l.state sizes book r rs st) l.others.in_line e2 (g.S.Sink.told c.obey.new.out) (λ page. command page c.args.x.token c.args.x.meaning) n.field-0.0 (n.ensures.err sizes f _ (l.stands sizes book r rs st)))
 
 pub returns-clause-rule : goal.returns-clause-rule
 returns-clause-rule g c = let e = c.args.engine.now in let e1 = c.close_reading.new.self in let e2 = c.obey.new.engine in let l = c.close_reading.ensures in let n = c.in_ok-ruled in
     λ sizes f book r rs st.
-    obeyed_rule sizes e e1 book r rs f (g.S.Sink.told c.args.out.now) (l.state sizes book r rs st) l.column e2 (g.S.Sink.told c.obey.new.out) (λ page. command page c.args.x.token c.args.x.meaning) n.ruled c.free.result c.free.ensures
+    obeyed_rule sizes e e1 book r rs f (g.S.Sink.told c.args.out.now) (l.state sizes book r rs st) l.others.in_line e2 (g.S.Sink.told c.obey.new.out) (λ page. command page c.args.x.token c.args.x.meaning) n.ruled c.free.result c.free.ensures
     ((l.same c.requires.uncalled).call ∙ c.requires.uncalled) n.ensures.halts (l.stands sizes book r rs st) (n.ensures.rule sizes f _ (l.stands sizes book r rs st))
 
 pub returns-clause-light : goal.returns-clause-light

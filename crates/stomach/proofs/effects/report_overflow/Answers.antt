@@ -7,7 +7,7 @@ use Rattle.rows.specs.declared.command.Effect.TheVariants as effect
 use Rattle.plain_machine.specs.Plan.{acts}
 use Rattle.engine_state.specs.Book.{with_work}
 use Rattle.engine_state.specs.Stands.{page_of}
-use Rattle.engine_state.specs.Steps.{pending_weight}
+use Rattle.plain_machine.specs.Weights.{pending_weight}
 use Rattle.engine_state.proofs.Joining.{same_err}
 use Rattle.engine_state.proofs.CuttingReadings.{stands_in}
 use Rattle.engine_state.proofs.CallWeighing.{lighter_by}

@@ -13,7 +13,7 @@ use Rattle.engine_state.specs.declared.broken.Broken.TheVariants as broken
 use Rattle.engine_state.specs.Book.{with_work}
 use Rattle.engine_state.specs.Rules.{world_of}
 use Rattle.engine_state.specs.Stands.{state_of}
-use Rattle.engine_state.specs.Steps.{pending_weight}
+use Rattle.plain_machine.specs.Weights.{pending_weight}
 use Rattle.engine_state.proofs.Joining.{same_err, column_went}
 use Rattle.engine_state.proofs.CuttingReadings.{column_in, stands_in}
 use Rattle.engine_state.proofs.AtLocations.{frames_join}

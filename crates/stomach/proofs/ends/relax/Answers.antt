@@ -8,7 +8,7 @@ use Rattle.engine_state.specs.declared.broken.Broken.TheVariants as broken
 use Rattle.engine_state.specs.Book.{with_work}
 use Rattle.engine_state.specs.Rules.{Cuts}
 use Rattle.engine_state.specs.Stands.{page_of, state_of}
-use Rattle.engine_state.specs.Steps.{pending_weight}
+use Rattle.plain_machine.specs.Weights.{pending_weight}
 use Rattle.engine_state.proofs.Joining.{same_err}
 use Rattle.engine_state.proofs.CuttingReadings.{stands_in}
 use Rattle.stomach.proofs.Telling.{noted_in, noted_went, relax_free, told_light}

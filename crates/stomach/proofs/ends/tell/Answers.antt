@@ -9,7 +9,7 @@ use Rattle.engine_state.specs.declared.broken.Broken.TheVariants as broken
 use Rattle.engine_state.specs.Book.{with_work}
 use Rattle.engine_state.specs.Rules.{world_of}
 use Rattle.engine_state.specs.Stands.{page_of}
-use Rattle.engine_state.specs.Steps.{pending_weight}
+use Rattle.plain_machine.specs.Weights.{pending_weight}
 use Rattle.engine_state.proofs.CallEnding.{put_stands, reported_stands}
 use Rattle.engine_state.proofs.CheckingMoves.{asks_kept}
 use Rattle.engine_state.proofs.Counting.{call_counts}

@@ -10,7 +10,7 @@ use Rattle.engine_state.specs.declared.engine.Engine.{Engine}
 use Rattle.engine_state.specs.Book.{with_work}
 use Rattle.engine_state.specs.Rules.{Cuts}
 use Rattle.engine_state.specs.Stands.{state_of}
-use Rattle.engine_state.specs.Steps.{pending_weight}
+use Rattle.plain_machine.specs.Weights.{pending_weight}
 use Rattle.engine_state.proofs.Counting.{counts_of}
 use Rattle.engine_state.proofs.Joining.{same_err}
 use Rattle.engine_state.proofs.CuttingReadings.{stands_in}
@@ -74,7 +74,7 @@ returns-clause-files c =
     ∙ (ap (λ (x : Engine). x.input.pending.next) c.spell_file.ensures.only ∙ c.put_back.ensures.next)
 
 pub returns-clause-column : goal.returns-clause-column
-returns-clause-column c = c.close_reading.ensures.column ∙ (ap (λ (x : Engine). x.in_line) c.spell_file.ensures.only ∙ c.put_back.ensures.others.in_line)
+returns-clause-column c = c.close_reading.ensures.others.in_line ∙ (ap (λ (x : Engine). x.in_line) c.spell_file.ensures.only ∙ c.put_back.ensures.others.in_line)
 
 pub returns-clause-idle : goal.returns-clause-idle
 returns-clause-idle c =

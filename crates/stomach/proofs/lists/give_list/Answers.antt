@@ -7,7 +7,7 @@ use Rattle.engine_state.specs.declared.broken.Broken.TheVariants as broken
 use Rattle.engine_state.specs.Book.{with_work}
 use Rattle.engine_state.specs.Lists.{with_list}
 use Rattle.engine_state.specs.Stands.{page_of, state_of}
-use Rattle.engine_state.specs.Steps.{pending_weight}
+use Rattle.plain_machine.specs.Weights.{pending_weight}
 use Rattle.engine_state.specs.declared.engine.Engine.{Engine}
 use Rattle.engine_state.proofs.CuttingReadings.{in_by, stands_in}
 use Rattle.engine_state.proofs.Joining.{quiet_here, same_err, on_ok, on_both, err_to, when_true}

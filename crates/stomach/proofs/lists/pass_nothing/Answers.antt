@@ -7,7 +7,7 @@ use Rattle.input_state.specs.Stored.{Stored}
 use Rattle.engine_state.specs.declared.broken.Broken.TheVariants as broken
 use Rattle.engine_state.specs.Book.{with_work}
 use Rattle.engine_state.specs.Stands.{state_of}
-use Rattle.engine_state.specs.Steps.{pending_weight}
+use Rattle.plain_machine.specs.Weights.{pending_weight}
 use Rattle.engine_state.proofs.Grouping.{asks_same}
 use Rattle.engine_state.proofs.Joining.{quiet_here, same_err, when_true}
 use Rattle.stomach.proofs.ActingAlone.{value_did, value_stands}

@@ -12,7 +12,7 @@ use Rattle.plain_machine.proofs.Doing.{did_none}
 use Rattle.engine_state.specs.Book.{with_work}
 use Rattle.engine_state.specs.Stands.{page_of, state_of}
 use Rattle.engine_state.specs.declared.engine.Engine.{Engine}
-use Rattle.engine_state.specs.Steps.{pending_weight}
+use Rattle.plain_machine.specs.Weights.{pending_weight}
 use Rattle.engine_state.proofs.Counting.{counts_of}
 use Rattle.engine_state.proofs.Joining.{column_went, same_err, ok_to, err_to, went_by}
 use Rattle.gullet.proofs.Stepping.{free_of}
@@ -76,20 +76,20 @@ returns-clause-rule g c = let e = c.args.engine.now in let e1 = c.match-effect.e
     elim c.match-effect.branch [
       | in-Message+in_ok-write_message-in-Message w ↦ rw w.out-is (λ sizes f book r rs st asks.
           let n = w.write_message.new.self in
-          closed_as e1 e2 n w.engine-is k.stands k.state k.column sizes _ book r rs f _ _ _ _ (ap (λ (x : Effect). acts_on (page_of e book) c.args.call x (kept_list_of c.args.listed e.input.builds)) w.in-Message.is)
+          closed_as e1 e2 n w.engine-is k.stands k.state k.others.in_line sizes _ book r rs f _ _ _ _ (ap (λ (x : Effect). acts_on (page_of e book) c.args.call x (kept_list_of c.args.listed e.input.builds)) w.in-Message.is)
           (w.in_ok-write_message-in-Message.ensures.did sizes f (with_work (r ∷ rs) book)) refl (column_stands sizes e n (with_work (r ∷ rs) book) w.write_message.ensures.only st))
       | in-MakeName+in_ok-make_name-in-MakeName w ↦ rw w.out-is (λ sizes f book r rs st asks.
           let n = w.make_name.new.engine in let i = w.in_ok-make_name-in-MakeName.ensures in
-          closed_as e1 e2 n w.engine-is k.stands k.state k.column sizes _ book r rs f _ _ _ _ (ap (λ (x : Effect). acts_on (page_of e book) c.args.call x (kept_list_of c.args.listed e.input.builds)) w.in-MakeName.is)
+          closed_as e1 e2 n w.engine-is k.stands k.state k.others.in_line sizes _ book r rs f _ _ _ _ (ap (λ (x : Effect). acts_on (page_of e book) c.args.call x (kept_list_of c.args.listed e.input.builds)) w.in-MakeName.is)
           (column_did sizes _ _ n f _ e.in_line _ w.make_name.ensures.column (i.did sizes _ (with_work (r ∷ rs) book) st)) (name_free (page_of e book) (character_codes (kept_list_of c.args.listed e.input.builds))) (i.stands sizes (with_work (r ∷ rs) book) st))
       | in-ChangeCase+in_ok-put_changed-in-ChangeCase w ↦ rw w.out-is (λ sizes f book r rs st asks.
           let n = w.put_changed.new.self in let i = w.in_ok-put_changed-in-ChangeCase.ensures in
           let changed = map (case_changed (case_codes w.in-ChangeCase.upper (page_of e book).now)) (kept_list_of c.args.listed e.input.builds) in
-          closed_as e1 e2 n w.engine-is k.stands k.state k.column sizes _ book r rs f _ _ (put_text changed) _ (ap (λ (x : Effect). acts_on (page_of e book) c.args.call x (kept_list_of c.args.listed e.input.builds)) w.in-ChangeCase.is)
+          closed_as e1 e2 n w.engine-is k.stands k.state k.others.in_line sizes _ book r rs f _ _ (put_text changed) _ (ap (λ (x : Effect). acts_on (page_of e book) c.args.call x (kept_list_of c.args.listed e.input.builds)) w.in-ChangeCase.is)
           (column_did sizes _ _ n f _ e.in_line _ w.put_changed.ensures.front.others.in_line (i.did sizes _ (with_work (r ∷ rs) book) (counts_of sizes e (with_work (r ∷ rs) book) st) c.requires.idle)) (free_of (put_text changed) (text_none changed))
           (front_stands sizes e n (with_work (r ∷ rs) book) w.put_changed.ensures.front i.idle st))
       | in_default w ↦ rw w.out-is (λ sizes f book r rs st asks.
-          closed_as e1 e2 e w.engine-is k.stands k.state k.column sizes _ book r rs f _ _ [] _ (acts_else (page_of e book) c.args.call c.args.effect (kept_list_of c.args.listed e.input.builds) w.in_default.not-Message w.in_default.not-ErrorMessage w.in_default.not-MakeName w.in_default.not-ChangeCase w.in_default.not-SetList)
+          closed_as e1 e2 e w.engine-is k.stands k.state k.others.in_line sizes _ book r rs f _ _ [] _ (acts_else (page_of e book) c.args.call c.args.effect (kept_list_of c.args.listed e.input.builds) w.in_default.not-Message w.in_default.not-ErrorMessage w.in_default.not-MakeName w.in_default.not-ChangeCase w.in_default.not-SetList)
           (did_none sizes (state_of e (with_work (r ∷ rs) book)) _) refl st)
     ]
 

@@ -128,7 +128,7 @@ returns-in_ok-define-in-Defines-clause-step g c = let e = c.args.engine.now in l
 
 pub returns-in-Ends-clause-rule : goal.returns-in-Ends-clause-rule
 returns-in-Ends-clause-rule g c = let e = c.args.engine.now in let e' = c.close_reading.new.self in let i = c.in-Ends in let n = c.close_reading.ensures in let s = g.S.Sink.told c.args.out.now in
-    λ sizes f book. asked_rules e e' s s c.args.ask Ends Free i.is c.requires.stands sizes f (λ b r rs st. closed_alone e e' n.stands n.state n.column sizes b r rs f s st) book
+    λ sizes f book. asked_rules e e' s s c.args.ask Ends Free i.is c.requires.stands sizes f (λ b r rs st. closed_alone e e' n.stands n.state n.others.in_line sizes b r rs f s st) book
 
 pub returns-in-Ends-clause-light : goal.returns-in-Ends-clause-light
 returns-in-Ends-clause-light g c free = let e = c.args.engine.now in let i = c.in-Ends in let n = c.close_reading.ensures in

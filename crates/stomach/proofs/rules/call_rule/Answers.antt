@@ -80,7 +80,7 @@ pub returns-in-ParEnded-true-clause-rule : goal.returns-in-ParEnded-true-clause-
 returns-in-ParEnded-true-clause-rule g c = let e = c.args.engine.now in let n = c.close_reading in let told = g.S.Sink.told c.args.out.now in
     let is = asks_this e c.args.call (asked.ParEnded true) c.requires.call (c.in-ParEnded-true.is ∙ ap asked.ParEnded (grind (arith, common_steps, c.in-ParEnded-true.field-0-test, c.in-ParEnded-true.field-0-is, c.in-ParEnded-true.is))) in
     λ sizes f. by_call sizes e _ (λ book plan. Went sizes (state_of e book) n.new.self (world_of f told e) (world_of f told n.new.self) plan 0) is
-    (λ book r rs st k. column_went sizes _ n.new.self f told e.in_line (Closed ∷ []) 0 n.ensures.column (n.ensures.ends sizes (world_of f told e) book r rs tt st))
+    (λ book r rs st k. column_went sizes _ n.new.self f told e.in_line (Closed ∷ []) 0 n.ensures.others.in_line (n.ensures.ends sizes (world_of f told e) book r rs tt st))
 
 pub returns-in_ok-put_call-in-Gathered-clause-rule : goal.returns-in_ok-put_call-in-Gathered-clause-rule
 returns-in_ok-put_call-in-Gathered-clause-rule g c = let e = c.args.engine.now in let n = c.put_call in let i = c.in_ok-put_call-in-Gathered.ensures in let told = g.S.Sink.told c.args.out.now in

@@ -5,7 +5,7 @@ use Rattle.rows.specs.Readings.{ActsOn}
 use Rattle.plain_machine.specs.States.{Closed}
 use Rattle.input_state.specs.Stored.{Stored}
 use Rattle.engine_state.specs.Book.{with_work}
-use Rattle.engine_state.specs.Steps.{pending_weight}
+use Rattle.plain_machine.specs.Weights.{pending_weight}
 use Rattle.engine_state.proofs.Joining.{same_err}
 use Rattle.engine_state.proofs.CuttingReadings.{stands_in}
 use Rattle.stomach.proofs.RuleCloses.{closed_lighter_behind, reported_closed, reported_halts}
@@ -18,7 +18,7 @@ returns-in_err-report_as-clause-err g c = let i = c.in_err-report_as in let e = 
 
 pub returns-then-branch-clause-rule : goal.returns-then-branch-clause-rule
 returns-then-branch-clause-rule g c = let e = c.args.engine.now in let n = c.report_as.ensures in let k = c.close_reading.ensures in let i = c.in_ok-report_as.ensures in
-    λ sizes f book r rs st. reported_closed sizes e c.report_as.new.self c.close_reading.new.self book r rs f _ _ _ k.stands k.state k.column n.frames n.input (i.sized c.if-branch.true sizes) st (i.on c.if-branch.true sizes f (with_work (r ∷ rs) book) (Closed ∷ []))
+    λ sizes f book r rs st. reported_closed sizes e c.report_as.new.self c.close_reading.new.self book r rs f _ _ _ k.stands k.state k.others.in_line n.frames n.input (i.sized c.if-branch.true sizes) st (i.on c.if-branch.true sizes f (with_work (r ∷ rs) book) (Closed ∷ []))
 
 pub returns-then-branch-clause-light : goal.returns-then-branch-clause-light
 returns-then-branch-clause-light g c = let n = c.report_as.ensures in let k = c.close_reading.ensures in

@@ -27,37 +27,37 @@ returns-in_err-some-clause-err c = let e = c.args.self.now in let e1 = c.begin_t
     (λ sizes w book more counts idle.
     subst (λ (x : Engine). Cuts sizes (state_of e book) x book w w (put_text (map (case_changed (case_codes c.args.upper (page_of e book).now)) (kept_list_of c.args.listed e.input.builds)) ++ more) (broken.Full i.field-0.0)) (sym c.grow_changed.ensures.rest)
     (subst (λ (us : List Token). Cuts sizes (state_of e book) (record e1 { input = i2 }) book w w (put_text us ++ more) (broken.Full i.field-0.0)) (sym (changed_behind e e1 book c.begin_text.ensures.front c.args.upper c.args.listed))
-    (stopped_cuts e e1 i2 ts b.begun c.begin_text.ensures.front c.begin_text.ensures.settled i.field-0.0 i.ensures.err sizes w book more counts.sound (b.did sizes w book counts.sound))))
+    (stopped_cuts e e1 i2 ts b.begun c.begin_text.ensures.front c.begin_text.ensures.ended i.field-0.0 i.ensures.err sizes w book more counts.sound (b.did sizes w book counts.sound))))
 
 pub returns-in_err-some-clause-front : goal.returns-in_err-some-clause-front
 returns-in_err-some-clause-front c = let e = c.args.self.now in let e1 = c.begin_text.new.self in let b = c.in_ok-begin_text.ensures in
     subst (λ (x : Engine). IsInFront e x) (sym c.grow_changed.ensures.rest)
-    (stopped_front e e1 c.grow_changed.new.self.input (changed_list c.args.upper c.args.listed e1.input) b.begun c.begin_text.ensures.front c.begin_text.ensures.settled c.in_err-some.field-0.0 c.in_err-some.ensures.err)
+    (stopped_front e e1 c.grow_changed.new.self.input (changed_list c.args.upper c.args.listed e1.input) b.begun c.begin_text.ensures.front c.begin_text.ensures.ended c.in_err-some.field-0.0 c.in_err-some.ensures.err)
 
-pub end_text-requires-clause-settled : goal.end_text-requires-clause-settled
-end_text-requires-clause-settled c = let e1 = c.begin_text.new.self in
-    grown_settled c.args.self.now e1 c.grow_changed.new.self.input (changed_list c.args.upper c.args.listed e1.input) c.in_ok-begin_text.ensures.begun c.begin_text.ensures.front c.begin_text.ensures.settled c.in_ok-some.ensures.ok
+pub end_text-requires-clause-ended : goal.end_text-requires-clause-ended
+end_text-requires-clause-ended c = let e1 = c.begin_text.new.self in
+    grown_settled c.args.self.now e1 c.grow_changed.new.self.input (changed_list c.args.upper c.args.listed e1.input) c.in_ok-begin_text.ensures.begun c.begin_text.ensures.front c.begin_text.ensures.ended c.in_ok-some.ensures.ok
 
 pub end_text-requires-clause-some : goal.end_text-requires-clause-some
 end_text-requires-clause-some c = let e1 = c.begin_text.new.self in let i2 = c.grow_changed.new.self.input in let ts = changed_list c.args.upper c.args.listed e1.input in
-    listed_some c.in_ok-some.some ts i2.making (grown_making c.args.self.now e1 i2 ts c.in_ok-begin_text.ensures.begun c.begin_text.ensures.front c.begin_text.ensures.settled c.in_ok-some.ensures.ok) c.in_ok-some.ensures.some
+    listed_some c.in_ok-some.some ts i2.making (grown_making c.args.self.now e1 i2 ts c.in_ok-begin_text.ensures.begun c.begin_text.ensures.front c.begin_text.ensures.ended c.in_ok-some.ensures.ok) c.in_ok-some.ensures.some
 
 pub returns-clause-did : goal.returns-clause-did
 returns-clause-did c = let e = c.args.self.now in let e1 = c.begin_text.new.self in let i2 = c.grow_changed.new.self.input in let b = c.in_ok-begin_text.ensures in let e3 = c.end_text.new.self in let ts = changed_list c.args.upper c.args.listed e1.input in
     on_ok c.end_text.result (λ h sizes w book counts idle.
     subst (λ (us : List Token). Did sizes (state_of e book) (state_of e3 book) w w (put_text us)) (sym (changed_behind e e1 book c.begin_text.ensures.front c.args.upper c.args.listed))
-    (whole_did e e1 i2 ts b.begun c.begin_text.ensures.front c.begin_text.ensures.settled c.in_ok-some.ensures.ok sizes w book counts.sound (b.did sizes w book counts.sound) e3
+    (whole_did e e1 i2 ts b.begun c.begin_text.ensures.front c.begin_text.ensures.ended c.in_ok-some.ensures.ok sizes w book counts.sound (b.did sizes w book counts.sound) e3
     (subst (λ (x : Engine). IsSound sizes x book.number book.all_lists → Did sizes (state_of x book) (state_of e3 book) w w (put_made (made x.input.making))) c.grow_changed.ensures.rest (h sizes w book)))) c.end_text.ensures.did
 
 pub returns-clause-err : goal.returns-clause-err
 returns-clause-err c = let e = c.args.self.now in let e1 = c.begin_text.new.self in let i2 = c.grow_changed.new.self.input in let b = c.in_ok-begin_text.ensures in let e3 = c.end_text.new.self in let ts = changed_list c.args.upper c.args.listed e1.input in
     err_to c.end_text.result (λ y h sizes w book more counts idle.
     subst (λ (us : List Token). Cuts sizes (state_of e book) e3 book w w (put_text us ++ more) y) (sym (changed_behind e e1 book c.begin_text.ensures.front c.args.upper c.args.listed))
-    (whole_cuts e e1 i2 ts b.begun c.begin_text.ensures.front c.begin_text.ensures.settled c.in_ok-some.ensures.ok sizes w book counts.sound (b.did sizes w book counts.sound) e3 y more
+    (whole_cuts e e1 i2 ts b.begun c.begin_text.ensures.front c.begin_text.ensures.ended c.in_ok-some.ensures.ok sizes w book counts.sound (b.did sizes w book counts.sound) e3 y more
     (subst (λ (x : Engine). IsSound sizes x book.number book.all_lists → Cuts sizes (state_of x book) e3 book w w (put_made (made x.input.making) ++ more) y) c.grow_changed.ensures.rest (h sizes w book more)))) c.end_text.ensures.err
 
 pub returns-clause-front : goal.returns-clause-front
 returns-clause-front c = let e = c.args.self.now in let e1 = c.begin_text.new.self in let i2 = c.grow_changed.new.self.input in let b = c.in_ok-begin_text.ensures in let ts = changed_list c.args.upper c.args.listed e1.input in
     front_join e (record e1 { input = i2 }) c.end_text.new.self
-    (grown_front e e1 i2 ts b.begun c.begin_text.ensures.front c.begin_text.ensures.settled c.in_ok-some.ensures.ok)
+    (grown_front e e1 i2 ts b.begun c.begin_text.ensures.front c.begin_text.ensures.ended c.in_ok-some.ensures.ok)
     (subst (λ (x : Engine). IsInFront x c.end_text.new.self) c.grow_changed.ensures.rest c.end_text.ensures.front)

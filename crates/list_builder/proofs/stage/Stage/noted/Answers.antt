@@ -2,8 +2,8 @@ use Rattle.std.proofs.Common.{◌≡◌, ◌+◌, ◌≤◌, ℕ, List, ◌∷�
 use Rattle.tex_syntax.specs.declared.words.Manner.{Manner}
 use Rattle.tex_defs.specs.declared.Token.{Token}
 use Rattle.tex_defs.specs.declared.Token.TheVariants as token
+use Rattle.plain_state.specs.declared.body.Body.{Body}
 use Rattle.plain_state.specs.Definitions.{Fed, Noted}
-use Rattle.list_builder.specs.declared.stage.Body.{Body}
 use Rattle.list_builder.specs.declared.stage.Next.TheVariants.{On, Finished}
 use Rattle.list_builder.specs.declared.stage.Stage.{Stage}
 use Rattle.list_builder.specs.declared.stage.Stage.TheVariants.{First, FirstMissing, Parameters, Place, Misnumbered, Tenth, BodyMissing, InBody, Reference, Illegal}

@@ -6,19 +6,18 @@ use Rattle.tex_defs.specs.declared.Token.{Token}
 use Rattle.tex_defs.specs.declared.Seen.{Seen}
 use Rattle.plain_tokens.specs.Categories.{begin_group, end_group}
 use Rattle.plain_tokens.specs.Tokens.{has_category}
+use Rattle.plain_state.specs.declared.body.Body.{Body}
 use Rattle.plain_state.specs.Definitions.{Fed, Tok, body, is_reference}
-use Rattle.list_builder.specs.declared.stage.Body.{Body}
 use Rattle.list_builder.specs.declared.stage.Next.TheVariants.{On, Finished}
 use Rattle.list_builder.specs.declared.stage.Stage.{Stage}
 use Rattle.list_builder.specs.declared.stage.Stage.TheVariants.{InBody, Reference}
 use Rattle.list_builder.specs.declared.stage.Step.{Step}
-use Rattle.list_builder.specs.Plain.{body_of}
 use Rattle.list_builder.specs.Stages.{goes, depth_after, growth}
 use Rattle.list_builder.proofs.stage.Stage.took_body.Goals as goal
 
 -- a token in a body comes to this step
 record Comes (b : Body) (d : ℕ) (x : Seen) (r : Step) : Type 0 where
-  takes : (m : Manner) (list : List Token) (fed : List Fed) → body m (body_of b) d list (Tok x ∷ fed) ≡ goes r m list fed
+  takes : (m : Manner) (list : List Token) (fed : List Fed) → body m b d list (Tok x ∷ fed) ≡ goes r m list fed
   shallow : depth_after r.next ≤ d + growth r
 
 abbrev to : Stage → Step
@@ -41,10 +40,10 @@ module _ (b : Body) (d : ℕ) (x : Seen) where
     closes : has_category end_group x.token ≡ true → (d == 0) ≡ false → Comes b d x (with x.token (InBody b (d - 1)))
     closes f z = record { takes = λ m list fed. rw (e, f, z) refl; shallow = omega arith }
 
-    refers : has_category end_group x.token ≡ false → is_reference (body_of b) x ≡ true → Comes b d x (to (Reference b d x.token))
+    refers : has_category end_group x.token ≡ false → is_reference b x ≡ true → Comes b d x (to (Reference b d x.token))
     refers f g = record { takes = λ m list fed. rw (e, f, g) refl; shallow = omega arith }
 
-    stays : has_category end_group x.token ≡ false → is_reference (body_of b) x ≡ false → Comes b d x (with x.token (InBody b d))
+    stays : has_category end_group x.token ≡ false → is_reference b x ≡ false → Comes b d x (with x.token (InBody b d))
     stays f g = record { takes = λ m list fed. rw (e, f, g) refl; shallow = omega arith }
 
 pub returns-then-has_category : goal.returns-then-has_category

@@ -4,7 +4,6 @@ use Rattle.tex_defs.specs.declared.Token.{Token}
 use Rattle.token_lists.specs.Table.{tokens_at}
 use Rattle.token_lists.specs.Ids.{id_of, build_id}
 use Rattle.macro_call.specs.Cursors.{delimiter_at}
-use Rattle.macro_call.specs.Modes.{par_mode}
 use Rattle.macro_call.specs.Stages.{stage_of, Releases}
 use Rattle.macro_call.proofs.Cursors.{delimiter_within, delimiter_ahead}
 use Rattle.macro_call.proofs.Tables.{length_within}
@@ -51,20 +50,20 @@ pub returns-then-is_whole-clause-took : goal.returns-then-is_whole-clause-took
 returns-then-is_whole-clause-took c =
     let ds : List Token = delimiter_at c.args.lists.now (id_of c.args.list.now) c.args.delimiter in
     let p = (whole (goal.at.returns-then-is_whole-clause-took c).After-is_whole).0 c.if-is_whole.true in
-    took_whole ds (stage_of c.args.lists.now c.args.self.now) _ c.args.x (par_mode c.args.mode) c.advance_match-out.result.0 c.requires.stands (released (goal.at.returns-then-is_whole-clause-took c).After-advance_match-out)
+    took_whole ds (stage_of c.args.lists.now c.args.self.now) _ c.args.x c.args.mode c.advance_match-out.result.0 c.requires.stands (released (goal.at.returns-then-is_whole-clause-took c).After-advance_match-out)
     (ap (tokens_at c.without_braces.new.lists) c.without_braces.ensures.same ∙ c.without_braces.ensures.stripped) p.0 p.1
 
 pub returns-in-Err-clause-cut_short : goal.returns-in-Err-clause-cut_short
 returns-in-Err-clause-cut_short c =
     let ds : List Token = delimiter_at c.args.lists.now (id_of c.args.list.now) c.args.delimiter in
-    cut_brace ds (stage_of c.args.lists.now c.args.self.now) c.args.x (par_mode c.args.mode) c.advance_match-out.result.0 c.requires.stands (released (goal.at.returns-in-Err-clause-cut_short c).After-advance_match-out)
+    cut_brace ds (stage_of c.args.lists.now c.args.self.now) c.args.x c.args.mode c.advance_match-out.result.0 c.requires.stands (released (goal.at.returns-in-Err-clause-cut_short c).After-advance_match-out)
     (not_whole ds c.args.self.now.matched c.advance_match-out.result.0 c.is_whole.result c.requires.stands.1.fits (whole (goal.at.returns-in-Err-clause-cut_short c).After-is_whole) c.if-is_whole.false) _
     (sym c.is_end.ensures ∙ c.if-is_end.true) c.if-self-eq0.true c.in-Err.ensures.cut_short
 
 pub returns-then-self-eq0-clause-took : goal.returns-then-self-eq0-clause-took
 returns-then-self-eq0-clause-took c =
     let ds : List Token = delimiter_at c.args.lists.now (id_of c.args.list.now) c.args.delimiter in
-    took_brace ds (stage_of c.args.lists.now c.args.self.now) _ c.args.x (par_mode c.args.mode) c.advance_match-out.result.0 c.requires.stands (released (goal.at.returns-then-self-eq0-clause-took c).After-advance_match-out)
+    took_brace ds (stage_of c.args.lists.now c.args.self.now) _ c.args.x c.args.mode c.advance_match-out.result.0 c.requires.stands (released (goal.at.returns-then-self-eq0-clause-took c).After-advance_match-out)
     (not_whole ds c.args.self.now.matched c.advance_match-out.result.0 c.is_whole.result c.requires.stands.1.fits (whole (goal.at.returns-then-self-eq0-clause-took c).After-is_whole) c.if-is_whole.false)
     (ap (tokens_at c.keep.new.lists) c.keep.ensures.same ∙ c.in_default.ensures.kept.0)
     (c.in_default.ensures.kept.1 ∙ ap (λ (k : ℕ). length (tokens_at c.keep.new.lists k)) (sym c.keep.ensures.same)) c.in_default.ensures.kept.2 c.in_default.ensures.kept.3

@@ -3,15 +3,14 @@ use Rattle.token_lists.specs.Ids.{id_of}
 use Rattle.token_lists.specs.Table.{Entry, tokens_at}
 use Rattle.macro_call.specs.declared.scan.ArgScan.{ArgScan}
 use Rattle.plain_tokens.specs.Arguments.{mode_of}
-use Rattle.macro_call.specs.Modes.{par_mode}
 use Rattle.macro_call.specs.PlainScans.{first_scan}
 use Rattle.macro_call.specs.Scans.{scan_of}
 use Rattle.macro_call.proofs.Begun.{begun_start, begun_place, told_at, new_text, new_gathers}
 use Rattle.macro_call.proofs.scan.ArgScan.new.Goals as goal
 use Rattle.macro_call.proofs.scan.ArgScan.new.Goals.{After-none, in-Some+in-Ok, in_default, then-long, else-long}
 
-the_mode : (c : After-none) → par_mode c.if-long.result ≡ mode_of c.args.long
-the_mode c = elim c.if-long.branch [ then-long w ↦ ap par_mode w.result-is ∙ sym (ap mode_of w.if-long.true) | else-long w ↦ ap par_mode w.result-is ∙ sym (ap mode_of w.if-long.false) ]
+the_mode : (c : After-none) → c.if-long.result ≡ mode_of c.args.long
+the_mode c = elim c.if-long.branch [ then-long w ↦ w.result-is ∙ sym (ap mode_of w.if-long.true) | else-long w ↦ w.result-is ∙ sym (ap mode_of w.if-long.false) ]
 
 abbrev made : After-none → ArgScan
 made c = record { cursor = c.match-behind_place.cursor; mode = c.if-long.result; braced = false; present = c.match-behind_place.present; args = c.none.result }

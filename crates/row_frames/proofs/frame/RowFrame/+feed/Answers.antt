@@ -2,6 +2,7 @@
 use Rattle.std.proofs.Common.{List, [], refl, ◌∙◌}
 use Rattle.rows.specs.declared.command.Call.{Call}
 use Rattle.rows.specs.Readings as reading
+use Rattle.rows.specs.Commands.{CommandAsk}
 use Rattle.row_frames.specs.declared.frame.RowFrame.{RowFrame}
 use Rattle.row_frames.specs.Data.{values}
 use Rattle.row_frames.specs.Views.{fed_of}
@@ -10,7 +11,7 @@ use Rattle.row_frames.proofs.Rows.{row_takes, row_leaves}
 use Rattle.row_frames.proofs.frame.RowFrame.+feed.Goals as goal
 
 -- what comes where the command goes on as another
-abbrev turn : RowFrame → Call → List reading.Fed → reading.Ask
+abbrev turn : RowFrame → Call → List reading.Fed → CommandAsk
 turn f c fed = turn_of f.is_turned c fed
 
 pub returns-in-Takes-clause-answer : goal.returns-in-Takes-clause-answer

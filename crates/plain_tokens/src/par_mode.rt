@@ -1,7 +1,6 @@
 // How a macro call takes `\par`.
 ghost use Rattle.std.specs.Prelude.{◌≡◌};
 ghost use Rattle.plain_tokens.specs.Arguments.{is_short, is_checked};
-ghost use Rattle.macro_call.specs.Modes.{par_mode};
 
 /// Whether a `\par` may stand in the arguments of a call. *The TeXbook*, chapter 20 (`\long`).
 #[derive(Clone, Copy, PartialEq, Eq)]
@@ -18,7 +17,7 @@ impl ParMode {
     /// Whether a `\par` ends the call.
     #[inline(always)]
     pub fn is_short(self) -> bool
-        ensures { result ≡ is_short (par_mode self) }
+        ensures { result ≡ is_short self }
     {
         match self {
             ParMode::Long => false,
@@ -29,7 +28,7 @@ impl ParMode {
 
     /// Whether a `\par` that ends the call is lost without a report.
     pub fn is_checked(self) -> bool
-        ensures { result ≡ is_checked (par_mode self) }
+        ensures { result ≡ is_checked self }
     {
         match self {
             ParMode::Long => false,

@@ -7,7 +7,7 @@ use Rattle.input_stack.specs.View.{pending}
 use Rattle.input_stack.proofs.Pushed.{used_is, room_left}
 use Rattle.input_stack.proofs.Tops.{true_is}
 use Rattle.input_stack.proofs.Given.{pull_ok, pull_err, countable_stays, next_same, lasts_but, has_room}
-use Rattle.input_stack.proofs.stack.InputStack.pull_settled.Goals as goal
+use Rattle.input_stack.proofs.stack.InputStack.pull_behind_ended.Goals as goal
 
 pub drop_finished-requires : goal.drop_finished-requires
 drop_finished-requires c = c.requires.stands
