@@ -23,7 +23,7 @@ use Rattle.engine_state.proofs.CallsIn.{brace_call}
 use Rattle.engine_state.specs.Stands.{SameStore, state_of}
 use Rattle.engine_state.specs.Rules.{Went}
 use Rattle.engine_state.proofs.CallEnding.{here as here_call}
-use Rattle.engine_state.proofs.CallsFed.{scan_stands, settled_stand}
+use Rattle.engine_state.proofs.CallsFed.{scan_stands, unbraced_stand}
 use Rattle.engine_state.proofs.CallsKnown.{CallStands, Taking}
 use Rattle.engine_state.proofs.Joining.{quiet_here, went_by}
 use Rattle.engine_state.proofs.Storing.{sound_still, store_scan}
@@ -41,7 +41,7 @@ note_went sizes e e1 name w book r rs is st after =
       stands = record {
         sound = sound_still sizes e e1 book.number book.all_lists (ap (λ (y : Engine). y.sizes) after) (ap (λ (y : Engine). y.readings.size) after) (ap (λ (y : Engine). y.conditionals) after) (ap (λ (y : Engine). y.names) after) (ap (λ (y : Engine). y.reports) after) store st.sound;
         idle = ap (λ (y : Engine). y.input.making) after ∙ st.idle;
-        all = settled_stand e e1 book.number name st.all.readings.text k.scan r rs Noted (scan_stands e book.number name k.scan r rs k.is st.all) (ap (λ (y : Engine). y.readings) after) (ap (λ (y : Engine). y.input.builds) after) store k.scan.mode
+        all = unbraced_stand e e1 book.number name st.all.readings.text k.scan r rs Noted (scan_stands e book.number name k.scan r rs k.is st.all) (ap (λ (y : Engine). y.readings) after) (ap (λ (y : Engine). y.input.builds) after) store k.scan.mode
             (ap (λ (y : Engine). y.input.call) after ∙ ap (with_scan noted_scan) k.is) (λ fed. scans_gather.noted st.all.readings.text k.scan (call_fed fed));
       };
       did = did_silent sizes (Feeds Noted) _ _ w refl

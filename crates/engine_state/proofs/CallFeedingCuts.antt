@@ -16,6 +16,7 @@ use Rattle.plain_readings.specs.Readings as reading
 use Rattle.plain_tokens.specs.Puts.{list_of_tokens}
 use Rattle.rows.specs.Readings.{Tok}
 use Rattle.plain_readings.specs.Readings.{Reading}
+use Rattle.plain_machine.specs.declared.broken.Broken.TheVariants as broken
 use Rattle.plain_machine.specs.States.{State, Move, Grows, Feeds, Completed, Opened}
 use Rattle.plain_tokens.specs.Tables.{list_words, lists_words, memory, refused}
 use Rattle.plain_machine.specs.Demands.{refusal, words}
@@ -38,7 +39,6 @@ use Rattle.input_state.specs.Callings.{Calling, call_lists, last_first, call_in,
 use Rattle.input_state.specs.Calls.{text_of}
 use Rattle.input_state.specs.Macros.{list_at}
 use Rattle.input_state.specs.Stored.{KeepsShared, words as stored_words}
-use Rattle.engine_state.specs.declared.broken.Broken.TheVariants as broken
 use Rattle.engine_state.specs.declared.engine.Engine.{Engine}
 use Rattle.engine_state.specs.Book.{Book, with_work}
 use Rattle.engine_state.specs.Calls.{AllStand, HasRead}

@@ -9,7 +9,6 @@ use Rattle.reading_frames.specs.Weights.{frames_weight, innermost_weight, stack_
 use Rattle.reading_frames.proofs.Weights.{small as weights_small}
 use Rattle.input_state.specs.Reads.{gives_step}
 use Rattle.input_state.specs.Stored.{Stored}
-use Rattle.engine_state.specs.declared.broken.Broken.{Broken}
 use Rattle.input_state.specs.declared.answer.Call.{Call}
 use Rattle.input_state.specs.Callings.{Calling, NotCalling, call_in}
 use Rattle.macro_call.specs.declared.ask.CallAsk.{CallAsk}
@@ -19,6 +18,7 @@ use Rattle.engine_state.specs.declared.outcome.Ruled.{Ruled}
 use Rattle.engine_state.specs.declared.outcome.Ruled.TheVariants.{Step, Free, Halted}
 use Rattle.engine_state.specs.Calls.{asks_by, asks_of}
 use Rattle.engine_state.specs.Stands.{SameFrames}
+use Rattle.plain_machine.specs.declared.broken.Broken.{Broken}
 use Rattle.plain_machine.specs.Weights.{pending_weight}
 use Rattle.engine_state.specs.Steps.{stepping, asked, asks_more, asks_now, readings_weight, weight, IsStep, StepsIf, asked_by, wants_token}
 use Rattle.reading_frames.specs.declared.frame.Frame.{Frame}

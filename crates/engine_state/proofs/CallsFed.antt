@@ -68,8 +68,8 @@ call_begins : (m n : ParMode) (start : List Token) (places : List (List Token)) 
 call_begins m n [] places = arguments_begin m n [] places
 call_begins m n (d ∷ ds) places = refl
 
-abbrev pub settled : ParMode → Scan → Scan
-settled mode scan = record { at = scan.at; mode = mode; braced = false; present = scan.present; args = scan.args }
+abbrev pub unbraced : ParMode → Scan → Scan
+unbraced mode scan = record { at = scan.at; mode = mode; braced = false; present = scan.present; args = scan.args }
 
 -- where no list is in work no extra brace came
 none_braced : (b : Bool) (args : List (List Token)) (work : Option (List Token)) (a : Answer) → a ≡ answer_of (asks_where b) args work → work_in a ≡ work → work ≡ None → a ≡ plain.More args work
@@ -77,16 +77,16 @@ none_braced true args work a says is none = cc (says, is, none)
 none_braced false args work a says is none = says
 
 -- it asks for more
-settled_more : (text : List Token) (mode : ParMode) (scan : Scan) (o : Option Stage) → scan.present ≡ o → HasRead (scan_asks scan) scan (resume_scan text scan []) → resume_scan text (settled mode scan) [] ≡ plain.More scan.args (scan_work scan)
-settled_more text mode scan None is far =
+unbraced_more : (text : List Token) (mode : ParMode) (scan : Scan) (o : Option Stage) → scan.present ≡ o → HasRead (scan_asks scan) scan (resume_scan text scan []) → resume_scan text (unbraced mode scan) [] ≡ plain.More scan.args (scan_work scan)
+unbraced_more text mode scan None is far =
     let rest : List Token = drop scan.at text in
-    let begins : resume_scan text (settled mode scan) [] ≡ resume_scan text scan [] = rw is (call_begins mode scan.mode (start_of rest) (places_of rest)) in
+    let begins : resume_scan text (unbraced mode scan) [] ≡ resume_scan text scan [] = rw is (call_begins mode scan.mode (start_of rest) (places_of rest)) in
     begins ∙ none_braced scan.braced scan.args (scan_work scan) (resume_scan text scan []) far.says far.work (ap (option_map (λ (s : Stage). s.list)) is)
-settled_more text mode scan (Some s) is far =
+unbraced_more text mode scan (Some s) is far =
     let start : List Token = start_of (drop scan.at text) in
     let so_far : List Token = in_work start (kept_in s) (read_in start s) in
     let now : work_in (resume_scan text scan []) ≡ Some so_far = rw is (work-sought scan.args scan.braced so_far) in
-    let more : resume_scan text (settled mode scan) [] ≡ plain.More scan.args (Some so_far) = rw is refl in
+    let more : resume_scan text (unbraced mode scan) [] ≡ plain.More scan.args (Some so_far) = rw is refl in
     more ∙ ap (plain.More scan.args) (sym now ∙ far.work)
 
 -- THE CALL THAT TAKES TOKENS, as the relation has it
@@ -120,8 +120,8 @@ module _ (e e2 : Engine) (number : ℕ → ℕ) (name : Name) (text : List Token
       }
 
   -- behind a check, or the report of an extra brace
-  pub settled_stand : (mode : ParMode) → e2.input.call ≡ Gathering name (settled mode scan) → ((fed : List Fed) → resume_scan text scan (call_fed (y ∷ fed)) ≡ resume_scan text (settled mode scan) (call_fed fed)) → ReadingsStand e2 number (fed_with y (r ∷ rs))
-  settled_stand mode now on =
-      let is : resume_scan text (settled mode scan) [] ≡ plain.More scan.args (scan_work scan) = settled_more text mode scan scan.present refl h.far in
-      fed_stand (Gathering name (settled mode scan)) (resume_scan text (settled mode scan)) ask.More now refl refl on
+  pub unbraced_stand : (mode : ParMode) → e2.input.call ≡ Gathering name (unbraced mode scan) → ((fed : List Fed) → resume_scan text scan (call_fed (y ∷ fed)) ≡ resume_scan text (unbraced mode scan) (call_fed fed)) → ReadingsStand e2 number (fed_with y (r ∷ rs))
+  unbraced_stand mode now on =
+      let is : resume_scan text (unbraced mode scan) [] ≡ plain.More scan.args (scan_work scan) = unbraced_more text mode scan scan.present refl h.far in
+      fed_stand (Gathering name (unbraced mode scan)) (resume_scan text (unbraced mode scan)) ask.More now refl refl on
       (record { says = is; args = ap arguments_in is; work = ap work_in is; bare = h.far.bare })

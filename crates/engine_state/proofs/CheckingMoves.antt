@@ -22,6 +22,7 @@ use Rattle.plain_state.specs.Reports.{report_bytes, runaway_bytes}
 use Rattle.rows.specs.Readings.{Cut, Ask}
 use Rattle.plain_readings.specs.Readings.{Reading, fed_with}
 use Rattle.plain_readings.specs.Scanning.{Scanning, Builds, SkippedText}
+use Rattle.plain_machine.specs.declared.broken.Broken.{Broken}
 use Rattle.plain_machine.specs.States.{State, Move, Written, Reported, Feeds}
 use Rattle.plain_tokens.specs.Tokens.{space_token, is_outer}
 use Rattle.plain_machine.specs.Plan.{Page, style_of, wanted, reported, cut_or_not, put_one, page_behind, incomplete, checked, met, met_outer}
@@ -37,7 +38,6 @@ use Rattle.conditionals.specs.Open.{innermost_test}
 use Rattle.reading_frames.specs.Stack.{Stack, asks_in}
 use Rattle.reading_frames.specs.declared.ask.Found.{Found}
 use Rattle.reading_frames.specs.declared.ask.Found.TheVariants as found
-use Rattle.engine_state.specs.declared.broken.Broken.{Broken}
 use Rattle.input_state.specs.declared.answer.Call.{Call}
 use Rattle.engine_state.specs.declared.engine.Engine.{Engine}
 use Rattle.engine_state.specs.declared.outcome.Ruled.{Ruled}

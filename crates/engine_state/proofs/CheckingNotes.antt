@@ -29,7 +29,7 @@ use Rattle.engine_state.specs.Calls.{asks_by, AllStand, AsksToken, ReadingsStand
 use Rattle.engine_state.proofs.CallsIn.{open_call}
 use Rattle.engine_state.specs.Steps.{asked_by}
 use Rattle.engine_state.proofs.CallFeedingAnswers.{in_front}
-use Rattle.engine_state.proofs.CallsFed.{scan_stands, settled_stand}
+use Rattle.engine_state.proofs.CallsFed.{scan_stands, unbraced_stand}
 use Rattle.engine_state.proofs.CallsKnown.{CallStands, Gathers, Taking}
 use Rattle.engine_state.specs.Stands.{SameStore, state_of}
 use Rattle.engine_state.specs.Rules.{world_of}
@@ -86,7 +86,7 @@ module _ (sizes : Sizes) (e e2 : Engine) (book : Book) (name : Name) (r : Readin
   noted_stands = record {
     sound = sound_still sizes e e2 book.number book.all_lists (ap (λ (y : Engine). y.sizes) after) (ap (λ (y : Engine). y.readings.size) after) (ap (λ (y : Engine). y.conditionals) after) (ap (λ (y : Engine). y.names) after) (ap (λ (y : Engine). y.reports) after) store st.sound;
     idle = ap (λ (y : Engine). y.input.making) after ∙ st.idle;
-    all = settled_stand e e2 book.number name stood.readings.text t.scan r rs Cut (scan_stands e book.number name t.scan r rs t.is stood) (ap (λ (y : Engine). y.readings) after) (ap (λ (y : Engine). y.input.builds) after) store Checked
+    all = unbraced_stand e e2 book.number name stood.readings.text t.scan r rs Cut (scan_stands e book.number name t.scan r rs t.is stood) (ap (λ (y : Engine). y.readings) after) (ap (λ (y : Engine). y.input.builds) after) store Checked
         (ap (λ (y : Engine). y.input.call) after ∙ ap (with_scan cut_scan) t.is) (λ fed. scans_gather.cut stood.readings.text t.scan (call_fed fed));
   }
 

@@ -8,6 +8,7 @@ use Rattle.tex_defs.specs.declared.Fatal.TheVariants.{HundredErrors}
 use Rattle.tex_defs.specs.declared.Seen.{Seen}
 use Rattle.tex_defs.specs.declared.Sizes.{Sizes}
 use Rattle.tex_defs.specs.Places.{World}
+use Rattle.plain_machine.specs.declared.broken.Broken.{Broken}
 use Rattle.plain_machine.specs.States.{State, Move}
 use Rattle.plain_machine.specs.Does.{Did}
 use Rattle.plain_machine.specs.Runs.{steps}
@@ -21,7 +22,6 @@ use Rattle.engine_state.specs.declared.outcome.Ruled.TheVariants.{Step, Free, Ha
 use Rattle.engine_state.specs.Book.{Book}
 use Rattle.engine_state.specs.Stands.{state_of, page_of}
 use Rattle.engine_state.specs.Steps.{next_met, next_free}
-use Rattle.engine_state.specs.declared.broken.Broken.{Broken}
 use Rattle.engine_state.specs.CutReadings.{CutsIn}
 use Rattle.engine_state.specs.Rules.{onward_of, Comes, Meets, Nexts, Halts, Went, DoesOnward}
 use Rattle.engine_state.proofs.Joining.{halts_few, halts_on, halts_least, went_by, went_on}

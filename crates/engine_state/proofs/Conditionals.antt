@@ -19,6 +19,8 @@ use Rattle.plain_tokens.specs.Arguments.{are_same}
 use Rattle.plain_tokens.specs.Meanings.{meaning_to_let}
 use Rattle.plain_tokens.specs.Pending.{all_puts}
 use Rattle.plain_tokens.specs.Printed.{Style, meaning_tokens}
+use Rattle.plain_machine.specs.declared.broken.Broken.{Broken}
+use Rattle.plain_machine.specs.declared.broken.Broken.TheVariants as broken
 use Rattle.plain_machine.specs.States.{Move, Written, ConditionOpened, LimitSet, ConditionClosed}
 use Rattle.plain_machine.specs.Plan.{conditionals_left, shared_tokens, tokens_meant}
 use Rattle.plain_machine.specs.Does.{Did}
@@ -26,8 +28,6 @@ use Rattle.plain_machine.proofs.Doing.{did_one, did_none, did_join}
 use Rattle.plain_machine.proofs.Ties.{tokens_let}
 use Rattle.world_io.specs.Contents.{FilesTold, SinkTold}
 use Rattle.input_state.specs.Calls.{macro_text, list_to_let}
-use Rattle.engine_state.specs.declared.broken.Broken.{Broken}
-use Rattle.engine_state.specs.declared.broken.Broken.TheVariants as broken
 use Rattle.engine_state.specs.declared.engine.Engine.{Engine}
 use Rattle.engine_state.specs.declared.outcome.Last.TheVariants.{End}
 use Rattle.engine_state.specs.Begins.{last_bytes, last_written}

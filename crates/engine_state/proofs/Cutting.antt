@@ -4,19 +4,19 @@ use Rattle.std.specs.Prelude.{Bool, Some}
 use Rattle.tex_defs.specs.declared.Sizes.{Sizes}
 use Rattle.tex_defs.specs.declared.Full.{Full}
 use Rattle.tex_defs.specs.Places.{World, Place, Transcript, OfFile, grown}
+use Rattle.plain_machine.specs.declared.broken.Broken.{Broken}
+use Rattle.plain_machine.specs.declared.broken.Broken.TheVariants as broken
 use Rattle.plain_machine.specs.States.{State, Move, Written}
 use Rattle.plain_machine.specs.Demands.{refusal}
 use Rattle.plain_machine.specs.Runs.{Wrote, after}
-use Rattle.plain_machine.specs.Does.{Did, IsFault, IsWant}
+use Rattle.plain_machine.specs.Does.{Did}
+use Rattle.plain_machine.specs.Faults.{broken_by}
 use Rattle.plain_machine.proofs.Doing.{did_one, cut_first, cut_later, cut_in, cut_full}
 use Rattle.world_io.specs.Contents.{FilesTold, SinkTold, world}
 use Rattle.world_io.specs.declared.traits.Fault.{Fault}
 use Rattle.world_io.specs.declared.traits.Fault.TheVariants.{Failed, NoMemory}
 use Rattle.transcript.specs.Taken.{Took, TookFront}
-use Rattle.engine_state.specs.declared.broken.Broken.{Broken}
-use Rattle.engine_state.specs.declared.broken.Broken.TheVariants as broken
 use Rattle.engine_state.specs.declared.engine.Engine.{Engine}
-use Rattle.engine_state.specs.Faults.{broken_by, why_of}
 use Rattle.engine_state.specs.Book.{Book}
 use Rattle.engine_state.specs.Stands.{OnlyColumn, state_of}
 use Rattle.engine_state.specs.Rules.{world_of, Cuts}
@@ -27,11 +27,11 @@ cuts_by sizes s e' book w w' ms ns b e h = subst (λ (x : List Move). Cuts sizes
 
 -- cut off already in the first of two
 pub first_cuts : (sizes : Sizes) (s : State) (e' : Engine) (book : Book) (w w' : World) (ms ns : List Move) (b : Broken) → Cuts sizes s e' book w w' ms b → Cuts sizes s e' book w w' (ms ++ ns) b
-first_cuts sizes s e' book w w' ms ns b h = record { at = h.at; cut = cut_first sizes s h.at w w' ms ns (why_of b) h.cut; same = h.same }
+first_cuts sizes s e' book w w' ms ns b h = record { at = h.at; cut = cut_first sizes s h.at w w' ms ns b h.cut; same = h.same }
 
 -- cut off behind moves that were done
 pub later_cuts : (sizes : Sizes) (s s1 : State) (e' : Engine) (book : Book) (w w1 w' : World) (ms ns : List Move) (b : Broken) → Did sizes s s1 w w1 ms → Cuts sizes s1 e' book w1 w' ns b → Cuts sizes s e' book w w' (ms ++ ns) b
-later_cuts sizes s s1 e' book w w1 w' ms ns b d h = record { at = h.at; cut = cut_later sizes s s1 h.at w w1 w' ms ns (why_of b) d h.cut; same = h.same }
+later_cuts sizes s s1 e' book w w1 w' ms ns b d h = record { at = h.at; cut = cut_later sizes s s1 h.at w w1 w' ms ns b d h.cut; same = h.same }
 
 -- cut off before the first move, for which a table has no room
 pub full_cuts : (sizes : Sizes) (s : State) (e' : Engine) (book : Book) (w : World) (m : Move) (rest : List Move) (full : Full) (b : Broken) →
@@ -63,12 +63,12 @@ module _ (sizes : Sizes) (f : FilesTold) (s s' : SinkTold) (e e' : Engine) (book
   cut_by : (fault : Fault) (text : List ℕ) (more : List Move) → TookFront s s' e.in_line e'.in_line text fault → Cuts sizes (state_of e book) e' book (world_of f s e) (world_of f s' e') (Written Transcript text ∷ more) (broken_by fault)
   cut_by Failed text more h = record {
     at = state_of e book;
-    cut = cut_in sizes (Written Transcript text) more h.count (state_of e book) _ _ IsFault tt (inr (h.failed refl)) (wrote_out f s s' e.in_line e'.in_line (take h.count text) h.took);
+    cut = cut_in sizes (Written Transcript text) more h.count (state_of e book) _ _ broken.WriteFault tt (inr (h.failed refl)) (wrote_out f s s' e.in_line e'.in_line (take h.count text) h.took);
     same = column_state e e' book only;
   }
   cut_by NoMemory text more h = record {
     at = state_of e book;
-    cut = cut_in sizes (Written Transcript text) more h.count (state_of e book) _ _ IsWant tt (inr (h.wanted refl)) (wrote_out f s s' e.in_line e'.in_line (take h.count text) h.took);
+    cut = cut_in sizes (Written Transcript text) more h.count (state_of e book) _ _ broken.Want tt (inr (h.wanted refl)) (wrote_out f s s' e.in_line e'.in_line (take h.count text) h.took);
     same = column_state e e' book only;
   }
 

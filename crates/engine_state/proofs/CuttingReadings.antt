@@ -4,13 +4,13 @@ use Rattle.std.specs.Prelude.{Bool, None}
 use Rattle.tex_defs.specs.declared.Sizes.{Sizes}
 use Rattle.tex_defs.specs.Places.{World}
 use Rattle.plain_readings.specs.Readings.{Reading}
+use Rattle.plain_machine.specs.declared.broken.Broken.{Broken}
 use Rattle.plain_machine.specs.States.{State, Move}
 use Rattle.plain_machine.specs.Does.{Did}
 use Rattle.world_io.specs.Contents.{FilesTold, SinkTold, world}
 use Rattle.input_state.specs.Callings.{Calling, NotCalling}
 use Rattle.reading_frames.specs.Stack.{Stack}
 use Rattle.reading_frames.specs.Frames as frames
-use Rattle.engine_state.specs.declared.broken.Broken.{Broken}
 use Rattle.engine_state.specs.declared.engine.Engine.{Engine}
 use Rattle.engine_state.specs.Book.{Book}
 use Rattle.engine_state.specs.Calls.{AllStand, FramesOf, open_call_of}

@@ -9,6 +9,7 @@ use Rattle.plain_tokens.specs.Puts.{Put as PutList}
 use Rattle.plain_tokens.specs.Pending.{Pending, end_token_lists, with_begun, with_end, ending, all_puts}
 use Rattle.plain_tokens.specs.Tables.{is_put, next_file, refused}
 use Rattle.equivalents.specs.Parameters.{end_of_line}
+use Rattle.plain_machine.specs.declared.broken.Broken.TheVariants as broken
 use Rattle.plain_machine.specs.States.{ListsEnded, FirstTaken, FileEnds}
 use Rattle.plain_machine.specs.Demands.{refusal}
 use Rattle.plain_machine.specs.Numbers.{pending_of}
@@ -19,7 +20,6 @@ use Rattle.plain_machine.proofs.Renumbering.{settle_of, with_begun_of, next_file
 use Rattle.plain_machine.proofs.Settling.{settled_twice}
 use Rattle.plain_machine.proofs.Ties.{put_with_begun}
 use Rattle.input_state.specs.Stored.{Stored, KeepsShared}
-use Rattle.engine_state.specs.declared.broken.Broken.TheVariants as broken
 use Rattle.engine_state.specs.declared.engine.Engine.{Engine}
 use Rattle.engine_state.specs.Book.{Book}
 use Rattle.engine_state.specs.Calls.{AllStand}

@@ -7,6 +7,7 @@ use Rattle.tex_defs.specs.declared.Token.{Token}
 use Rattle.equivalents.specs.Groups.{Groups, closed, uncovered, current_group, tokens_after}
 use Rattle.equivalents.specs.Tables.{Tables}
 use Rattle.equivalents.specs.Laws.{AreAlike, EachNames}
+use Rattle.plain_machine.specs.declared.broken.Broken.{Broken}
 use Rattle.plain_machine.specs.States.{Move, GroupClosed}
 use Rattle.plain_machine.specs.Plan.{put_each, group_ended}
 use Rattle.plain_machine.specs.Does.{Did}
@@ -14,7 +15,6 @@ use Rattle.plain_machine.proofs.Doing.{did_join}
 use Rattle.plain_machine.proofs.GroupNumbers.{closed_of}
 use Rattle.plain_machine.proofs.Holders.{OutsideIsHeld, closed_held}
 use Rattle.input_state.specs.Stored.{Stored, KeepsShared}
-use Rattle.engine_state.specs.declared.broken.Broken.{Broken}
 use Rattle.engine_state.specs.declared.engine.Engine.{Engine}
 use Rattle.engine_state.specs.Book.{Book}
 use Rattle.engine_state.specs.Rules.{Cuts}

@@ -12,6 +12,8 @@ use Rattle.save_stack.specs.declared.GroupKind.{GroupKind}
 use Rattle.save_stack.specs.Closing.{kind_last}
 use Rattle.equivalents.specs.Groups.{Groups, opened, with_token, group_demands, token_demands, current_group, depth}
 use Rattle.equivalents.specs.Holding.{lists_held}
+use Rattle.plain_machine.specs.declared.broken.Broken.{Broken}
+use Rattle.plain_machine.specs.declared.broken.Broken.TheVariants as broken
 use Rattle.plain_machine.specs.States.{Move, GroupOpened, KeptForGroup, KeptForAssignment, made}
 use Rattle.plain_machine.specs.Demands.{refusal}
 use Rattle.plain_machine.specs.Plan.{put_one, kept_for_group, behind_assignment}
@@ -21,8 +23,6 @@ use Rattle.plain_machine.proofs.Doing.{did_join, did_one}
 use Rattle.plain_machine.proofs.GroupNumbers.{opened_of, with_token_of, group_demands_of, token_demands_of}
 use Rattle.plain_machine.proofs.Ties.{held_more, tied_fewer, tied_stayed}
 use Rattle.input_state.specs.Stored.{Stored, KeepsShared}
-use Rattle.engine_state.specs.declared.broken.Broken.{Broken}
-use Rattle.engine_state.specs.declared.broken.Broken.TheVariants as broken
 use Rattle.engine_state.specs.declared.engine.Engine.{Engine}
 use Rattle.engine_state.specs.Book.{Book}
 use Rattle.engine_state.specs.Rules.{Cuts}

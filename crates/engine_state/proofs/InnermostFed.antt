@@ -10,6 +10,7 @@ use Rattle.tex_defs.specs.declared.Token.{Token}
 use Rattle.tex_defs.specs.Places.{World}
 use Rattle.rows.specs.Readings.{Ask, More, Tok}
 use Rattle.plain_readings.specs.Readings.{Reading, fed_with}
+use Rattle.plain_machine.specs.declared.broken.Broken.TheVariants as broken
 use Rattle.plain_machine.specs.Plan.{feeding}
 use Rattle.plain_machine.specs.Does.{Did}
 use Rattle.plain_machine.proofs.Pulls.{kind_none}
@@ -19,7 +20,6 @@ use Rattle.input_state.specs.CallFeeds.{IsTaking}
 use Rattle.input_state.specs.Callings.{Calling, NotCalling, Gathering, Stopped, Gathered, call_in, ended_asks, scan_asks}
 use Rattle.input_state.specs.declared.answer.CallEnd.{CallEnd}
 use Rattle.input_state.specs.declared.answer.CallEnd.TheVariants as end
-use Rattle.engine_state.specs.declared.broken.Broken.TheVariants as broken
 use Rattle.engine_state.specs.declared.engine.Engine.{Engine}
 use Rattle.engine_state.specs.Book.{Book, with_work}
 use Rattle.engine_state.specs.Calls.{AllStand, IsAsFar, IsEnded}

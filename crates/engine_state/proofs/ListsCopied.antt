@@ -15,6 +15,7 @@ use Rattle.equivalents.specs.declared.values.Loc.{Loc}
 use Rattle.rows.specs.Readings.{More, Verbatim}
 use Rattle.plain_readings.specs.Readings.{Reading, ask, fed_with}
 use Rattle.plain_readings.proofs.Entering as readings
+use Rattle.plain_machine.specs.declared.broken.Broken.TheVariants as broken
 use Rattle.plain_machine.specs.States.{Move, Grows, Feeds}
 use Rattle.plain_machine.specs.Plan.{tokens_entered, list_given, list_number}
 use Rattle.plain_machine.specs.Does.{Did}
@@ -28,7 +29,6 @@ use Rattle.input_state.specs.Callings.{call_lists}
 use Rattle.input_state.specs.AtLocations.{appended, AppendsShort, with_appended}
 use Rattle.input_state.specs.Stored.{Stored, KeepsShared, words as stored_words}
 use Rattle.input_state.proofs.Refusing.{memory_room}
-use Rattle.engine_state.specs.declared.broken.Broken.TheVariants as broken
 use Rattle.engine_state.specs.declared.engine.Engine.{Engine}
 use Rattle.engine_state.specs.Book.{Book, with_work}
 use Rattle.engine_state.specs.CutReadings.{CutsIn}

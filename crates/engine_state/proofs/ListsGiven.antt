@@ -14,6 +14,7 @@ use Rattle.equivalents.specs.declared.values.Loc.{Loc}
 use Rattle.equivalents.specs.Holding.{lists_held}
 use Rattle.equivalents.specs.Locations.{tokens_of}
 use Rattle.equivalents.specs.Tables.{get}
+use Rattle.plain_machine.specs.declared.broken.Broken.TheVariants as broken
 use Rattle.plain_machine.specs.States.{Move}
 use Rattle.plain_machine.specs.Numbers.{number_of_list, put_of as numbered}
 use Rattle.plain_machine.specs.Plan.{Page, list_given, list_number, shared_tokens, put_body, tokens_entered}
@@ -26,7 +27,6 @@ use Rattle.input_state.specs.Calls.{after_call}
 use Rattle.input_state.specs.Macros.{list_at as shared_list}
 use Rattle.input_state.specs.AtLocations.{numbered_tokens, numbered_put, location_put}
 use Rattle.input_state.specs.Stored.{KeepsShared, call_refusal}
-use Rattle.engine_state.specs.declared.broken.Broken.TheVariants as broken
 use Rattle.engine_state.specs.declared.engine.Engine.{Engine}
 use Rattle.engine_state.specs.Book.{Book}
 use Rattle.engine_state.specs.Lists.{location_list}

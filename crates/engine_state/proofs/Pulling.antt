@@ -23,6 +23,8 @@ use Rattle.plain_tokens.specs.Tokens.{is_outer}
 use Rattle.plain_tokens.specs.Meanings.{seen, met as met_token}
 use Rattle.plain_readings.specs.Readings.{Reading}
 use Rattle.plain_readings.specs.Scanning.{Scanning, scanning}
+use Rattle.plain_machine.specs.declared.broken.Broken.{Broken}
+use Rattle.plain_machine.specs.declared.broken.Broken.TheVariants as broken
 use Rattle.plain_machine.specs.States.{State, Move, Handed, Taken, ListsEnded, Skipped, FileClosed, Entered, made}
 use Rattle.plain_tokens.specs.Tables.{is_put, Demand, level, opened_level, begun_files, next_line, refused, full, new_name as name_demands}
 use Rattle.plain_machine.specs.Demands.{refusal}
@@ -46,8 +48,6 @@ use Rattle.input_state.specs.declared.answer.Pulled.TheVariants as answer
 use Rattle.line_lexer.specs.declared.Lexed as answered
 use Rattle.reading_frames.specs.Stack.{Stack, asks_in}
 use Rattle.reading_frames.specs.Weights.{stack_weight, frames_weight}
-use Rattle.engine_state.specs.declared.broken.Broken.{Broken}
-use Rattle.engine_state.specs.declared.broken.Broken.TheVariants as broken
 use Rattle.input_state.specs.declared.answer.Call.{Call}
 use Rattle.input_state.specs.Callings.{Calling, call_in}
 use Rattle.engine_state.specs.declared.engine.Engine.{Engine}

@@ -14,6 +14,8 @@ use Rattle.plain_tokens.specs.Tables.{Demand, refused, memory, level, string}
 use Rattle.plain_state.specs.Reports.{report_bytes}
 use Rattle.rows.specs.Readings.{Fed, Noted}
 use Rattle.plain_readings.specs.Readings.{Kind, Reads, Spelling, FileName, Arguments, Behind, Skips, Reading, fed_with, lists}
+use Rattle.plain_machine.specs.declared.broken.Broken.{Broken}
+use Rattle.plain_machine.specs.declared.broken.Broken.TheVariants as broken
 use Rattle.plain_machine.specs.States.{State, Move, ListsEnded, Kept, Grows, Feeds, ListBegun, ListGrown, Put, Written, Reported, made}
 use Rattle.plain_machine.specs.Demands.{refusal}
 use Rattle.plain_machine.specs.Plan.{Page, put_one, put_inserted, given_back, reported, report_noted, noting, noting_kind, grown_and_fed, first_list}
@@ -28,8 +30,6 @@ use Rattle.world_io.specs.Contents.{FilesTold, SinkTold, world}
 use Rattle.input_state.specs.Stored.{Stored, KeepsShared, words as stored_words}
 use Rattle.input_state.specs.HeldLists.{made as made_list}
 use Rattle.reading_frames.specs.Stack.{Stack}
-use Rattle.engine_state.specs.declared.broken.Broken.{Broken}
-use Rattle.engine_state.specs.declared.broken.Broken.TheVariants as broken
 use Rattle.engine_state.specs.declared.engine.Engine.{Engine}
 use Rattle.engine_state.specs.Book.{Book, with_work}
 use Rattle.engine_state.specs.Stands.{SameFrames, Counts, IsSized, IsSound, Stands, SameStore, state_of, page_of, own_style}

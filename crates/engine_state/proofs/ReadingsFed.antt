@@ -13,6 +13,8 @@ use Rattle.tex_defs.specs.declared.Token.{Token}
 use Rattle.tex_defs.specs.Places.{World}
 use Rattle.rows.specs.Readings.{Fed, Tok, Noted}
 use Rattle.plain_readings.specs.Readings.{Kind, Reads, Spelling, FileName, Behind, Skips, Arguments, Reading, lists, fed_with}
+use Rattle.plain_machine.specs.declared.broken.Broken.{Broken}
+use Rattle.plain_machine.specs.declared.broken.Broken.TheVariants as broken
 use Rattle.plain_machine.specs.States.{State, Move, Grows, Feeds, last_with}
 use Rattle.plain_machine.specs.Plan.{feeding, feeding_kind, noting, noting_kind, grown_and_fed, grown_to, first_list}
 use Rattle.plain_machine.specs.Does.{Did}
@@ -27,8 +29,6 @@ use Rattle.reading_frames.specs.Frames.{AreShallow}
 use Rattle.reading_frames.specs.declared.ask.Grown.{Grown}
 use Rattle.reading_frames.specs.declared.frame.Frame.{Frame}
 use Rattle.engine_state.specs.declared.engine.Engine.{Engine}
-use Rattle.engine_state.specs.declared.broken.Broken.{Broken}
-use Rattle.engine_state.specs.declared.broken.Broken.TheVariants as broken
 use Rattle.engine_state.specs.Book.{Book, with_work}
 use Rattle.engine_state.specs.Feeding.{tokens_of, with_tokens, IsKept, TokensFit, TokensCut}
 use Rattle.engine_state.specs.CutReadings.{AsFed, CutsIn, MayLead, with_token}

@@ -13,12 +13,15 @@ use Rattle.tex_defs.specs.Places.{World, Transcript}
 use Rattle.plain_tokens.specs.Printed.{Style}
 use Rattle.plain_state.specs.Reports as reports
 use Rattle.plain_state.specs.Reports.{hundred_line, token_line_bytes}
+use Rattle.plain_machine.specs.declared.broken.Broken.{Broken}
+use Rattle.plain_machine.specs.declared.broken.Broken.TheVariants as broken
 use Rattle.plain_machine.specs.States.{State, Move, Written, Reported, Stopped, made}
 use Rattle.plain_machine.specs.Demands.{refusal}
 use Rattle.conditionals.specs.declared.open.Conditional.{Conditional}
 use Rattle.plain_machine.specs.Plan.{Page, style_of, conditionals_left, reported, reports_room, token_line}
 use Rattle.plain_machine.specs.Runs.{Wrote, steps}
 use Rattle.plain_machine.specs.Does.{Did}
+use Rattle.plain_machine.specs.Faults.{broken_by}
 use Rattle.plain_machine.proofs.Doing.{did_join, did_one, wrote_join}
 use Rattle.plain_machine.proofs.Joins.{steps_join}
 use Rattle.world_io.specs.Contents.{FilesTold, SinkTold, world}
@@ -30,12 +33,9 @@ use Rattle.input_state.specs.Macros.{list_at}
 use Rattle.input_state.specs.Stored.{Stored}
 use Rattle.equivalents.specs.Parameters.{style_in}
 use Rattle.reading_frames.specs.Views.{kept_list_of}
-use Rattle.engine_state.specs.declared.broken.Broken.{Broken}
 use Rattle.engine_state.specs.declared.engine.Engine.{Engine}
-use Rattle.engine_state.specs.declared.broken.Broken.TheVariants as broken
 use Rattle.engine_state.specs.declared.outcome.Last.{Last}
 use Rattle.engine_state.specs.declared.outcome.Last.TheVariants as last
-use Rattle.engine_state.specs.Faults.{broken_by}
 use Rattle.engine_state.specs.Begins.{outcome_of_last, last_moves, last_bytes, last_written, no_file_end}
 use Rattle.engine_state.specs.Book.{Book}
 use Rattle.engine_state.specs.Calls.{AllStand, work_or_none}

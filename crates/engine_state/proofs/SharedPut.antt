@@ -9,6 +9,7 @@ use Rattle.plain_tokens.specs.Pending.{Pending, put_front, end_token_lists, with
 use Rattle.plain_tokens.specs.Puts.{Item, Put, Macro, put_top, without_ended}
 use Rattle.plain_tokens.specs.Tables.{Demand, level, refused, is_put}
 use Rattle.equivalents.specs.Holding.{lists_held}
+use Rattle.plain_machine.specs.declared.broken.Broken.TheVariants as broken
 use Rattle.plain_machine.specs.States.{State, Move, ListsEnded, Called, made}
 use Rattle.plain_machine.specs.Demands.{refusal}
 use Rattle.plain_machine.specs.Numbers.{pending_of, put_of as numbered}
@@ -19,7 +20,6 @@ use Rattle.plain_machine.proofs.Renumbering.{settle_of, put_front_of, level_of}
 use Rattle.plain_machine.proofs.Ties.{tied_settled, tied_put}
 use Rattle.input_state.specs.Calls.{after_call, called_top, when_called}
 use Rattle.input_state.specs.Stored.{KeepsShared, call_refusal}
-use Rattle.engine_state.specs.declared.broken.Broken.TheVariants as broken
 use Rattle.engine_state.specs.declared.engine.Engine.{Engine}
 use Rattle.engine_state.specs.Book.{Book}
 use Rattle.engine_state.specs.Stands.{IsSound, Stands, SameStore, state_of}

@@ -14,6 +14,7 @@ use Rattle.equivalents.specs.declared.values.Loc.{Loc}
 use Rattle.equivalents.specs.Locations.{SeenValue, value_seen}
 use Rattle.equivalents.specs.Tables.{get}
 use Rattle.rows.specs.Internal.{value_text}
+use Rattle.plain_machine.specs.declared.broken.Broken.{Broken}
 use Rattle.plain_machine.specs.States.{Move, Written, Flawed}
 use Rattle.plain_machine.specs.Plan.{shared_tokens, list_number, shown, location_shown, value_shown}
 use Rattle.plain_machine.specs.Does.{Did}
@@ -21,7 +22,6 @@ use Rattle.plain_machine.proofs.Doing.{did_join, did_one}
 use Rattle.plain_machine.proofs.GroupNumbers.{fetched_same}
 use Rattle.plain_machine.proofs.Ties.{tokens_let}
 use Rattle.transcript.specs.Given.{tokens_given}
-use Rattle.engine_state.specs.declared.broken.Broken.{Broken}
 use Rattle.engine_state.specs.declared.engine.Engine.{Engine}
 use Rattle.engine_state.specs.Book.{Book}
 use Rattle.engine_state.specs.Lists.{location_list}

@@ -11,6 +11,8 @@ use Rattle.plain_tokens.specs.Puts.{Put as PutList, grown_by, without_ended, tok
 use Rattle.plain_tokens.specs.Pending.{Pending, end_token_lists, with_puts, put_front}
 use Rattle.plain_tokens.specs.Tokens.{made_token, made_text}
 use Rattle.plain_tokens.specs.Tables.{Demand, refused, memory, level}
+use Rattle.plain_machine.specs.declared.broken.Broken.{Broken}
+use Rattle.plain_machine.specs.declared.broken.Broken.TheVariants as broken
 use Rattle.plain_machine.specs.States.{State, Move, ListsEnded, ListBegun, ListGrown, Put, made}
 use Rattle.plain_machine.specs.Demands.{refusal}
 use Rattle.plain_machine.specs.Plan.{put_text, put_made}
@@ -23,8 +25,6 @@ use Rattle.input_state.specs.Stored.{Stored, KeepsShared, words as stored_words}
 use Rattle.input_state.specs.HeldLists.{made as made_list}
 use Rattle.input_state.proofs.Refusing.{memory_room}
 use Rattle.plain_machine.specs.Weights.{pending_weight}
-use Rattle.engine_state.specs.declared.broken.Broken.{Broken}
-use Rattle.engine_state.specs.declared.broken.Broken.TheVariants as broken
 use Rattle.engine_state.specs.declared.engine.Engine.{Engine}
 use Rattle.engine_state.specs.Book.{Book}
 use Rattle.engine_state.specs.Making.{HasGrown, GrowsNot, IsInFront}

@@ -10,6 +10,7 @@ use Rattle.tex_defs.specs.Places.{World}
 use Rattle.tex_defs.specs.declared.Token.{Token}
 use Rattle.plain_tokens.specs.Puts.{grow_first}
 use Rattle.plain_tokens.specs.Tables.{list_words, lists_words, memory, refused}
+use Rattle.plain_machine.specs.declared.broken.Broken.TheVariants as broken
 use Rattle.plain_machine.specs.States.{Move, Grows}
 use Rattle.plain_machine.specs.Demands.{words}
 use Rattle.plain_machine.specs.Does.{Did}
@@ -21,7 +22,6 @@ use Rattle.reading_frames.specs.Views.{put, on_top}
 use Rattle.reading_frames.specs.Resumes.{token_count}
 use Rattle.reading_frames.specs.declared.ask.Grown.{Grown}
 use Rattle.engine_state.specs.declared.engine.Engine.{Engine}
-use Rattle.engine_state.specs.declared.broken.Broken.TheVariants as broken
 use Rattle.engine_state.specs.Book.{Book}
 use Rattle.engine_state.specs.Feeding.{tokens_of, with_tokens, TokensFit, TokensCut}
 use Rattle.engine_state.specs.CutReadings.{with_token}

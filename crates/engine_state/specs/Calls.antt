@@ -1,8 +1,6 @@
 -- A call that gathers its arguments: the innermost reading of all.
 use Rattle.std.specs.Prelude.{◌≡◌, ℕ, Bool, true, false, List, [], ◌∷◌, ◌++◌, Option, Some, None}
-use Rattle.tex_syntax.specs.declared.words.Want.TheVariants.{Raw}
 use Rattle.tex_syntax.specs.declared.words.Report.{Report}
-use Rattle.tex_syntax.specs.declared.words.Report.TheVariants as reports
 use Rattle.tex_syntax.specs.declared.words.Scanned.TheVariants as scanned
 use Rattle.tex_defs.specs.Places.{Transcript}
 use Rattle.tex_defs.specs.declared.Sizes.{Sizes}
@@ -12,7 +10,7 @@ use Rattle.tex_defs.specs.declared.Meaning.TheVariants.{Macro}
 use Rattle.plain_tokens.specs.Arguments.{Answer, Called, arguments_in, work_in, has_parameters}
 use Rattle.plain_tokens.specs.Meanings.{name_meaning}
 use Rattle.rows.specs.Readings as reading
-use Rattle.plain_readings.specs.Calls.{par_token}
+use Rattle.plain_readings.specs.Calls.{call_ask}
 use Rattle.plain_readings.specs.Readings.{Kind, Reading, Arguments}
 use Rattle.plain_state.specs.Reports as texts
 use Rattle.plain_machine.specs.States.{Move, Written}
@@ -27,7 +25,6 @@ use Rattle.input_state.specs.declared.answer.Call.{Call}
 use Rattle.input_state.specs.declared.answer.CallEnd.{CallEnd}
 use Rattle.input_state.specs.declared.answer.CallEnd.TheVariants as end
 use Rattle.macro_call.specs.declared.ask.CallAsk.{CallAsk}
-use Rattle.macro_call.specs.declared.ask.CallAsk.TheVariants as call
 use Rattle.engine_state.specs.declared.engine.Engine.{Engine}
 use Rattle.engine_state.specs.Book.{Book}
 use Rattle.engine_state.specs.Stands.{OpenFrames, IsSound, own_style}
@@ -113,14 +110,9 @@ args_of (Gathering name scan) = []
 args_of (Stopped name why scan) = []
 args_of (Gathered name args) = args
 
--- as its reading does
+-- as its reading does; it asks so whatever list is in work
 abbrev pub asks_by : Name → CallAsk → Calling → reading.Ask
-asks_by name call.More k = reading.More Raw
-asks_by name call.ExtraBrace k = reading.Inserts par_token (reports.ExtraBrace name) true
-asks_by name call.Gathered k = reading.Calls (args_of k)
-asks_by name call.Mismatch k = reading.Fails (reports.UseMismatch name)
-asks_by name (call.ParEnded false) k = reading.RunsAway (reports.ParagraphEnded name)
-asks_by name (call.ParEnded true) k = reading.Ends
+asks_by name a k = call_ask name (answer_of a (args_of k) None)
 
 abbrev pub asks_of : Call → Calling → reading.Ask
 asks_of c k = asks_by c.name c.ask k

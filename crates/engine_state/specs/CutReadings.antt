@@ -11,6 +11,8 @@ use Rattle.rows.specs.Readings.{Fed}
 use Rattle.plain_readings.specs.Readings.{Kind, Reading}
 use Rattle.plain_tokens.specs.Arguments.{Tok}
 use Rattle.plain_tokens.specs.Puts.{grow_first}
+use Rattle.plain_machine.specs.declared.broken.Broken.{Broken}
+use Rattle.plain_machine.specs.declared.broken.Broken.TheVariants as broken
 use Rattle.plain_machine.specs.States.{State, Move}
 use Rattle.macro_call.specs.PlainScans.{Scan, resume_scan}
 use Rattle.macro_call.specs.declared.ask.CallAsk.TheVariants as asks
@@ -19,8 +21,6 @@ use Rattle.input_state.specs.declared.answer.CallEnd.TheVariants as end
 use Rattle.input_state.specs.Callings.{Calling, Stopped}
 use Rattle.reading_frames.specs.Frames as frames
 use Rattle.reading_frames.specs.Frames.{OpenCall}
-use Rattle.engine_state.specs.declared.broken.Broken.{Broken}
-use Rattle.engine_state.specs.declared.broken.Broken.TheVariants as broken
 use Rattle.engine_state.specs.Calls.{HasRead, IsAsFar, open_call_of}
 use Rattle.engine_state.specs.declared.engine.Engine.{Engine}
 use Rattle.engine_state.specs.Book.{Book}

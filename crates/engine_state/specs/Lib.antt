@@ -2,7 +2,6 @@ pub mod Begins
 pub mod Book
 pub mod Calls
 pub mod Entering
-pub mod Faults
 pub mod Feeding
 pub mod First
 pub mod Lists

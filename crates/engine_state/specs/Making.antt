@@ -13,13 +13,13 @@ use Rattle.equivalents.specs.Cases.{case_codes, case_changed}
 use Rattle.equivalents.specs.Locations.{value_seen}
 use Rattle.equivalents.specs.Tables.{Tables, get}
 use Rattle.rows.specs.Internal.{is_fetchable, value_text}
+use Rattle.plain_machine.specs.declared.broken.Broken.TheVariants as broken
 use Rattle.plain_machine.specs.Plan.{Page, style_of, job_in, meaning_characters, shared_tokens}
 use Rattle.plain_machine.specs.States.{Move, ListGrown}
 use Rattle.plain_machine.specs.Does.{Did}
 use Rattle.input_state.specs.AtLocations.{appended_made}
 use Rattle.input_state.specs.Stored.{Stored, KeepsShared}
 use Rattle.reading_frames.specs.Views.{kept_list_of}
-use Rattle.engine_state.specs.declared.broken.Broken.TheVariants as broken
 use Rattle.engine_state.specs.declared.engine.Engine.{Engine}
 use Rattle.engine_state.specs.declared.text.Made.{Made}
 use Rattle.engine_state.specs.declared.text.Made.TheVariants as make

@@ -21,14 +21,15 @@ use Rattle.plain_readings.specs.Scanning.{Scanning, scanning}
 use Rattle.plain_readings.specs.Scanning as machine
 use Rattle.reading_frames.specs.declared.ask.Found.{Found}
 use Rattle.reading_frames.specs.declared.ask.Found.TheVariants as found
+use Rattle.plain_machine.specs.declared.broken.Broken.{Broken}
+use Rattle.plain_machine.specs.declared.broken.Broken.TheVariants as broken
 use Rattle.plain_machine.specs.States.{State, Move, Written, Reported}
 use Rattle.plain_tokens.specs.Pending.{pulled}
 use Rattle.plain_machine.specs.Numbers.{pending_of}
 use Rattle.plain_machine.specs.Plan.{Page, style_of, planned, stomach, wanted, feeding, first_list, handed, met, reported, reported_as, behind_report, entered, enters_names, incomplete, reports_room}
 use Rattle.plain_machine.specs.Runs.{steps}
-use Rattle.plain_machine.specs.Does.{Did, Cut, Why, IsFull, IsFault, IsWant}
+use Rattle.plain_machine.specs.Does.{Did, Cut}
 use Rattle.world_io.specs.Contents.{FilesTold, SinkTold, world}
-use Rattle.engine_state.specs.declared.broken.Broken.{Broken}
 use Rattle.engine_state.specs.declared.check.Check.{Check}
 use Rattle.engine_state.specs.declared.engine.Engine.{Engine}
 use Rattle.engine_state.specs.declared.outcome.Ruled.{Ruled}
@@ -36,7 +37,6 @@ use Rattle.engine_state.specs.declared.outcome.Ruled.TheVariants.{Step, Free, Ha
 use Rattle.engine_state.specs.declared.outcome.Next.{Next}
 use Rattle.engine_state.specs.declared.outcome.Next.TheVariants.{Token, Line, Skipped, Over}
 use Rattle.tex_defs.specs.declared.Fatal.TheVariants.{HundredErrors}
-use Rattle.engine_state.specs.Faults.{why_of}
 use Rattle.input_state.specs.Stored.{gathered}
 use Rattle.engine_state.specs.Begins.{away_moves, check_report}
 use Rattle.engine_state.specs.Book.{Book}
@@ -181,16 +181,16 @@ space_moves page None work = []
 space_moves page (Some want) work = onward_of page (Some want) work (met_token page.now.meanings space_token)
 
 -- the machine's state at the moment, and that of the engine: the engine's column is that of the bytes really written
-abbrev pub IsMoment : Why → State → State → Type 0
-IsMoment (IsFull full) s t = s ≡ t
-IsMoment IsFault s t = record s { in_line = t.in_line } ≡ t
-IsMoment IsWant s t = record s { in_line = t.in_line } ≡ t
+abbrev pub IsMoment : Broken → State → State → Type 0
+IsMoment (broken.Full full) s t = s ≡ t
+IsMoment broken.WriteFault s t = record s { in_line = t.in_line } ≡ t
+IsMoment broken.Want s t = record s { in_line = t.in_line } ≡ t
 
 -- The moves are cut off. The engine stands for the moment before the move that wasn't made, with the same readings.
 pub record Cuts (sizes : Sizes) (s : State) (e' : Engine) (book : Book) (w w' : World) (moves : List Move) (b : Broken) : Type 0 where
   pub at : State
-  pub cut : Cut sizes s at w w' moves (why_of b)
-  pub same : IsMoment (why_of b) at (state_of e' book)
+  pub cut : Cut sizes s at w w' moves b
+  pub same : IsMoment b at (state_of e' book)
 
 -- of a rule
 abbrev pub DoesRule : Sizes → State → Engine → Book → World → World → List Move → Ruled → Type 0

@@ -17,12 +17,12 @@ ghost use Rattle.input_state.specs.CallFeeds.{with_scan};
 ghost use Rattle.input_state.specs.Callings.{NotCalling};
 ghost use Rattle.macro_call.specs.PlainScans.{cut_scan};
 
-use crate::broken::Broken;
 use crate::engine::Engine;
 use crate::meaning::is_outer;
 use crate::outcome::Ruled;
 use input_state::Call;
 use macro_call::CallAsk;
+use plain_machine::Broken;
 use reading_frames::Found;
 use tex_defs::{Fatal, Frozen, Name, Seen, Token};
 use tex_syntax::{Outcome, Report, Scanned};

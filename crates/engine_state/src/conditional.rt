@@ -3,16 +3,16 @@ ghost use Rattle.std.specs.Prelude.{◌≡◌, [], ◌∷◌, IfErr, OnOk};
 ghost use Rattle.conditionals.specs.Open.{above_sought, limit_of};
 ghost use Rattle.conditionals.specs.Same as same;
 ghost use Rattle.plain_tokens.specs.Arguments.{are_same};
+ghost use Rattle.plain_machine.specs.declared.broken.Broken.TheVariants as broken;
 ghost use Rattle.plain_machine.specs.States.{ConditionOpened, LimitSet, ConditionClosed};
 ghost use Rattle.plain_machine.specs.Plan.{conditionals_left, tokens_meant};
 ghost use Rattle.engine_state.specs.Clauses.{Still, MakesAlways, MakesMoves, CutsMoves, WritesOut, CutsWriting, WhereSound};
 ghost use Rattle.engine_state.specs.Stands.{Stands, IsSized, OnlyColumn, SameFrames, page_of, own_style};
-ghost use Rattle.engine_state.specs.declared.broken.Broken.TheVariants as broken;
 
-use crate::broken::Broken;
 use crate::engine::Engine;
 use crate::views::view_of;
 use conditionals::{Aim, Conditional, Limit, same_meaning};
+use plain_machine::Broken;
 use tex_defs::{Full, Seen};
 use transcript::write_end_in_conditional;
 use world_io::Sink;

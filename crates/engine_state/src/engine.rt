@@ -8,10 +8,10 @@ ghost use Rattle.engine_state.specs.Clauses.{Still, MakesMoves, CutsMoves, Where
 ghost use Rattle.engine_state.specs.Stands.{Stands, IsSized, SameFrames, state_of};
 ghost use Rattle.engine_state.specs.First.{Begins};
 
-use crate::broken::Broken;
 use conditionals::Conditionals;
 use input_state::Input;
 use name_table::NameTable;
+use plain_machine::Broken;
 use reading_frames::Readings;
 use std::alloc::{AllocError, Global};
 use tex_defs::{Meaning, Name, Seen, Sizes, Token};

@@ -14,9 +14,9 @@ ghost use Rattle.engine_state.specs.Clauses.{Still, HoldsLists, MakesAlways, Mak
 ghost use Rattle.engine_state.specs.Stands.{SameFrames, state_of};
 ghost use Rattle.engine_state.specs.Rules.{counted, Cuts};
 
-use crate::broken::Broken;
 use crate::engine::Engine;
 use crate::views::view_of;
+use plain_machine::Broken;
 use tex_defs::Fatal;
 use tex_syntax::Outcome;
 use transcript::{no_file_lines, write_missing_file};

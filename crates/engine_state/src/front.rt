@@ -6,8 +6,8 @@ ghost use Rattle.engine_state.specs.Clauses.{PutsInFront, CutsPutting};
 ghost use Rattle.engine_state.specs.Stands.{SameStore, SameOthers, SameFrames, page_of};
 ghost use Rattle.plain_machine.specs.Weights.{pending_weight};
 
-use crate::broken::Broken;
 use crate::engine::Engine;
+use plain_machine::Broken;
 use tex_defs::Token;
 
 impl Engine {

@@ -8,8 +8,8 @@ ghost use Rattle.engine_state.specs.Stands.{Stands, Counts, SameStore, SameOther
 ghost use Rattle.engine_state.specs.Rules.{Cuts};
 ghost use Rattle.plain_machine.specs.Weights.{pending_weight};
 
-use crate::broken::Broken;
 use crate::engine::Engine;
+use plain_machine::Broken;
 use save_stack::GroupKind;
 use tex_defs::Token;
 

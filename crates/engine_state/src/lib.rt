@@ -5,7 +5,6 @@
 //! machine it makes, what it writes, and where it was cut off. *TeX: The Program*, parts 6, 22 to 25 and 28.
 #![tactic(auto)]
 
-mod broken;
 mod check;
 mod conditional;
 mod engine;
@@ -23,10 +22,10 @@ mod values;
 mod views;
 mod writing;
 
-pub use broken::Broken;
 pub use check::PAR;
 pub use engine::Engine;
 pub use meaning::name_of;
 pub use names::name;
 pub use outcome::{Last, Next, Ruled, stops};
+pub use plain_machine::Broken;
 pub use text::Made;

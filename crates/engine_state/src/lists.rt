@@ -3,17 +3,17 @@ ghost use Rattle.std.specs.Prelude.{◌≡◌, ◌∷◌, IfErr, OnOk, true, fal
 ghost use Rattle.equivalents.specs.Groups.{IsLocation};
 ghost use Rattle.plain_readings.specs.Readings.{Reading};
 ghost use Rattle.input_state.specs.Stored.{KeepsShared};
+ghost use Rattle.plain_machine.specs.declared.broken.Broken.TheVariants as broken;
 ghost use Rattle.plain_machine.specs.Plan.{list_given, list_number};
 ghost use Rattle.engine_state.specs.Book.{Book, with_work};
 ghost use Rattle.engine_state.specs.Clauses.{Still, HoldsLists, MakesMoves, MakesMovesTo, CutsMoves, CutsFree, StandsFor};
 ghost use Rattle.engine_state.specs.Lists.{Copies, fed_list, location_list, with_list};
 ghost use Rattle.engine_state.specs.Stands.{Stands, SameFrames, page_of};
 ghost use Rattle.plain_machine.specs.Weights.{pending_weight};
-ghost use Rattle.engine_state.specs.declared.broken.Broken.TheVariants as broken;
 
-use crate::broken::Broken;
 use crate::engine::Engine;
 use equivalents::Loc;
+use plain_machine::Broken;
 use tex_defs::Full;
 
 impl Engine {

@@ -11,12 +11,12 @@ ghost use Rattle.engine_state.specs.Rules.{Meets};
 ghost use Rattle.engine_state.specs.OneRule.{ReadsNext, CutsNext};
 ghost use Rattle.engine_state.specs.Steps.{weight, IsSkipped, IsOver, NextStepsIf, ends_run, next_met, next_free};
 
-use crate::broken::Broken;
 use crate::engine::Engine;
 use crate::names::resolve;
 use crate::outcome::{Last, Next, Ruled};
 use input_state::Pulled;
 use line_lexer::Lexed;
+use plain_machine::Broken;
 use tex_defs::{Fatal, Full, Seen, Token};
 use tex_syntax::{Outcome, Report};
 use world_io::Sink;

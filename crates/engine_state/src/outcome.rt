@@ -3,7 +3,7 @@ ghost use Rattle.std.specs.Prelude.{◌≡◌, MatchResult, true};
 ghost use Rattle.engine_state.specs.Begins.{outcome_of_last};
 ghost use Rattle.engine_state.specs.Steps.{stops_run};
 
-use crate::broken::Broken;
+use plain_machine::Broken;
 use tex_defs::{Fatal, Seen};
 use tex_syntax::Outcome;
 

@@ -18,6 +18,7 @@ ghost use Rattle.input_state.specs.CallFeeds.{IsTaking, Feeds as FeedsCall, CutS
 ghost use Rattle.input_state.specs.Stored.{KeepsShared, words as stored_words};
 ghost use Rattle.reading_frames.specs.Weights.{frames_weight, opening_frame, innermost_weight, begun_weight, begun_with_weight, IsReported};
 ghost use Rattle.reading_frames.specs.Stack.{asks_in, innermost_groups};
+ghost use Rattle.plain_machine.specs.declared.broken.Broken.TheVariants as broken;
 ghost use Rattle.plain_machine.specs.States.{Begun, BegunWith, Closed, Ended, Feeds, made};
 ghost use Rattle.plain_machine.specs.Plan.{noting, value_tokens, feeding};
 ghost use Rattle.engine_state.specs.Book.{with_work};
@@ -27,7 +28,6 @@ ghost use Rattle.engine_state.specs.Feeding.{HasTop, IsKept, TokensFit, TokensCu
 ghost use Rattle.engine_state.specs.Rules.{Went};
 ghost use Rattle.engine_state.specs.Stands.{Stands, SameBut, SameElse, state_of};
 ghost use Rattle.engine_state.specs.Steps.{asked, asks_bare, asks_now, wants_token, weight};
-ghost use Rattle.engine_state.specs.declared.broken.Broken.TheVariants as broken;
 
 use crate::engine::Engine;
 use equivalents::Loc;

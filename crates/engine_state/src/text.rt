@@ -23,7 +23,6 @@ ghost use Rattle.engine_state.specs.Making.{HasGrown, GrowsNot, IsInFront, chang
 ghost use Rattle.engine_state.specs.Stands.{SameStore, SameOthers, SameFrames, page_of};
 ghost use Rattle.plain_machine.specs.Weights.{pending_weight};
 
-use crate::broken::Broken;
 use crate::engine::Engine;
 use crate::meaning::name_of;
 use crate::values::text_at;
@@ -32,6 +31,7 @@ use char_text::{Roman, Text, whole_number_length};
 use equivalents::Loc;
 use input_state::{Input, walks_stay};
 use name_table::NameTable;
+use plain_machine::Broken;
 use tex_defs::{Full, Meaning, Name, Seen, Token};
 use token_lists::{ListRef, Lists};
 use token_show::{NamesView, TokenText, last_after, places_after};

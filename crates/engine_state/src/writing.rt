@@ -23,7 +23,6 @@ ghost use Rattle.engine_state.specs.Rules.{nth_list, counted, CountsOn, Cuts, Re
 ghost use Rattle.engine_state.specs.Steps.{IsFree};
 ghost use Rattle.engine_state.specs.declared.outcome.Ruled.TheVariants.{Halted};
 
-use crate::broken::Broken;
 use crate::engine::Engine;
 use crate::outcome::{Last, Ruled};
 use crate::text::given_list;
@@ -31,6 +30,7 @@ use crate::values::{number_text, value_text};
 use crate::views::view_of;
 use char_text::Text;
 use equivalents::Loc;
+use plain_machine::Broken;
 use tex_defs::{Fatal, Meaning, Seen};
 use tex_syntax::{Outcome, Report, Scanned};
 use transcript::{

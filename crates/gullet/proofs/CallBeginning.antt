@@ -21,6 +21,7 @@ use Rattle.rows.specs.Readings as asks
 use Rattle.rows.specs.Readings.{Fed}
 use Rattle.plain_readings.specs.Calls.{arguments, call_ask, call_fed, gathered, call_lists as lists_in}
 use Rattle.plain_readings.specs.Readings.{Reading}
+use Rattle.plain_machine.specs.declared.broken.Broken.TheVariants as broken
 use Rattle.plain_machine.specs.States.{Begun, made}
 use Rattle.plain_tokens.specs.Tables.{lists_words, memory, refused, is_put}
 use Rattle.plain_machine.specs.Demands.{refusal}
@@ -37,7 +38,6 @@ use Rattle.input_state.specs.Callings.{Calling, Gathering, call_lists, scan_asks
 use Rattle.input_state.specs.Calls.{after_call, begun_lists, call_kind, called_put, macro_text, text_of}
 use Rattle.input_state.specs.Macros.{list_at}
 use Rattle.input_state.specs.Stored.{KeepsShared, call_refusal, words}
-use Rattle.engine_state.specs.declared.broken.Broken.TheVariants as broken
 use Rattle.engine_state.specs.declared.engine.Engine.{Engine}
 use Rattle.engine_state.specs.Book.{Book, with_work}
 use Rattle.engine_state.specs.Calls.{AllStand, HasRead}

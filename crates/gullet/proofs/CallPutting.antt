@@ -13,6 +13,7 @@ use Rattle.plain_tokens.specs.Pending.{Pending, put_front, end_token_lists, with
 use Rattle.plain_tokens.specs.Puts.{Item, Put, call_put, put_top, without_ended}
 use Rattle.plain_readings.specs.Readings as reading
 use Rattle.plain_readings.specs.Readings.{Reading, lists}
+use Rattle.plain_machine.specs.declared.broken.Broken.TheVariants as broken
 use Rattle.plain_machine.specs.States.{State, ListsEnded, CalledWith, made}
 use Rattle.plain_tokens.specs.Tables.{Demand, level, parameters, refused, is_put}
 use Rattle.plain_machine.specs.Demands.{refusal}
@@ -28,7 +29,6 @@ use Rattle.input_state.specs.Callings.{Calling, NotCalling, call_in}
 use Rattle.input_state.specs.Calls.{after_call, called_top, macro_put, put_of, when_put}
 use Rattle.input_state.specs.Macros.{list_at}
 use Rattle.input_state.specs.Stored.{Stored, KeepsShared, gathered, put_refusal}
-use Rattle.engine_state.specs.declared.broken.Broken.TheVariants as broken
 use Rattle.input_state.specs.declared.answer.Call.{Call}
 use Rattle.macro_call.specs.declared.ask.CallAsk.TheVariants as asked
 use Rattle.engine_state.specs.declared.engine.Engine.{Engine}

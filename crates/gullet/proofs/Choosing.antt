@@ -21,13 +21,13 @@ use Rattle.conditionals.specs.Skipping.{part, ender_number}
 use Rattle.rows.specs.declared.command.Call.{Call}
 use Rattle.rows.specs.declared.words.Phrase.TheVariants.{Command}
 use Rattle.plain_readings.specs.Readings.{Kind, Reads, Skips, opened}
+use Rattle.plain_machine.specs.declared.broken.Broken.{Broken}
 use Rattle.plain_machine.specs.Demands.{refusal}
 use Rattle.plain_machine.specs.Does.{Did}
 use Rattle.plain_machine.specs.Plan.{Page, chosen, conditional_begun, ender_comes, ender_met, limited_or_skips, skips}
 use Rattle.plain_machine.specs.Runs.{steps}
 use Rattle.plain_machine.specs.States.{Move, Begun, Closed, ConditionOpened, made}
 use Rattle.plain_machine.proofs.Doing.{did_join, did_silent}
-use Rattle.engine_state.specs.declared.broken.Broken.{Broken}
 use Rattle.engine_state.specs.declared.engine.Engine.{Engine}
 use Rattle.engine_state.specs.Book.{Book, with_work}
 use Rattle.engine_state.specs.CutReadings.{CutsIn}

@@ -8,6 +8,7 @@ use Rattle.tex_defs.specs.declared.Token.{Token}
 use Rattle.tex_defs.specs.declared.Meaning.{Meaning}
 use Rattle.tex_defs.specs.declared.Meaning.TheVariants as means
 use Rattle.plain_tokens.specs.Categories.{space}
+use Rattle.plain_tokens.specs.Meanings.{is_expandable}
 use Rattle.plain_tokens.specs.Names.{means_relax}
 use Rattle.plain_tokens.specs.Tokens.{means_category}
 use Rattle.plain_readings.specs.Readings.{Reading}
@@ -32,7 +33,7 @@ use Rattle.engine_state.specs.Steps.{IsHalted}
 use Rattle.engine_state.proofs.Joining.{quiet_wrote}
 use Rattle.gullet.specs.declared.expansion.Expansion.{Expansion}
 use Rattle.gullet.specs.declared.expansion.Once.TheVariants as once
-use Rattle.gullet.specs.Stepping.{EndsRun, ExpandsOnce, ExpandsTo, IsStayed, Stays, changes, expands, is_expansion, once_by, wants_raw}
+use Rattle.gullet.specs.Stepping.{EndsRun, ExpandsOnce, ExpandsTo, IsStayed, Stays, changes, is_expansion, once_by, wants_raw}
 use Rattle.gullet.proofs.Stepping.{no}
 use Rattle.input_state.specs.Callings.{NotCalling, call_in}
 
@@ -43,20 +44,20 @@ not_yes true is = refl
 not_yes false is = cc
 
 -- a token that is expanded comes to nothing else
-expanded_any : (page : Page) (t : Token) (m : Meaning Unit) (moves others : List Move) → expands m ≡ true → expanded_as page t m moves ≡ expanded_as page t m others
+expanded_any : (page : Page) (t : Token) (m : Meaning Unit) (moves others : List Move) → is_expandable m ≡ true → expanded_as page t m moves ≡ expanded_as page t m others
 expanded_any page t means.Undefined moves others is = refl
 expanded_any page t (means.Macro long outer list) moves others is = refl
 expanded_any page t (means.Prim n) moves others is = rw is refl
 expanded_any page t m moves others is = cc
 
 -- it is neither a space nor `\relax`
-space_no : (m : Meaning Unit) → expands m ≡ true → means_category space m ≡ false
+space_no : (m : Meaning Unit) → is_expandable m ≡ true → means_category space m ≡ false
 space_no means.Undefined is = refl
 space_no (means.Macro long outer list) is = refl
 space_no (means.Prim n) is = refl
 space_no m is = cc
 
-relax_no : (m : Meaning Unit) → expands m ≡ true → means_relax m ≡ false
+relax_no : (m : Meaning Unit) → is_expandable m ≡ true → means_relax m ≡ false
 relax_no means.Undefined is = refl
 relax_no (means.Macro long outer list) is = refl
 relax_no (means.Prim n) is = grind (arith, nat_tests, is)
@@ -67,7 +68,7 @@ relax_no (means.MathGiven n) is = cc
 relax_no (means.Register r n) is = cc
 
 -- so it is, where it isn't wanted as it stands
-pub onward_expands : (page : Page) (want : Option Want) (work : List Reading) (x : Seen) → wants_raw want ≡ false → expands x.meaning ≡ true → onward_of page want work x ≡ expanded page x []
+pub onward_expands : (page : Page) (want : Option Want) (work : List Reading) (x : Seen) → wants_raw want ≡ false → is_expandable x.meaning ≡ true → onward_of page want work x ≡ expanded page x []
 onward_expands page None work x raw is = expanded_any page x.token x.meaning (command page x.token x.meaning) [] is
 onward_expands page (Some want.Raw) work x raw is = cc
 onward_expands page (Some want.Unentered) work x raw is = cc
@@ -79,7 +80,7 @@ onward_expands page (Some want.Command) work x raw is =
     ap (λ (b : Bool). if b || means_relax x.meaning then [] else expanded page x (feeds_of work x)) (space_no x.meaning is)
     ∙ ap (λ (b : Bool). if b then [] else expanded page x (feeds_of work x)) (relax_no x.meaning is) ∙ expanded_any page x.token x.meaning (feeds_of work x) [] is
 
-pub stays_by : (want : Option Want) (x : Seen) → expands x.meaning ≡ false → Stays want x
+pub stays_by : (want : Option Want) (x : Seen) → is_expandable x.meaning ≡ false → Stays want x
 stays_by None x is = is
 stays_by (Some want.Raw) x is = tt
 stays_by (Some want.Unentered) x is = tt
@@ -94,7 +95,7 @@ stays_by (Some want.Command) x is = is
 pub moves_as : (page : Page) (x : Seen) (moves : List Move) {o : Expansion} {b : Expansion} → o ≡ b → ExpandsTo o page moves (expanded page x moves) → ExpandsTo b page moves (expanded page x moves)
 moves_as page x moves is h = subst (λ (y : Expansion). ExpandsTo y page moves (expanded page x moves)) is h
 
-pub expands_as : (x : Seen) {o : Expansion} {b : Expansion} → o ≡ b → is_expansion o ≡ expands x.meaning → expands x.meaning ≡ is_expansion b
+pub expands_as : (x : Seen) {o : Expansion} {b : Expansion} → o ≡ b → is_expansion o ≡ is_expandable x.meaning → is_expandable x.meaning ≡ is_expansion b
 expands_as x is h = sym h ∙ ap is_expansion is
 
 -- a report changes something

@@ -6,14 +6,14 @@ use Rattle.tex_defs.specs.declared.Sizes.{Sizes}
 use Rattle.tex_defs.specs.Places.{World}
 use Rattle.plain_readings.specs.Readings.{Kind, opened}
 use Rattle.name_table.specs.Strings.{Strings}
+use Rattle.plain_machine.specs.declared.broken.Broken.{Broken}
+use Rattle.plain_machine.specs.declared.broken.Broken.TheVariants as broken
 use Rattle.plain_machine.specs.Demands.{refusal}
 use Rattle.plain_machine.specs.Does.{Did}
 use Rattle.plain_machine.specs.Plan.{job_in, put_characters}
 use Rattle.plain_machine.specs.States.{Move, Begun, Closed, made}
 use Rattle.plain_machine.proofs.Doing.{did_join, did_silent}
 use Rattle.plain_machine.proofs.Pulls.{characters_none, pulls_join}
-use Rattle.engine_state.specs.declared.broken.Broken.{Broken}
-use Rattle.engine_state.specs.declared.broken.Broken.TheVariants as broken
 use Rattle.engine_state.specs.declared.engine.Engine.{Engine}
 use Rattle.engine_state.specs.Book.{Book, with_work}
 use Rattle.engine_state.specs.CutReadings.{CutsIn}

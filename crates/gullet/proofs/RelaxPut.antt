@@ -3,10 +3,10 @@ use Rattle.std.proofs.Common.{◌++◌, refl}
 use Rattle.tex_defs.specs.declared.Token.{Token}
 use Rattle.tex_defs.specs.declared.Sizes.{Sizes}
 use Rattle.tex_defs.specs.Places.{World}
+use Rattle.plain_machine.specs.declared.broken.Broken.{Broken}
 use Rattle.plain_machine.specs.Does.{Did}
 use Rattle.plain_machine.specs.Plan.{put_one, frozen_relax}
 use Rattle.plain_machine.proofs.Doing.{did_join}
-use Rattle.engine_state.specs.declared.broken.Broken.{Broken}
 use Rattle.engine_state.specs.declared.engine.Engine.{Engine}
 use Rattle.engine_state.specs.Book.{Book}
 use Rattle.engine_state.specs.CutReadings.{CutsIn}

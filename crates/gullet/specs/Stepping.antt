@@ -1,16 +1,15 @@
 -- What one expansion of a token comes to.
 use Rattle.std.specs.Prelude.{◌≡◌, ◌≤◌, ℕ, Bool, true, false, if◌then◌else◌, List, [], ◌∷◌, ◌++◌, Option, Some}
-use Rattle.prim_table.specs.Primitives.{is_expanded, is_in_row}
+use Rattle.prim_table.specs.Primitives.{is_in_row}
 use Rattle.prim_table.specs.declared.Class.TheVariants as class
 use Rattle.tex_syntax.specs.declared.words.Report.TheVariants.{UndefinedName}
 use Rattle.tex_syntax.specs.declared.words.Want.{Want}
 use Rattle.tex_syntax.specs.declared.words.Want.TheVariants.{Raw, Unentered}
 use Rattle.tex_defs.specs.Places.{World}
-use Rattle.tex_defs.specs.declared.Meaning.{Meaning}
-use Rattle.tex_defs.specs.declared.Meaning.TheVariants as means
 use Rattle.tex_defs.specs.declared.Seen.{Seen}
 use Rattle.tex_defs.specs.declared.Sizes.{Sizes}
 use Rattle.tex_defs.specs.declared.Token.{Token}
+use Rattle.plain_tokens.specs.Meanings.{is_expandable}
 use Rattle.conditionals.specs.Open.{constant_test}
 use Rattle.rows.specs.declared.words.Phrase.TheVariants.{Command}
 use Rattle.rows.specs.declared.command.Call.{Call}
@@ -30,13 +29,6 @@ use Rattle.gullet.specs.declared.expansion.Once.{Once}
 use Rattle.gullet.specs.declared.expansion.Once.TheVariants as once
 use Rattle.gullet.specs.declared.expansion.Once.TheVariants.{Expanded}
 
--- a meaning that is expanded
-abbrev pub expands : {L : Type 0} → Meaning L → Bool
-expands means.Undefined = true
-expands (means.Macro long outer list) = true
-expands (means.Prim number) = is_expanded number
-expands m = false
-
 -- a token is wanted as it stands
 abbrev pub wants_raw : Option Want → Bool
 wants_raw (Some Raw) = true
@@ -47,7 +39,7 @@ wants_raw want = false
 abbrev pub Stays : Option Want → Seen → Type 0
 Stays (Some Raw) x = Unit {0}
 Stays (Some Unentered) x = Unit {0}
-Stays want x = expands x.meaning ≡ false
+Stays want x = is_expandable x.meaning ≡ false
 
 -- ONE EXPANSION
 

@@ -6,6 +6,7 @@ ghost use Rattle.plain_readings.specs.Readings.{Arguments};
 ghost use Rattle.plain_readings.specs.Weights.{act_weight};
 ghost use Rattle.reading_frames.specs.Stack.{call_begun};
 ghost use Rattle.reading_frames.specs.Weights.{frames_weight, innermost_weight};
+ghost use Rattle.plain_machine.specs.declared.broken.Broken.TheVariants as broken;
 ghost use Rattle.plain_machine.specs.States.{Begun};
 ghost use Rattle.plain_machine.specs.Plan.{called};
 ghost use Rattle.plain_tokens.specs.Arguments.{mode_of};
@@ -20,7 +21,6 @@ ghost use Rattle.engine_state.specs.Stands.{Stands, SameFrames, page_of};
 ghost use Rattle.engine_state.specs.Rules.{Cuts};
 ghost use Rattle.plain_machine.specs.Weights.{pending_weight};
 ghost use Rattle.engine_state.specs.Steps.{weight};
-ghost use Rattle.engine_state.specs.declared.broken.Broken.TheVariants as broken;
 ghost use Rattle.gullet.specs.Clauses.{RefusedAsAny};
 
 use engine_state::{Engine, name_of};

@@ -1,6 +1,7 @@
 // A token is expanded where it can be.
 // *The TeXbook*, chapter 20; *TeX: The Program*, part 25 (`expand`).
 ghost use Rattle.std.specs.Prelude.{◌≡◌, ◌≤◌, ◌+◌, IfOk, IfErr, OnOk, MatchBool, MatchResult, List, [], None, false, true};
+ghost use Rattle.plain_tokens.specs.Meanings.{is_expandable};
 ghost use Rattle.plain_readings.specs.Weights.{act_weight};
 ghost use Rattle.reading_frames.specs.Views.{reading_kind};
 ghost use Rattle.reading_frames.specs.Weights.{frames_weight, innermost_weight};
@@ -14,13 +15,14 @@ ghost use Rattle.engine_state.specs.Rules.{enters_of};
 ghost use Rattle.plain_machine.specs.Weights.{pending_weight};
 ghost use Rattle.engine_state.specs.Steps.{IsFree, IsHalted, weight};
 ghost use Rattle.gullet.specs.Clauses.{ExpandsSo};
-ghost use Rattle.gullet.specs.Stepping.{IsLight, ExpandsTo, is_expansion, expands, job_moves, row_moves, wants_raw, ExpandsOnce, IsExpanded, IsStayed, EndsRun, Stays, changes, once_by};
+ghost use Rattle.gullet.specs.Stepping.{IsLight, ExpandsTo, is_expansion, job_moves, row_moves, wants_raw, ExpandsOnce, IsExpanded, IsStayed, EndsRun, Stays, changes, once_by};
 
 use crate::call_name::call_name;
 use crate::conditional::{begin_conditional, meet_ender};
 use crate::relax::put_behind_relax;
 use conditionals::{Ender, Part, part_of};
 use engine_state::{Broken, Engine, Made, Ruled, name_of};
+use plain_tokens::is_expandable;
 use prim_table::is_expanded;
 use reading_frames::Opening;
 use rows::{Call, Head, Phrase};
@@ -132,23 +134,11 @@ fn primitive_expansion(token: Token, number: u16) -> Expansion
     }
 }
 
-/// Whether a token of this meaning is expanded.
-#[inline(always)]
-fn expands(meaning: Meaning<()>) -> bool
-    ensures { result ≡ expands meaning }
-{
-    match meaning {
-        Meaning::Undefined | Meaning::Macro { .. } => true,
-        Meaning::Prim(number) => is_expanded(number),
-        _ => false,
-    }
-}
-
 /// What becomes of a token by expansion.
 fn expansion_of(seen: Seen) -> Expansion
     ensures to { (page : Page) (moves : List Move) → ExpandsTo result page moves (expanded page seen moves) }
     ensures light { IsLight result }
-    ensures which { is_expansion result ≡ expands seen.meaning }
+    ensures which { is_expansion result ≡ is_expandable seen.meaning }
 {
     match seen.meaning {
         Meaning::Undefined => Expansion::Undefined,
@@ -209,7 +199,7 @@ pub fn expand_once<S: Sink>(engine: &mut Engine, out: &mut S, seen: Seen) -> Res
     requires uncalled { engine.old.input.call ≡ NotCalling }
     ensures rule { IfOk result (ExpandsSo ExpandsOnce engine.old engine.new (S.told out.old) (S.told out.new) seen) }
     ensures err { IfErr result (ExpandsSo (λ sizes s e _ w v moves _. CutsIn sizes s e w v moves) engine.old engine.new (S.told out.old) (S.told out.new) seen) }
-    ensures which { MatchResult result (λ once. changes once ≡ expands seen.meaning) (λ _. expands seen.meaning ≡ true) }
+    ensures which { MatchResult result (λ once. changes once ≡ is_expandable seen.meaning) (λ _. is_expandable seen.meaning ≡ true) }
     ensures halts { IfOk result (λ once. EndsRun once → SameFrames engine.old engine.new) }
     ensures stays { IfOk result (λ once. IsStayed once → engine.new ≡ engine.old) }
     ensures silent { IfOk result (λ once. IsStayed once → S.told out.new ≡ S.told out.old) }
@@ -267,9 +257,9 @@ fn once_behind(ruled: Ruled) -> Once
 #[inline(always)]
 pub fn stays(want: Option<Want>, seen: Seen) -> bool
     ensures stays { MatchBool result (Stays want seen) (wants_raw want ≡ false) }
-    ensures expands { MatchBool result (Unit {0}) (expands seen.meaning ≡ true) }
+    ensures expands { MatchBool result (Unit {0}) (is_expandable seen.meaning ≡ true) }
 {
-    is_raw(want) || !expands(seen.meaning)
+    is_raw(want) || !is_expandable(seen.meaning)
 }
 
 /// A token that can be expanded is.
@@ -279,7 +269,7 @@ pub fn stays(want: Option<Want>, seen: Seen) -> bool
 pub fn expand<S: Sink>(engine: &mut Engine, out: &mut S, seen: Seen) -> Result<Ruled, Broken>
     requires idle { engine.old.input.making ≡ None }
     requires uncalled { engine.old.input.call ≡ NotCalling }
-    requires expands { expands seen.meaning ≡ true }
+    requires expands { is_expandable seen.meaning ≡ true }
     ensures rule { IfOk result (GoesOnward engine.old engine.new (S.told out.old) (S.told out.new) (λ page. expanded page seen [])) }
     ensures err { IfErr result (CutsOnward engine.old engine.new (S.told out.old) (S.told out.new) (λ page. expanded page seen [])) }
     ensures halts { IfOk result (λ ruled. IsHalted ruled → SameFrames engine.old engine.new) }

@@ -3,12 +3,12 @@ ghost use Rattle.std.specs.Prelude.{◌≡◌, ◌+◌, ◌<◌, ◌^◌, IfSome
 ghost use Rattle.token_lists.specs.Table.{IsHeld, holders_at};
 ghost use Rattle.token_lists.specs.Accounts.{Moves, Keeps, none};
 ghost use Rattle.token_lists.specs.Ids.{id_of};
-ghost use Rattle.plain_tokens.specs.Meanings.{seen_as, first_meaning, is_listed, is_expandable, marked_meaning};
+ghost use Rattle.plain_tokens.specs.Meanings.{seen_as, first_meaning, is_listed, marked_meaning};
 ghost use Rattle.meanings.specs.Kept.{numbered_meaning, numbered_list, without_list};
 ghost use Rattle.equivalents.specs.Holding.{list_of};
 ghost use Rattle.meanings.specs.Holding.{list_holds, meaning_holds, with_holder, without_holder, Lasts};
 
-use prim_table::is_expanded;
+use plain_tokens::is_expandable;
 use tex_defs::Meaning;
 use token_lists::{ListRef, Lists};
 
@@ -91,22 +91,6 @@ pub fn known(numbers: &[u16], number: u16) -> Kept
         Meaning::Prim(number)
     } else {
         Meaning::Undefined
-    }
-}
-
-// Whether what means this is expanded.
-fn is_expandable(meaning: Meaning<()>) -> bool
-    ensures { result ≡ is_expandable meaning }
-{
-    match meaning {
-        Meaning::Undefined => true,
-        Meaning::Macro {
-            long: _,
-            outer: _,
-            list: (),
-        } => true,
-        Meaning::Prim(number) => is_expanded(number),
-        _ => false,
     }
 }
 

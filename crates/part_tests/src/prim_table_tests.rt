@@ -31,30 +31,34 @@ fn numbers_and_names(rt: HostRuntime) {
     numbering_law();
 }
 
-// `\expandafter` to `\endinput`, `\if` to `\or`, and the integer parameters.
+// The numbers of a row's first and last primitives.
+fn ends_of(class: Class) -> (u16, u16) {
+    (first_number(class), last_number(class))
+}
+
+// `\expandafter` to `\endinput`.
 #[test]
-fn rows_and_what_is_expanded(rt: HostRuntime) {
-    assert!(rt;
-        (
-            first_number(Class::Expandable),
-            last_number(Class::Expandable)
-        ) == (54, 64),
-        "expansions"
-    );
-    assert!(rt;
-        (
-            first_number(Class::Conditional),
-            last_number(Class::Conditional)
-        ) == (65, 84),
-        "conditionals"
-    );
-    assert!(rt; !is_in_row(Class::IntegerParameter, 84), "before the row");
-    assert!(rt;
-        is_in_row(Class::IntegerParameter, 85) && !is_in_row(Class::IntegerParameter, 140),
-        "the row"
-    );
-    assert!(rt;
-        !is_expanded(53) && is_expanded(54) && is_expanded(84) && !is_expanded(85),
-        "expanded"
-    );
+fn expansions_have_a_row(rt: HostRuntime) {
+    assert!(rt; ends_of(Class::Expandable) == (54, 64));
+}
+
+// `\if` to `\or`.
+#[test]
+fn conditionals_have_a_row(rt: HostRuntime) {
+    assert!(rt; ends_of(Class::Conditional) == (65, 84));
+}
+
+#[test]
+fn no_conditional_stands_among_integer_parameters(rt: HostRuntime) {
+    assert!(rt; !is_in_row(Class::IntegerParameter, 84));
+}
+
+#[test]
+fn integer_parameters_end_before_dimensions(rt: HostRuntime) {
+    assert!(rt; is_in_row(Class::IntegerParameter, 85) && !is_in_row(Class::IntegerParameter, 140));
+}
+
+#[test]
+fn expansions_and_conditionals_are_expanded(rt: HostRuntime) {
+    assert!(rt; !is_expanded(53) && is_expanded(54) && is_expanded(84) && !is_expanded(85));
 }

@@ -10,11 +10,13 @@ use Rattle.plain_tokens.specs.declared.line_state.LineState.TheVariants.{NewLine
 use Rattle.plain_tokens.specs.Pending.{Pending, Begun as BegunFile, with_end, with_next, with_begun, source_of}
 use Rattle.plain_tokens.specs.Tables.{Demand, buffer, line_need, level, open_lines, next_file, refused}
 use Rattle.equivalents.specs.Parameters.{end_of_line}
+use Rattle.plain_machine.specs.declared.broken.Broken.{Broken}
+use Rattle.plain_machine.specs.declared.broken.Broken.TheVariants as broken
 use Rattle.plain_machine.specs.States.{State, Move, FirstTaken, FileOpened, ListsEnded, made}
 use Rattle.plain_machine.specs.Demands.{refusal}
 use Rattle.plain_machine.specs.Plan.{ruled}
 use Rattle.plain_machine.specs.Runs.{Wrote, made_all}
-use Rattle.plain_machine.specs.Does.{Did, Cut, Why, IsFull, IsFault, IsWant, Refuses, IsCause, front_of}
+use Rattle.plain_machine.specs.Does.{Did, Cut, Refuses, IsCause, front_of}
 use Rattle.plain_machine.specs.Extended.{Rests, found_first, rests_before_opening, first_left, extended_pending, extended, IsFirstReady, HasFirst, NoMoreBytes, FirstTooLong}
 use Rattle.plain_machine.proofs.Ahead.{full_buffer, long_need, alone_need, no_more, long_refused, first_more, behind_more, open_lines_same, level_same, text_level_same}
 use Rattle.plain_machine.proofs.Extending.{no_refusal}
@@ -131,35 +133,35 @@ module _ (sizes : Sizes) (s : State) (bytes : List ℕ) (r : Rests) (is : s.pend
   same_one = ListsEnded ∷ FirstTaken (first_line all_bytes) ∷ []
 
   -- once the finished lists in front have gone
-  abbrev settled : State
-  settled = made ListsEnded s
+  abbrev behind_lists : State
+  behind_lists = made ListsEnded s
 
   abbrev demanded : List ℕ → List Demand
-  demanded line = buffer (line_need line) (open_lines settled.pending) ∷ level settled.pending ∷ []
+  demanded line = buffer (line_need line) (open_lines behind_lists.pending) ∷ level behind_lists.pending ∷ []
 
   abbrev HasFirstSight : Type 0
   HasFirstSight = FirstSight sizes.buffer_size bytes (first_left r.left)
 
-  fits_of : (line : List ℕ) → refusal sizes (FirstTaken line) (extended r settled) ≡ refused sizes (demanded all_bytes)
-  fits_of line = ap (refused sizes) (extended_demands bytes r.left settled.pending is)
+  fits_of : (line : List ℕ) → refusal sizes (FirstTaken line) (extended r behind_lists) ≡ refused sizes (demanded all_bytes)
+  fits_of line = ap (refused sizes) (extended_demands bytes r.left behind_lists.pending is)
 
-  own_fits : (line : List ℕ) → refusal sizes (FirstTaken line) settled ≡ refused sizes (demanded bytes)
-  own_fits line = ap (refused sizes) (own_demands bytes r.left settled.pending is)
+  own_fits : (line : List ℕ) → refusal sizes (FirstTaken line) behind_lists ≡ refused sizes (demanded bytes)
+  own_fits line = ap (refused sizes) (own_demands bytes r.left behind_lists.pending is)
 
-  too_long : (line : List ℕ) → sizes.buffer_size < line_need line → refused sizes (demanded line) ≡ Some (full_buffer (open_lines settled.pending) sizes)
-  too_long line l = long_refused sizes (line_need line) (open_lines settled.pending) (level settled.pending ∷ []) l
+  too_long : (line : List ℕ) → sizes.buffer_size < line_need line → refused sizes (demanded line) ≡ Some (full_buffer (open_lines behind_lists.pending) sizes)
+  too_long line l = long_refused sizes (line_need line) (open_lines behind_lists.pending) (level behind_lists.pending ∷ []) l
 
   -- a table that is full is the same one
-  same_fits : (line line' : List ℕ) → HasFirstSight → refusal sizes (FirstTaken line') (extended r settled) ≡ refusal sizes (FirstTaken line) settled
-  same_fits line line' (Alike e f) = fits_of line' ∙ ap (λ (first : List ℕ). refused sizes (buffer (1 + length first) (open_lines settled.pending) ∷ level settled.pending ∷ [])) e ∙ sym (own_fits line)
+  same_fits : (line line' : List ℕ) → HasFirstSight → refusal sizes (FirstTaken line') (extended r behind_lists) ≡ refusal sizes (FirstTaken line) behind_lists
+  same_fits line line' (Alike e f) = fits_of line' ∙ ap (λ (first : List ℕ). refused sizes (buffer (1 + length first) (open_lines behind_lists.pending) ∷ level behind_lists.pending ∷ [])) e ∙ sym (own_fits line)
   same_fits line line' (Long l l') = fits_of line' ∙ too_long all_bytes l' ∙ sym (too_long bytes l) ∙ sym (own_fits line)
 
   not_both : (o : Option Full) (full : Full) → o ≡ Some full → o ≡ None → ⊥
   not_both o full e e' = absurd (cc)
 
-  makes : (line line' : List ℕ) → refusal sizes (FirstTaken line) settled ≡ None → HasFirstSight → made (FirstTaken line') (extended r settled) ≡ extended r (made (FirstTaken line) settled)
-  makes line line' fits (Alike e f) = ap (λ (p : Pending). record s { pending = with_end (end_of_line s.groups.now) p; files = r.files }) (begins_alike bytes r.left settled.pending is e f)
-  makes line line' fits (Long l l') = absurd (not_both (refusal sizes (FirstTaken line) settled) (full_buffer (open_lines settled.pending) sizes) (own_fits line ∙ too_long bytes l) fits)
+  makes : (line line' : List ℕ) → refusal sizes (FirstTaken line) behind_lists ≡ None → HasFirstSight → made (FirstTaken line') (extended r behind_lists) ≡ extended r (made (FirstTaken line) behind_lists)
+  makes line line' fits (Alike e f) = ap (λ (p : Pending). record s { pending = with_end (end_of_line s.groups.now) p; files = r.files }) (begins_alike bytes r.left behind_lists.pending is e f)
+  makes line line' fits (Long l l') = absurd (not_both (refusal sizes (FirstTaken line) behind_lists) (full_buffer (open_lines behind_lists.pending) sizes) (own_fits line ∙ too_long bytes l) fits)
 
   wrote_as : (w w' : World) → Wrote w w' one → Wrote w w' same_one
   wrote_as w w' h = record { told = h.told; column = h.column; later = h.later }
@@ -174,19 +176,19 @@ module _ (sizes : Sizes) (s : State) (bytes : List ℕ) (r : Rests) (is : s.pend
     written = wrote_as w w' d.written;
   }
 
-  refuses_as : (why : Why) → Refuses sizes why (FirstTaken (first_line bytes)) settled → Refuses sizes why (FirstTaken (first_line all_bytes)) (extended r settled)
-  refuses_as (IsFull full) h = same_fits (first_line bytes) (first_line all_bytes) sees ∙ h
-  refuses_as IsFault h = absurd h
-  refuses_as IsWant h = absurd h
+  refuses_as : (why : Broken) → Refuses sizes why (FirstTaken (first_line bytes)) behind_lists → Refuses sizes why (FirstTaken (first_line all_bytes)) (extended r behind_lists)
+  refuses_as (broken.Full full) h = same_fits (first_line bytes) (first_line all_bytes) sees ∙ h
+  refuses_as broken.WriteFault h = absurd h
+  refuses_as broken.Want h = absurd h
 
-  cut_at : (at : State) (w w' : World) (why : Why) (done : List Move) (m : Move) (rest : List Move) (count : ℕ) → one ≡ done ++ m ∷ rest → made_all done s ≡ at → Refuses sizes why m at → IsCause why w w' →
+  cut_at : (at : State) (w w' : World) (why : Broken) (done : List Move) (m : Move) (rest : List Move) (count : ℕ) → one ≡ done ++ m ∷ rest → made_all done s ≡ at → Refuses sizes why m at → IsCause why w w' →
       Wrote w w' (done ++ front_of count m) → Cut sizes (extended r s) (extended r at) w w' same_one why
   cut_at at w w' why [] m rest count all state refuses cause written = absurd (no_refusal sizes why m at (cc) refuses)
   cut_at at w w' why (d ∷ []) m rest count all state refuses cause written =
       let settles : d ≡ ListsEnded = cc in
       let takes : m ≡ FirstTaken (first_line bytes) = cc in
-      let here : settled ≡ at = ap (λ (x : Move). made x s) (sym settles) ∙ state in
-      let there : Refuses sizes why (FirstTaken (first_line bytes)) settled = subst (Refuses sizes why (FirstTaken (first_line bytes))) (sym here) (subst (λ (x : Move). Refuses sizes why x at) takes refuses) in
+      let here : behind_lists ≡ at = ap (λ (x : Move). made x s) (sym settles) ∙ state in
+      let there : Refuses sizes why (FirstTaken (first_line bytes)) behind_lists = subst (Refuses sizes why (FirstTaken (first_line bytes))) (sym here) (subst (λ (x : Move). Refuses sizes why x at) takes refuses) in
       record {
         done = ListsEnded ∷ [];
         m = FirstTaken (first_line all_bytes);
@@ -202,5 +204,5 @@ module _ (sizes : Sizes) (s : State) (bytes : List ℕ) (r : Rests) (is : s.pend
   cut_at at w w' why (d ∷ x ∷ []) m rest count all state refuses cause written = absurd (cc)
   cut_at at w w' why (d ∷ x ∷ y ∷ done) m rest count all state refuses cause written = absurd (cc)
 
-  pub begins_cut : (at : State) (w w' : World) (why : Why) → Cut sizes s at w w' (ruled s (Some bytes)) why → Cut sizes (extended r s) (extended r at) w w' (ruled (extended r s) (Some all_bytes)) why
+  pub begins_cut : (at : State) (w w' : World) (why : Broken) → Cut sizes s at w w' (ruled s (Some bytes)) why → Cut sizes (extended r s) (extended r at) w w' (ruled (extended r s) (Some all_bytes)) why
   begins_cut at w w' why c = cut_at at w w' why c.done c.m c.rest c.count c.all c.state c.refuses c.cause c.written

@@ -5,12 +5,14 @@ use Rattle.std.proofs.lemmas.List.{append-nil}
 use Rattle.tex_defs.specs.Places.{Place, Transcript, OfFile, File, World, Later, Rose, Untold, NotHeld, Holds, grown, is_at}
 use Rattle.tex_defs.specs.declared.Full.{Full}
 use Rattle.tex_defs.specs.declared.Sizes.{Sizes}
+use Rattle.plain_machine.specs.declared.broken.Broken.{Broken}
+use Rattle.plain_machine.specs.declared.broken.Broken.TheVariants as broken
 use Rattle.plain_machine.specs.States.{State, Move, Handed, ListsEnded, Written, made, column_after}
 use Rattle.plain_machine.specs.Demands.{refusal}
 use Rattle.plain_machine.specs.Plan.{plan}
 use Rattle.plain_machine.specs.Runs.{Wrote, made_all, after, columns_after, steps}
 use Rattle.plain_machine.specs.Bounded.{AllFit, FitMoves, AtFull, AtSteps, Bounded}
-use Rattle.plain_machine.specs.Does.{Did, Cut, CutAt, Why, IsFull, IsFault, IsWant, Refuses, IsCause, front_of, but_due}
+use Rattle.plain_machine.specs.Does.{Did, Cut, CutAt, Refuses, IsCause, front_of, but_due}
 use Rattle.plain_machine.proofs.Joins.{after_join, columns_join, made_all_join, steps_join, fits_join, all_fit_join, refuses_due, plan_made, due_made, StepComes, Moment, plan_moment, due_moment}
 
 pub same_later : (w : World) → Later w w
@@ -25,12 +27,12 @@ rose_on a b c le h = omega (arith, le, h)
 pub rose_to : (a b c : ℕ) → Rose a b → b ≤ c → Rose a c
 rose_to a b c h le = omega (arith, le, h)
 
-pub cause_on : (why : Why) (w w' w'' : World) → Later w w' → IsCause why w' w'' → IsCause why w w''
-cause_on (IsFull full) w w' w'' l h = tt
-cause_on IsFault w w' w'' l (inl h) = inl (rose_on _ _ _ l.file_faults h)
-cause_on IsFault w w' w'' l (inr h) = inr (rose_on _ _ _ l.sink_faults h)
-cause_on IsWant w w' w'' l (inl h) = inl (rose_on _ _ _ l.file_wants h)
-cause_on IsWant w w' w'' l (inr h) = inr (rose_on _ _ _ l.sink_wants h)
+pub cause_on : (why : Broken) (w w' w'' : World) → Later w w' → IsCause why w' w'' → IsCause why w w''
+cause_on (broken.Full full) w w' w'' l h = tt
+cause_on broken.WriteFault w w' w'' l (inl h) = inl (rose_on _ _ _ l.file_faults h)
+cause_on broken.WriteFault w w' w'' l (inr h) = inr (rose_on _ _ _ l.sink_faults h)
+cause_on broken.Want w w' w'' l (inl h) = inl (rose_on _ _ _ l.file_wants h)
+cause_on broken.Want w w' w'' l (inr h) = inr (rose_on _ _ _ l.sink_wants h)
 
 pub wrote_none : (w : World) → Wrote w w []
 wrote_none w = record { told = λ p. refl; column = refl; later = same_later w }
@@ -100,7 +102,7 @@ steps_wrote w w' ms h = wrote_join w w' w' ms (ListsEnded ∷ []) h (wrote_silen
 -- MOVES CUT OFF
 
 -- cut off already in the first of two
-pub cut_first : (sizes : Sizes) (s s' : State) (w w' : World) (ms ns : List Move) (why : Why) → Cut sizes s s' w w' ms why → Cut sizes s s' w w' (ms ++ ns) why
+pub cut_first : (sizes : Sizes) (s s' : State) (w w' : World) (ms ns : List Move) (why : Broken) → Cut sizes s s' w w' ms why → Cut sizes s s' w w' (ms ++ ns) why
 cut_first sizes s s' w w' ms ns why c = record {
   done = c.done;
   m = c.m;
@@ -115,7 +117,7 @@ cut_first sizes s s' w w' ms ns why c = record {
 }
 
 -- cut off behind moves that were done
-pub cut_later : (sizes : Sizes) (s s' s'' : State) (w w' w'' : World) (ms ns : List Move) (why : Why) → Did sizes s s' w w' ms → Cut sizes s' s'' w' w'' ns why → Cut sizes s s'' w w'' (ms ++ ns) why
+pub cut_later : (sizes : Sizes) (s s' s'' : State) (w w' w'' : World) (ms ns : List Move) (why : Broken) → Did sizes s s' w w' ms → Cut sizes s' s'' w' w'' ns why → Cut sizes s s'' w w'' (ms ++ ns) why
 cut_later sizes s s' s'' w w' w'' ms ns why d c = record {
   done = ms ++ c.done;
   m = c.m;
@@ -144,17 +146,17 @@ front_none (Written q bs) w = record { told = λ p. grown_nothing (is_at p q) (w
 front_none m w = record { told = λ p. refl; column = refl; later = same_later w }
 
 -- cut off before the first, of which nothing is written
-pub cut_here : (sizes : Sizes) (m : Move) (rest : List Move) (s : State) (w : World) (why : Why) → Refuses sizes why m s → IsCause why w w → Cut sizes s s w w (m ∷ rest) why
+pub cut_here : (sizes : Sizes) (m : Move) (rest : List Move) (s : State) (w : World) (why : Broken) → Refuses sizes why m s → IsCause why w w → Cut sizes s s w w (m ∷ rest) why
 cut_here sizes m rest s w why r cause = record { done = []; m = m; rest = rest; count = 0; all = refl; state = refl; fits = tt; refuses = r; cause = cause; written = front_none m w }
 
 -- cut off in the first, of which this much is written
-pub cut_in : (sizes : Sizes) (m : Move) (rest : List Move) (count : ℕ) (s : State) (w w' : World) (why : Why) →
+pub cut_in : (sizes : Sizes) (m : Move) (rest : List Move) (count : ℕ) (s : State) (w w' : World) (why : Broken) →
     Refuses sizes why m s → IsCause why w w' → Wrote w w' (front_of count m) → Cut sizes s s w w' (m ∷ rest) why
 cut_in sizes m rest count s w w' why r cause h = record { done = []; m = m; rest = rest; count = count; all = refl; state = refl; fits = tt; refuses = r; cause = cause; written = h }
 
 -- cut off before the first, for which a table has no room
-pub cut_full : (sizes : Sizes) (m : Move) (rest : List Move) (s : State) (w : World) (full : Full) → refusal sizes m s ≡ Some full → Cut sizes s s w w (m ∷ rest) (IsFull full)
-cut_full sizes m rest s w full r = cut_here sizes m rest s w (IsFull full) r tt
+pub cut_full : (sizes : Sizes) (m : Move) (rest : List Move) (s : State) (w : World) (full : Full) → refusal sizes m s ≡ Some full → Cut sizes s s w w (m ∷ rest) (broken.Full full)
+cut_full sizes m rest s w full r = cut_here sizes m rest s w (broken.Full full) r tt
 
 -- A move that a table has no room for writes nothing.
 pub full_writes_nothing : (sizes : Sizes) (m : Move) (s : State) (full : Full) (count : ℕ) → refusal sizes m s ≡ Some full → front_of count m ≡ []
@@ -165,12 +167,12 @@ full_writes_nothing sizes m s full count h = refl
 -- A CUT AS A MOMENT OF THE RUN
 
 -- The moment at which the run from s is cut off, where the moves done have led to s' but for what is due.
-pub record CutOff (sizes : Sizes) (s s' : State) (k : ℕ) (w w' : World) (why : Why) : Type 0 where
+pub record CutOff (sizes : Sizes) (s s' : State) (k : ℕ) (w w' : World) (why : Broken) : Type 0 where
   pub t : State
   pub cut : CutAt sizes s k t w w' why
   pub same : but_due t ≡ but_due s'
 
-module _ (sizes : Sizes) (s s' : State) (k : ℕ) (w w' : World) (ms : List Move) (why : Why) (c : Cut sizes s s' w w' ms why) (le : steps ms ≤ k) where
+module _ (sizes : Sizes) (s s' : State) (k : ℕ) (w w' : World) (ms : List Move) (why : Broken) (c : Cut sizes s s' w w' ms why) (le : steps ms ≤ k) where
   at_moment : Moment sizes s c.done c.m → CutOff sizes s s' k w w' why
   at_moment here =
       let same : but_due here.t ≡ but_due s' = here.same ∙ ap but_due c.state in
@@ -200,7 +202,7 @@ module _ (sizes : Sizes) (s s' : State) (k : ℕ) (w w' : World) (ms : List Move
   due_cut e = at_moment (due_moment sizes s c.done c.m c.rest (e ∙ c.all) c.fits)
 
 -- cut off behind a run
-pub cut_behind : (sizes : Sizes) (s s' t : State) (j k : ℕ) (w w' w'' : World) (ms : List Move) (why : Why) →
+pub cut_behind : (sizes : Sizes) (s s' t : State) (j k : ℕ) (w w' w'' : World) (ms : List Move) (why : Broken) →
     FitMoves sizes s ms s' → steps ms ≤ j → Wrote w w' ms → CutAt sizes s' k t w' w'' why → CutAt sizes s (j + k) t w w'' why
 cut_behind sizes s s' t j k w w' w'' ms why h le d c = record {
   ms = ms ++ c.ms;
@@ -216,7 +218,7 @@ cut_behind sizes s s' t j k w w' w'' ms why h le d c = record {
 }
 
 -- a cut within fewer steps
-pub cut_within : (sizes : Sizes) (s t : State) (j k : ℕ) (w w' : World) (why : Why) → j ≤ k → CutAt sizes s j t w w' why → CutAt sizes s k t w w' why
+pub cut_within : (sizes : Sizes) (s t : State) (j k : ℕ) (w w' : World) (why : Broken) → j ≤ k → CutAt sizes s j t w w' why → CutAt sizes s k t w w' why
 cut_within sizes s t j k w w' why le c = record {
   ms = c.ms;
   m = c.m;
@@ -231,7 +233,7 @@ cut_within sizes s t j k w w' why le c = record {
 }
 
 -- A cut at a table that is full is the end of the run within the sizes.
-pub full_end : (sizes : Sizes) (s t : State) (k : ℕ) (w w' : World) (full : Full) → (c : CutAt sizes s k t w w' (IsFull full)) → Bounded sizes s k c.ms t (AtFull full)
+pub full_end : (sizes : Sizes) (s t : State) (k : ℕ) (w w' : World) (full : Full) → (c : CutAt sizes s k t w w' (broken.Full full)) → Bounded sizes s k c.ms t (AtFull full)
 full_end sizes s t k w w' full c = record {
   moves = c.moves;
   within = omega (arith, c.room);
@@ -239,6 +241,6 @@ full_end sizes s t k w w' full c = record {
 }
 
 -- and all before it is written
-pub full_wrote : (sizes : Sizes) (s t : State) (k : ℕ) (w w' : World) (full : Full) → (c : CutAt sizes s k t w w' (IsFull full)) → Wrote w w' c.ms
+pub full_wrote : (sizes : Sizes) (s t : State) (k : ℕ) (w w' : World) (full : Full) → (c : CutAt sizes s k t w w' (broken.Full full)) → Wrote w w' c.ms
 full_wrote sizes s t k w w' full c =
     subst (Wrote w w') (ap (λ (x : List Move). c.ms ++ x) (full_writes_nothing sizes c.m t full c.count c.refuses) ∙ append-nil c.ms) c.written

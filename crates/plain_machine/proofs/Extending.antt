@@ -23,6 +23,8 @@ use Rattle.rows.specs.Readings.{Tok, Ask, More, ActsOn}
 use Rattle.plain_readings.specs.Readings.{Reading, ask, lists}
 use Rattle.plain_readings.specs.Scanning.{Scanning, scanning}
 use Rattle.equivalents.specs.Parameters.{end_of_line}
+use Rattle.plain_machine.specs.declared.broken.Broken.{Broken}
+use Rattle.plain_machine.specs.declared.broken.Broken.TheVariants as broken
 use Rattle.plain_machine.specs.States.{State, Move, Handed, Taken, FirstTaken, ListsEnded, Skipped, FileClosed, FileOpened, Spelt, Grows, Opened, ListBegun, ListGrown, Put, Called, CalledWith, Begun, BegunWith, made}
 use Rattle.plain_tokens.specs.Tables.{Demand, held_words, lists_words, memory, buffer, lines_beneath, line_need, level, opened_level, parameters, spelt_name, next_line, refused}
 use Rattle.equivalents.specs.Holding.{lists_held, shared_words}
@@ -31,7 +33,7 @@ use Rattle.plain_machine.specs.Demands.{words, depth, refusal}
 use Rattle.plain_machine.specs.Plan.{Page, page_of, plan, ruled, planned, answered, handed, met, entered, enters_names, checked, at_line, reported, stomach, wanted, feeding, Ends, Goes, next, next_of, first_of_plan}
 use Rattle.plain_machine.specs.Runs.{Wrote, step_of, steps, made_all, NeedsStep}
 use Rattle.plain_machine.specs.Bounded.{AllFit}
-use Rattle.plain_machine.specs.Does.{Did, Cut, Why, IsFull, IsFault, IsWant, IsOutside, Refuses, IsCause, front_of}
+use Rattle.plain_machine.specs.Does.{Did, Cut, IsOutside, Refuses, IsCause, front_of}
 use Rattle.plain_machine.specs.Extended.{Rests, first_left, next_extended, extended_pending, extended, closes, rests_before, starts, starts_input, IsReady, IsStill, AreStill, Reads}
 use Rattle.plain_machine.proofs.Joins.{StepComes, plan_needs, next_due}
 use Rattle.plain_machine.proofs.Settling.{pulled_settled}
@@ -112,12 +114,12 @@ module _ (sizes : Sizes) (r : Rests) where
   did_agrees : (ms : List Move) (s s' : State) (w w' : World) → AllAgree sizes r ms s → Did sizes s s' w w' ms → Did sizes (extended r s) (extended r s') w w' ms
   did_agrees ms s s' w w' h d = record { state = all_makes ms s h ∙ ap (extended r) d.state; fits = all_fit ms s h d.fits; written = d.written }
 
-  refuses_agrees : (why : Why) (m : Move) (s : State) → Agrees sizes r m s → Refuses sizes why m s → Refuses sizes why m (extended r s)
-  refuses_agrees (IsFull full) m s h says = h.fits ∙ says
-  refuses_agrees IsFault m s h says = says
-  refuses_agrees IsWant m s h says = says
+  refuses_agrees : (why : Broken) (m : Move) (s : State) → Agrees sizes r m s → Refuses sizes why m s → Refuses sizes why m (extended r s)
+  refuses_agrees (broken.Full full) m s h says = h.fits ∙ says
+  refuses_agrees broken.WriteFault m s h says = says
+  refuses_agrees broken.Want m s h says = says
 
-  cut_agrees : (ms : List Move) (s at : State) (w w' : World) (why : Why) → AllAgree sizes r ms s → Cut sizes s at w w' ms why → Cut sizes (extended r s) (extended r at) w w' ms why
+  cut_agrees : (ms : List Move) (s at : State) (w w' : World) (why : Broken) → AllAgree sizes r ms s → Cut sizes s at w w' ms why → Cut sizes (extended r s) (extended r at) w w' ms why
   cut_agrees ms s at w w' why h c =
       let parts : AllAgree sizes r (c.done ++ c.m ∷ c.rest) s = subst (λ (x : List Move). AllAgree sizes r x s) c.all h in
       let first : AllAgree sizes r c.done s = first_agree c.done (c.m ∷ c.rest) s parts in
@@ -140,7 +142,7 @@ module _ (sizes : Sizes) (r : Rests) (ms : List Move) (s : State) where
   pub still_did : (s' : State) (w w' : World) → pulls ms ≡ 0 → Did sizes s s' w w' ms → Did sizes (extended r s) (extended r s') w w' ms
   still_did s' w w' none d = did_agrees sizes r ms s s' w w' (all_still sizes r ms s none) d
 
-  pub still_cut : (at : State) (w w' : World) (why : Why) → pulls ms ≡ 0 → Cut sizes s at w w' ms why → Cut sizes (extended r s) (extended r at) w w' ms why
+  pub still_cut : (at : State) (w w' : World) (why : Broken) → pulls ms ≡ 0 → Cut sizes s at w w' ms why → Cut sizes (extended r s) (extended r at) w w' ms why
   still_cut at w w' why none c = cut_agrees sizes r ms s at w w' why (all_still sizes r ms s none) c
 
 -- A MOVE THAT PULLS
@@ -336,15 +338,15 @@ module _ (sizes : Sizes) (gone : List ℕ) (r : Rests) (s : State) where
 not_both : (o : Option Full) (full : Full) → o ≡ Some full → o ≡ None → ⊥
 not_both o full e e' = absurd (cc)
 
-pub no_refusal : (sizes : Sizes) (why : Why) (m : Move) (at : State) → m ≡ ListsEnded → Refuses sizes why m at → ⊥
-no_refusal sizes (IsFull full) m at e h = not_both None full (subst (λ (x : Move). refusal sizes x at ≡ Some full) e h) refl
-no_refusal sizes IsFault m at e h = subst IsOutside e h
-no_refusal sizes IsWant m at e h = subst IsOutside e h
+pub no_refusal : (sizes : Sizes) (why : Broken) (m : Move) (at : State) → m ≡ ListsEnded → Refuses sizes why m at → ⊥
+no_refusal sizes (broken.Full full) m at e h = not_both None full (subst (λ (x : Move). refusal sizes x at ≡ Some full) e h) refl
+no_refusal sizes broken.WriteFault m at e h = subst IsOutside e h
+no_refusal sizes broken.Want m at e h = subst IsOutside e h
 
-no_refusal_closed : (sizes : Sizes) (why : Why) (m : Move) (at : State) → m ≡ FileClosed → Refuses sizes why m at → ⊥
-no_refusal_closed sizes (IsFull full) m at e h = not_both None full (subst (λ (x : Move). refusal sizes x at ≡ Some full) e h) refl
-no_refusal_closed sizes IsFault m at e h = subst IsOutside e h
-no_refusal_closed sizes IsWant m at e h = subst IsOutside e h
+no_refusal_closed : (sizes : Sizes) (why : Broken) (m : Move) (at : State) → m ≡ FileClosed → Refuses sizes why m at → ⊥
+no_refusal_closed sizes (broken.Full full) m at e h = not_both None full (subst (λ (x : Move). refusal sizes x at ≡ Some full) e h) refl
+no_refusal_closed sizes broken.WriteFault m at e h = subst IsOutside e h
+no_refusal_closed sizes broken.Want m at e h = subst IsOutside e h
 
 module _ (sizes : Sizes) (r' r : Rests) (s : State) where
   -- A LINE THAT IS TOO LONG
@@ -354,15 +356,15 @@ module _ (sizes : Sizes) (r' r : Rests) (s : State) where
       let both : AllFit sizes (ListsEnded ∷ Taken line ∷ []) s = subst (λ (x : List Move). AllFit sizes x s) e fits in
       not_both (refusal sizes (Taken line) (made ListsEnded s)) full refused both.1.0
 
-  taken_refuses : (why : Why) (line line' : List ℕ) (full : Full) (at : State) → made ListsEnded s ≡ at → refusal sizes (Taken line) (made ListsEnded s) ≡ Some full →
+  taken_refuses : (why : Broken) (line line' : List ℕ) (full : Full) (at : State) → made ListsEnded s ≡ at → refusal sizes (Taken line) (made ListsEnded s) ≡ Some full →
       refusal sizes (Taken line') (made ListsEnded (extended r s)) ≡ Some full → Refuses sizes why (Taken line) at → Refuses sizes why (Taken line') (extended r at)
-  taken_refuses (IsFull full') line line' full at stands e e' h =
+  taken_refuses (broken.Full full') line line' full at stands e e' h =
       let there : refusal sizes (Taken line') (extended r at) ≡ Some full = subst (λ (x : State). refusal sizes (Taken line') (extended r x) ≡ Some full) stands e' in
       there ∙ sym (subst (λ (x : State). refusal sizes (Taken line) x ≡ Some full) stands e) ∙ h
-  taken_refuses IsFault line line' full at stands e e' h = absurd h
-  taken_refuses IsWant line line' full at stands e e' h = absurd h
+  taken_refuses broken.WriteFault line line' full at stands e e' h = absurd h
+  taken_refuses broken.Want line line' full at stands e e' h = absurd h
 
-  long_cut : (line line' : List ℕ) (full : Full) (at : State) (w w' : World) (why : Why) (done : List Move) (m : Move) (rest : List Move) (count : ℕ) →
+  long_cut : (line line' : List ℕ) (full : Full) (at : State) (w w' : World) (why : Broken) (done : List Move) (m : Move) (rest : List Move) (count : ℕ) →
       refusal sizes (Taken line) (made ListsEnded s) ≡ Some full → refusal sizes (Taken line') (made ListsEnded (extended r s)) ≡ Some full →
       ListsEnded ∷ Taken line ∷ [] ≡ done ++ m ∷ rest → made_all done s ≡ at → AllFit sizes done s → Refuses sizes why m at → IsCause why w w' → Wrote w w' (done ++ front_of count m) →
       Cut sizes (extended r s) (extended r at) w w' (ListsEnded ∷ Taken line' ∷ []) why
@@ -408,7 +410,7 @@ module _ (sizes : Sizes) (r' r : Rests) (s : State) where
         }
 
     -- behind the file's end
-    closing_at : (at : State) (w w' : World) (why : Why) (done : List Move) (m : Move) (more : List Move) (count : ℕ) → rest ≡ done ++ m ∷ more →
+    closing_at : (at : State) (w w' : World) (why : Broken) (done : List Move) (m : Move) (more : List Move) (count : ℕ) → rest ≡ done ++ m ∷ more →
         (made_all (ListsEnded ∷ FileClosed ∷ done) s ≡ at) × (AllFit sizes (ListsEnded ∷ FileClosed ∷ done) s × Wrote w w' (ListsEnded ∷ FileClosed ∷ done ++ front_of count m)) →
         Refuses sizes why m at → IsCause why w w' → Cut sizes (extended r' s) (extended r at) w w' closing why
     closing_at at w w' why done m more count all parts refuses cause =
@@ -428,7 +430,7 @@ module _ (sizes : Sizes) (r' r : Rests) (s : State) where
           written = parts.1.1;
         }
 
-    closing_cut : (at : State) (w w' : World) (why : Why) (done : List Move) (m : Move) (more : List Move) (count : ℕ) → closing ≡ done ++ m ∷ more →
+    closing_cut : (at : State) (w w' : World) (why : Broken) (done : List Move) (m : Move) (more : List Move) (count : ℕ) → closing ≡ done ++ m ∷ more →
         made_all done s ≡ at → AllFit sizes done s → Refuses sizes why m at → IsCause why w w' → Wrote w w' (done ++ front_of count m) → Cut sizes (extended r' s) (extended r at) w w' closing why
     closing_cut at w w' why [] m more count all state fits refuses cause written = absurd (no_refusal sizes why m at (cc) refuses)
     closing_cut at w w' why (d ∷ []) m more count all state fits refuses cause written = absurd (no_refusal_closed sizes why m at (cc) refuses)
@@ -451,7 +453,7 @@ module _ (sizes : Sizes) (r' r : Rests) (s : State) where
   steps_rule ms' ms (Closing rest is e none makes) = ap steps e
   steps_rule ms' ms (Refused at line line' full e e' f f') = rw (e, e') refl
 
-  cut_rule : (ms' ms : List Move) → Extends sizes r' r s ms' ms → (at : State) (w w' : World) (why : Why) → Cut sizes s at w w' ms why → Cut sizes (extended r' s) (extended r at) w w' ms' why
+  cut_rule : (ms' ms : List Move) → Extends sizes r' r s ms' ms → (at : State) (w w' : World) (why : Broken) → Cut sizes s at w w' ms why → Cut sizes (extended r' s) (extended r at) w w' ms' why
   cut_rule ms' ms (Same same e h) at w w' why c =
       subst (λ (b : Rests). Cut sizes (extended b s) (extended r at) w w' ms' why) (sym same) (subst (λ (x : List Move). Cut sizes (extended r s) (extended r at) w w' x why) (sym e) (cut_agrees sizes r ms s at w w' why h c))
   cut_rule ms' ms (Closing rest is e none makes) at w w' why c =
@@ -576,7 +578,7 @@ module _ (sizes : Sizes) (s : State) (gone : List ℕ) (r : Rests) (reads : Read
   extended_steps = steps_rule sizes first r s (planned (extended first s) s.work) (planned s s.work) extends
 
   -- Its moves, cut off.
-  pub extended_cut : (at : State) (w w' : World) (why : Why) → Cut sizes s at w w' (planned s s.work) why → Cut sizes (extended first s) (extended r at) w w' (planned (extended first s) s.work) why
+  pub extended_cut : (at : State) (w w' : World) (why : Broken) → Cut sizes s at w w' (planned s s.work) why → Cut sizes (extended first s) (extended r at) w w' (planned (extended first s) s.work) why
   extended_cut = cut_rule sizes first r s (planned (extended first s) s.work) (planned s s.work) extends
 
   -- A step comes.
@@ -614,7 +616,7 @@ module _ (sizes : Sizes) (s : State) (r : Rests) (unopened : s.pending.next ≡ 
   pub unread_steps : steps (planned (extended r s) s.work) ≡ steps (planned s s.work)
   unread_steps = steps_rule sizes r r s (planned (extended r s) s.work) (planned s s.work) still_extends
 
-  pub unread_cut : (at : State) (w w' : World) (why : Why) → Cut sizes s at w w' (planned s s.work) why → Cut sizes (extended r s) (extended r at) w w' (planned (extended r s) s.work) why
+  pub unread_cut : (at : State) (w w' : World) (why : Broken) → Cut sizes s at w w' (planned s s.work) why → Cut sizes (extended r s) (extended r at) w w' (planned (extended r s) s.work) why
   unread_cut = cut_rule sizes r r s (planned (extended r s) s.work) (planned s s.work) still_extends
 
 -- MOVES THAT READ NO FILE
@@ -635,5 +637,5 @@ are_still (m ∷ ms) h = omega (arith, still_none m h.0, are_still ms h.1)
 pub moves_did : (sizes : Sizes) (s s' : State) (r : Rests) (ms : List Move) → AreStill ms → (w w' : World) → Did sizes s s' w w' ms → Did sizes (extended r s) (extended r s') w w' ms
 moves_did sizes s s' r ms still w w' d = still_did sizes r ms s s' w w' (are_still ms still) d
 
-pub moves_cut : (sizes : Sizes) (s at : State) (r : Rests) (ms : List Move) (why : Why) → AreStill ms → (w w' : World) → Cut sizes s at w w' ms why → Cut sizes (extended r s) (extended r at) w w' ms why
+pub moves_cut : (sizes : Sizes) (s at : State) (r : Rests) (ms : List Move) (why : Broken) → AreStill ms → (w w' : World) → Cut sizes s at w w' ms why → Cut sizes (extended r s) (extended r at) w w' ms why
 moves_cut sizes s at r ms why still w w' c = still_cut sizes r ms s at w w' why (are_still ms still) c

@@ -5,12 +5,14 @@ use Rattle.std.proofs.lemmas.List.{append-nil}
 use Rattle.tex_syntax.specs.declared.words.Outcome.{Outcome}
 use Rattle.tex_defs.specs.Places.{Place, File}
 use Rattle.tex_defs.specs.declared.Sizes.{Sizes}
+use Rattle.plain_machine.specs.declared.broken.Broken.{Broken}
+use Rattle.plain_machine.specs.declared.broken.Broken.TheVariants as broken
 use Rattle.plain_machine.specs.States.{State, Move, Handed, ListsEnded, made}
 use Rattle.plain_machine.specs.Demands.{refusal}
 use Rattle.plain_machine.specs.Plan.{Ends, Goes, next, plan}
 use Rattle.plain_machine.specs.Runs.{step_of, steps, after, changed, columns_after, column_changed, Moves, NeedsStep, made_all}
 use Rattle.plain_machine.specs.Bounded.{AllFit, FitMoves}
-use Rattle.plain_machine.specs.Does.{but_due, Why, IsFull, IsFault, IsWant, Refuses}
+use Rattle.plain_machine.specs.Does.{but_due, Refuses}
 
 -- RUNS
 
@@ -72,10 +74,10 @@ refusal_due sizes m s x = refl
 pub same_refusal : (sizes : Sizes) (m : Move) (s t : State) → but_due t ≡ but_due s → refusal sizes m t ≡ refusal sizes m s
 same_refusal sizes m s t e = sym (refusal_due sizes m t []) ∙ ap (refusal sizes m) e ∙ refusal_due sizes m s []
 
-pub refuses_due : (sizes : Sizes) (why : Why) (m : Move) (s t : State) → but_due t ≡ but_due s → Refuses sizes why m s → Refuses sizes why m t
-refuses_due sizes (IsFull full) m s t e h = same_refusal sizes m s t e ∙ h
-refuses_due sizes IsFault m s t e h = h
-refuses_due sizes IsWant m s t e h = h
+pub refuses_due : (sizes : Sizes) (why : Broken) (m : Move) (s t : State) → but_due t ≡ but_due s → Refuses sizes why m s → Refuses sizes why m t
+refuses_due sizes (broken.Full full) m s t e h = same_refusal sizes m s t e ∙ h
+refuses_due sizes broken.WriteFault m s t e h = h
+refuses_due sizes broken.Want m s t e h = h
 
 same_made : (m : Move) (s t : State) → but_due t ≡ but_due s → but_due (made m t) ≡ but_due (made m s)
 same_made m s t e = sym (made_due m t []) ∙ ap (made m) e ∙ made_due m s []

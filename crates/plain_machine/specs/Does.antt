@@ -1,8 +1,9 @@
 -- Some moves done, all of them or those before one that was cut off.
 use Rattle.std.specs.Prelude.{◌≡◌, ℕ, ◌+◌, ◌≤◌, List, [], ◌∷◌, ◌++◌, take, None, Some, ◌⊎◌}
 use Rattle.tex_defs.specs.Places.{World, Rose}
-use Rattle.tex_defs.specs.declared.Full.{Full}
 use Rattle.tex_defs.specs.declared.Sizes.{Sizes}
+use Rattle.plain_machine.specs.declared.broken.Broken.{Broken}
+use Rattle.plain_machine.specs.declared.broken.Broken.TheVariants as broken
 use Rattle.plain_machine.specs.States.{State, Move, Written, ListsEnded, Taken, FirstTaken, FileClosed, FileOpened}
 use Rattle.plain_machine.specs.Demands.{refusal}
 use Rattle.plain_machine.specs.Plan.{Goes, next, plan}
@@ -15,27 +16,22 @@ pub record Did (sizes : Sizes) (s s' : State) (w w' : World) (ms : List Move) : 
   pub fits : AllFit sizes ms s
   pub written : Wrote w w' ms
 
--- Why a move isn't made: a table is full, or a call on the outside failed, or wanted memory.
-pub data Why : Type 0 where
-  IsFull : Full → Why
-  IsFault : Why
-  IsWant : Why
-
 -- a move that calls the outside
 abbrev pub IsOutside : Move → Type 0
 IsOutside (Written p bs) = Unit {0}
 IsOutside m = ⊥
 
-abbrev pub Refuses : Sizes → Why → Move → State → Type 0
-Refuses sizes (IsFull full) m s = refusal sizes m s ≡ Some full
-Refuses sizes IsFault m s = IsOutside m
-Refuses sizes IsWant m s = IsOutside m
+-- this is why the move isn't made: a table is full, or a call on the outside failed, or wanted memory
+abbrev pub Refuses : Sizes → Broken → Move → State → Type 0
+Refuses sizes (broken.Full full) m s = refusal sizes m s ≡ Some full
+Refuses sizes broken.WriteFault m s = IsOutside m
+Refuses sizes broken.Want m s = IsOutside m
 
 -- a fault or a want comes only where its count rose
-abbrev pub IsCause : Why → World → World → Type 0
-IsCause (IsFull full) w w' = Unit {0}
-IsCause IsFault w w' = Rose w.file_faults w'.file_faults ⊎ Rose w.sink_faults w'.sink_faults
-IsCause IsWant w w' = Rose w.file_wants w'.file_wants ⊎ Rose w.sink_wants w'.sink_wants
+abbrev pub IsCause : Broken → World → World → Type 0
+IsCause (broken.Full full) w w' = Unit {0}
+IsCause broken.WriteFault w w' = Rose w.file_faults w'.file_faults ⊎ Rose w.sink_faults w'.sink_faults
+IsCause broken.Want w w' = Rose w.file_wants w'.file_wants ⊎ Rose w.sink_wants w'.sink_wants
 
 -- the first of what a move writes
 abbrev pub front_of : ℕ → Move → List Move
@@ -43,7 +39,7 @@ front_of n (Written p bs) = Written p (take n bs) ∷ []
 front_of n m = []
 
 -- The moves are cut off: the first of them are done and lead to s', and the next one isn't made, of which a front may be written.
-pub record Cut (sizes : Sizes) (s s' : State) (w w' : World) (ms : List Move) (why : Why) : Type 0 where
+pub record Cut (sizes : Sizes) (s s' : State) (w w' : World) (ms : List Move) (why : Broken) : Type 0 where
   pub done : List Move
   pub m : Move
   pub rest : List Move
@@ -61,7 +57,7 @@ but_due s = record s { due = [] }
 
 -- A moment t of the run from s within k steps, at which it was cut off before the move m. All before it is written, and of m at
 -- most a front of its text.
-pub record CutAt (sizes : Sizes) (s : State) (k : ℕ) (t : State) (w w' : World) (why : Why) : Type 0 where
+pub record CutAt (sizes : Sizes) (s : State) (k : ℕ) (t : State) (w w' : World) (why : Broken) : Type 0 where
   pub ms : List Move
   pub m : Move
   pub u : State

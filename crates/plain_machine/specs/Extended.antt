@@ -7,11 +7,12 @@ use Rattle.plain_tokens.specs.Pending.{Pending, Source, Progress, Begun, Closed,
 use Rattle.rows.specs.declared.command.Effect.TheVariants as effect
 use Rattle.rows.specs.Readings.{Ask, ActsOn}
 use Rattle.plain_readings.specs.Readings.{Reading, ask}
+use Rattle.plain_machine.specs.declared.broken.Broken.{Broken}
 use Rattle.plain_machine.specs.States.{State, Files, Move, Handed, Taken, FirstTaken, ListsEnded, Skipped, FileClosed, FileOpened, made}
 use Rattle.plain_machine.specs.Demands.{refusal}
 use Rattle.plain_machine.specs.Plan.{planned, ruled}
 use Rattle.plain_machine.specs.Runs.{steps}
-use Rattle.plain_machine.specs.Does.{Did, Cut, Why}
+use Rattle.plain_machine.specs.Does.{Did, Cut}
 
 -- What each open file has left behind the bytes that came, the innermost first, and what the openings to come find.
 pub record Rests : Type 0 where
@@ -132,12 +133,12 @@ pub record ExtensionIsFree : Type 0 where
       (s' : State) (w w' : World) → Did sizes s s' w w' (planned s s.work) →
       Did sizes (extended (rests_before gone (planned s s.work) r) s) (extended r s') w w' (planned (extended (rests_before gone (planned s s.work) r) s) s.work)
   pub cuts : (sizes : Sizes) (s : State) (gone : List ℕ) (r : Rests) → Reads sizes s gone r →
-      (at : State) (w w' : World) (why : Why) → Cut sizes s at w w' (planned s s.work) why →
+      (at : State) (w w' : World) (why : Broken) → Cut sizes s at w w' (planned s s.work) why →
       Cut sizes (extended (rests_before gone (planned s s.work) r) s) (extended r at) w w' (planned (extended (rests_before gone (planned s s.work) r) s) s.work) why
   pub steps : (sizes : Sizes) (s : State) (gone : List ℕ) (r : Rests) → Reads sizes s gone r →
       steps (planned (extended (rests_before gone (planned s s.work) r) s) s.work) ≡ steps (planned s s.work)
   pub moves : (sizes : Sizes) (s s' : State) (r : Rests) (ms : List Move) → AreStill ms → (w w' : World) → Did sizes s s' w w' ms → Did sizes (extended r s) (extended r s') w w' ms
-  pub cut_moves : (sizes : Sizes) (s at : State) (r : Rests) (ms : List Move) (why : Why) → AreStill ms → (w w' : World) → Cut sizes s at w w' ms why → Cut sizes (extended r s) (extended r at) w w' ms why
+  pub cut_moves : (sizes : Sizes) (s at : State) (r : Rests) (ms : List Move) (why : Broken) → AreStill ms → (w w' : World) → Cut sizes s at w w' ms why → Cut sizes (extended r s) (extended r at) w w' ms why
   pub opens : (s : State) (name : List ℕ) (r : Rests) → s.pending.next ≡ None →
       made (FileOpened name) (extended (rests_before_opening name true r) s) ≡ extended r (record s { pending = with_next (Some []) s.pending })
   pub opens_none : (s : State) (name : List ℕ) (r : Rests) → s.pending.next ≡ None → made (FileOpened name) (extended (rests_before_opening name false r) s) ≡ extended r s
@@ -145,4 +146,4 @@ pub record ExtensionIsFree : Type 0 where
   pub begins : (sizes : Sizes) (s : State) (bytes : List ℕ) (r : Rests) → s.pending.next ≡ Some bytes → IsFirstReady sizes.buffer_size bytes (first_left r.left) →
       (s' : State) (w w' : World) → Did sizes s s' w w' (ruled s (Some bytes)) → Did sizes (extended r s) (extended r s') w w' (ruled (extended r s) (Some (bytes ++ first_left r.left)))
   pub begins_cut : (sizes : Sizes) (s : State) (bytes : List ℕ) (r : Rests) → s.pending.next ≡ Some bytes → IsFirstReady sizes.buffer_size bytes (first_left r.left) →
-      (at : State) (w w' : World) (why : Why) → Cut sizes s at w w' (ruled s (Some bytes)) why → Cut sizes (extended r s) (extended r at) w w' (ruled (extended r s) (Some (bytes ++ first_left r.left))) why
+      (at : State) (w w' : World) (why : Broken) → Cut sizes s at w w' (ruled s (Some bytes)) why → Cut sizes (extended r s) (extended r at) w w' (ruled (extended r s) (Some (bytes ++ first_left r.left))) why

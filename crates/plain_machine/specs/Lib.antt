@@ -5,6 +5,7 @@ pub mod Runs
 pub mod Weights
 pub mod Bounded
 pub mod Does
+pub mod Faults
 pub mod Extended
 pub mod Meaning
 pub mod Skips

@@ -8,12 +8,14 @@ use Rattle.tex_defs.specs.declared.Sizes.{Sizes}
 use Rattle.tex_defs.specs.Sizes.{table_name, default_sizes}
 use Rattle.tex_defs.specs.Places.{World, Rose, Transcript, File, Untold, NotHeld, Holds}
 use Rattle.equivalents.specs.Groups.{first_groups}
+use Rattle.plain_machine.specs.declared.broken.Broken.{Broken}
+use Rattle.plain_machine.specs.declared.broken.Broken.TheVariants as broken
 use Rattle.plain_machine.specs.States.{State, Files, Move, Kept, Written}
 use Rattle.plain_state.specs.Reports.{fresh_line}
 use Rattle.plain_machine.specs.Plan.{first_state, is_known}
 use Rattle.plain_machine.specs.Runs.{Wrote}
 use Rattle.plain_machine.specs.Bounded.{FitMoves, Bounded, End, AtEnd, AtSteps, AtFull}
-use Rattle.plain_machine.specs.Does.{Why, IsFull, IsFault, IsWant, CutAt, ReadAt}
+use Rattle.plain_machine.specs.Does.{CutAt, ReadAt}
 use Rattle.command_words.specs.Words.{Command, Options, Init, NoCommand}
 
 -- THE STOP LINES
@@ -85,21 +87,21 @@ pub record OutOfRoom (sizes : Sizes) (s : State) (n : ℕ) (w w' : World) : Type
   pub stops : Stops sizes s n w w' (AtFull full) (full_line full)
 
 -- A moment of the run is written, of its next move at most a front in that one place, and then a stop line.
-pub record CutShort (sizes : Sizes) (s : State) (n : ℕ) (w w' : World) (why : Why) (line : List ℕ) : Type 0 where
+pub record CutShort (sizes : Sizes) (s : State) (n : ℕ) (w w' : World) (why : Broken) (line : List ℕ) : Type 0 where
   pub t : State
   pub between : World
   pub cut : CutAt sizes s n t w between why
   pub last : Line between w' line
 
 -- Bytes of a file don't come, and it can't be opened, only where the count of failed reads, or of wants, rose.
-abbrev pub IsReadCause : Why → World → World → Type 0
-IsReadCause (IsFull full) w w' = ⊥
-IsReadCause IsFault w w' = Rose w.read_faults w'.read_faults
-IsReadCause IsWant w w' = Rose w.file_wants w'.file_wants
+abbrev pub IsReadCause : Broken → World → World → Type 0
+IsReadCause (broken.Full full) w w' = ⊥
+IsReadCause broken.WriteFault w w' = Rose w.read_faults w'.read_faults
+IsReadCause broken.Want w w' = Rose w.file_wants w'.file_wants
 
 -- A moment of the run is written at which a file's next bytes are needed and don't come, or a file can't be opened, for a cause, and then a
 -- stop line. How much of a file came isn't told, so neither is which of these moments it is.
-pub record Unread (sizes : Sizes) (s : State) (n : ℕ) (w w' : World) (why : Why) (line : List ℕ) : Type 0 where
+pub record Unread (sizes : Sizes) (s : State) (n : ℕ) (w w' : World) (why : Broken) (line : List ℕ) : Type 0 where
   pub t : State
   pub between : World
   pub read : ReadAt sizes s n t w between
@@ -141,9 +143,9 @@ Says sizes s n w w' _ IsFlawed = Ending sizes s n w w' true
 Says sizes s n w w' _ IsFatal = Fails sizes s n w w'
 Says sizes s n w w' _ IsFullTable = OutOfRoom sizes s n w w'
 Says sizes s n w w' _ IsSteps = Stops sizes s n w w' AtSteps (steps_line n)
-Says sizes s n w w' _ IsReadFault = Unread sizes s n w w' IsFault read_fault_line ⊎ Unopened sizes s w w'
-Says sizes s n w w' _ IsWriteFault = CutShort sizes s n w w' IsFault write_fault_line
-Says sizes s n w w' _ IsNoMemory = CutShort sizes s n w w' IsWant no_memory_line ⊎ (Unread sizes s n w w' IsWant no_memory_line ⊎ NotBegun w w')
+Says sizes s n w w' _ IsReadFault = Unread sizes s n w w' broken.WriteFault read_fault_line ⊎ Unopened sizes s w w'
+Says sizes s n w w' _ IsWriteFault = CutShort sizes s n w w' broken.WriteFault write_fault_line
+Says sizes s n w w' _ IsNoMemory = CutShort sizes s n w w' broken.Want no_memory_line ⊎ (Unread sizes s n w w' broken.Want no_memory_line ⊎ NotBegun w w')
 
 -- what is told of a file may be this
 abbrev pub IsHeldAs : File → Option (List ℕ) → Type 0

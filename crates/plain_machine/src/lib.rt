@@ -1,7 +1,9 @@
 //! The plain machine: its next move, its runs, and what the program means by them.
 //!
-//! Everything here is definition. The functions have no bodies: their contracts are laws.
+//! Everything here is definition. The functions have no bodies: their contracts are laws. The type [`Broken`] is for the code, too.
 #![tactic(auto)]
+
+mod broken;
 
 ghost use Rattle.std.specs.Prelude.{codes, true, false, ◌++◌, ◌∷◌, [], replicate};
 ghost use Rattle.std.specs.List.{concat};
@@ -15,6 +17,8 @@ ghost use Rattle.plain_machine.specs.Extended.{ExtensionIsFree};
 ghost use Rattle.plain_machine.specs.Runs.{RunsAreOne, EachHasRun, SumsOfSteps, LinesAreCounted};
 ghost use Rattle.plain_machine.specs.Skips.{SkippedTextsAreCounted};
 ghost use Rattle.plain_machine.specs.Bounded.{BoundedRunsAreOne, EachHasBounded, BoundedIsFront};
+
+pub use broken::Broken;
 
 /// Two runs of one state with one bound are equal: their moves, and the state to which they lead.
 pub fn runs_are_one()

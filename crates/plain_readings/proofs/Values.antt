@@ -5,10 +5,9 @@ use Rattle.plain_tokens.specs.Arguments as call
 use Rattle.plain_state.specs.Definitions as build
 use Rattle.tex_syntax.specs.declared.words.Want.TheVariants.{Nonblank}
 use Rattle.rows.specs.declared.words.Phrase.TheVariants.{Command, Integer, Factor, Dimension, Glue, Keyword, Text, Definition}
-use Rattle.rows.specs.Laws.{IsValueless}
 use Rattle.rows.specs.Readings.{Fed}
+use Rattle.rows.specs.Commands.{CommandAsk, More, Inner, Acts, ActsOn, Defines, Ends, Tells, Inserts, Relaxes, command_ask}
 use Rattle.rows.specs.Run.{row}
-use Rattle.rows.proofs.Commands.{valueless}
 use Rattle.plain_readings.specs.Integers.{integer, number_ask}
 use Rattle.plain_readings.specs.Dimens as dimens
 use Rattle.plain_readings.specs.Glues as glues
@@ -20,7 +19,7 @@ use Rattle.plain_readings.specs.Spelling.{spelling}
 use Rattle.plain_readings.specs.FileNames.{file_naming}
 use Rattle.plain_readings.specs.Skips.{skipping}
 use Rattle.plain_readings.specs.Readings.{Kind, Reads, Spelling, FileName, Behind, Skips, Arguments, ask, lists}
-use Rattle.plain_readings.specs.Laws.{GivesValue, EndsAs}
+use Rattle.plain_readings.specs.Laws.{GivesValue, IsValueless, EndsAs}
 use Rattle.plain_readings.proofs.Full.{EndsFull, parameters_full}
 use Rattle.plain_readings.proofs.Steps.{integer_holds}
 use Rattle.plain_readings.proofs.Keywords.{keyword_holds}
@@ -36,6 +35,18 @@ definition_value : (name : Name) (expanded : Bool) (a : build.Answer) → EndsFu
 definition_value name expanded (build.More want list) full = tt
 definition_value name expanded (build.Tells report back list) full = tt
 definition_value name expanded (build.Done list) full = full
+
+-- what no command asks for, by the type of what it asks for
+valueless : (a : CommandAsk) → IsValueless (command_ask a)
+valueless (More want) = tt
+valueless (Inner k begins) = tt
+valueless (Acts c e) = tt
+valueless (ActsOn c e ts) = tt
+valueless (Defines c n ts) = tt
+valueless Ends = tt
+valueless (Tells report back) = tt
+valueless (Inserts t report back) = tt
+valueless (Relaxes c n) = tt
 
 call_valueless : (name : Name) (a : call.Answer) → IsValueless (call_ask name a)
 call_valueless name (call.Ended true args work) = tt

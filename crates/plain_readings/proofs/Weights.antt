@@ -20,7 +20,6 @@ use Rattle.rows.specs.declared.command.Call.{Call}
 use Rattle.rows.specs.declared.command.Effect.{Effect}
 use Rattle.rows.specs.declared.command.Effect.TheVariants.{ExpandBehind}
 use Rattle.rows.specs.Readings.{Fed, Tok, Val, Noted, Fetched, Ask, More, Inner, Acts, ActsOn, Defines, Ends, Calls, Fails, RunsAway, Tells, Inserts, Puts, Relaxes, Fetches, Magnifies}
-use Rattle.rows.specs.Laws.{IsValueless}
 use Rattle.plain_readings.specs.Readings.{Kind, Reads, Spelling, FileName, Behind, Skips, Arguments, ask, lists}
 use Rattle.plain_readings.specs.Lists.{build_ask, text, definition}
 use Rattle.plain_readings.specs.Dimens as dimens
@@ -32,7 +31,7 @@ use Rattle.plain_readings.specs.declared.asks.GlueAsk.{GlueAsk}
 use Rattle.plain_readings.specs.declared.asks.GlueAsk.TheVariants as glue_asks
 use Rattle.plain_readings.specs.declared.asks.GlueInner.TheVariants as glue_inners
 use Rattle.plain_readings.specs.Measures.{dimen_fed, dimen_ask, glue_fed, glue_ask}
-use Rattle.plain_readings.specs.Laws.{IsRead, rank, Starts, Lends, GivesValue, IsSingle}
+use Rattle.plain_readings.specs.Laws.{IsRead, rank, Starts, Lends, GivesValue, IsValueless, IsSingle}
 use Rattle.plain_readings.specs.Weights.{value_frame, act_frame, frame_weight, value_weight, act_weight, behind_weight, effect_weight, end_weight, fetching_behind, begins_with, ask_weight, weight, IsNoted, IsLast}
 use Rattle.plain_readings.proofs.IntegerWeights.{Wants, integer_falls, integer_light}
 use Rattle.plain_readings.proofs.Factors.{factor_weighs, factor_falls}

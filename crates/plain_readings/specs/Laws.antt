@@ -16,7 +16,6 @@ use Rattle.rows.specs.declared.words.Phrase.{Phrase}
 use Rattle.rows.specs.declared.words.Phrase.TheVariants.{Command, Integer, Factor, Dimension, Glue, Keyword, Text, Definition}
 use Rattle.rows.specs.declared.command.Call.{Call}
 use Rattle.rows.specs.declared.command.Effect.TheVariants.{Reach, StartInput}
-use Rattle.rows.specs.Laws.{IsValueless}
 use Rattle.rows.specs.Readings.{Fed, Tok, Noted, Verbatim, Ask, More, Inner, Done, Acts, ActsOn, Defines, Ends, Calls, Fails, RunsAway, Tells, Inserts, Puts, Fetches, Magnifies}
 use Rattle.plain_readings.specs.Readings.{Kind, Reads, Spelling, FileName, Behind, Skips, ask, lists}
 
@@ -133,6 +132,14 @@ GivesValue (Glue mu) held (Inner j begins) = rank (Reads j) < rank (Reads (Glue 
 GivesValue (Glue mu) held (Fetches l) = Unit {0}
 GivesValue (Keyword w) held (Puts t more) = more ≤ 4
 GivesValue k held a = ⊥
+
+-- it ends without one, asks neither for what stands at a location nor for the magnification, and puts no token back by itself
+abbrev pub IsValueless : Ask → Type 0
+IsValueless (Done v back) = ⊥
+IsValueless (Fetches l) = ⊥
+IsValueless Magnifies = ⊥
+IsValueless (Puts t more) = ⊥
+IsValueless a = Unit {0}
 
 abbrev pub EndsAs : Kind → List (List Token) → Ask → Type 0
 EndsAs (Reads (Command c)) held a = IsValueless a

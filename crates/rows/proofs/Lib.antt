@@ -3,4 +3,3 @@ pub mod Runs
 pub mod Bodies
 pub mod Suiting
 pub mod Bounds
-pub mod Commands

@@ -3,7 +3,7 @@ use Rattle.std.specs.Prelude.{ℕ, ◌<◌, ◌≡◌, ◌≢◌, Bool, true, fa
 use Rattle.rows.specs.declared.words.Phrase.{Phrase}
 use Rattle.rows.specs.declared.words.Phrase.TheVariants.{Command, Definition}
 use Rattle.rows.specs.declared.command.Call.{Call}
-use Rattle.rows.specs.Readings.{Fed, Val, Noted, Ask, More, Inner, Done, Defines, Tells, Inserts, Puts, Fetches, Magnifies}
+use Rattle.rows.specs.Readings.{Fed, Val, Noted, Ask, More, Inner, Defines, Tells, Inserts}
 use Rattle.rows.specs.Commands.{command_ask}
 use Rattle.rows.specs.Suiting.{AsksSuited}
 use Rattle.rows.specs.Run.{row}
@@ -28,17 +28,6 @@ BeginsLower n a = Unit {0}
 
 abbrev pub ReadingsBeginLower : Type 0
 ReadingsBeginLower = (c : Call) (fed : List Fed) → BeginsLower (rank (Command c)) (command_ask (row c fed))
-
--- A COMMAND HAS NO VALUE, asks neither for what stands at a location nor for the magnification, and puts no token back by itself
-abbrev pub IsValueless : Ask → Type 0
-IsValueless (Done v back) = ⊥
-IsValueless (Fetches l) = ⊥
-IsValueless Magnifies = ⊥
-IsValueless (Puts t more) = ⊥
-IsValueless a = Unit {0}
-
-abbrev pub RowsHaveNoValue : Type 0
-RowsHaveNoValue = (c : Call) (fed : List Fed) → IsValueless (command_ask (row c fed))
 
 -- NOTES: a report comes only where none was the last.
 abbrev pub is_noted : Bool → List Fed → Bool

@@ -1,5 +1,7 @@
 -- What a command does suits the locations that it uses: a value may stand where it is set, and what is used is there.
 use Rattle.std.specs.Prelude.{◌≡◌, ◌<◌, ℤ, Bool, true, false}
+use Rattle.prim_table.specs.declared.Class.TheVariants as class
+use Rattle.prim_table.specs.Primitives.{row_size}
 use Rattle.equivalents.specs.declared.values.Glue.{Glue}
 use Rattle.equivalents.specs.declared.values.Loc.{Loc}
 use Rattle.equivalents.specs.declared.values.Loc.TheVariants as loc
@@ -12,10 +14,10 @@ use Rattle.rows.specs.Readings.{Ask, Acts, ActsOn}
 
 -- a location that is there, and no name's: each byte is the number of a register and of a character
 abbrev pub IsThere : Loc → Type 0
-IsThere (loc.Integer i) = i < 55
-IsThere (loc.Dimension i) = i < 21
-IsThere (loc.Glue i) = i < 18
-IsThere (loc.Tokens i) = i < 8
+IsThere (loc.Integer i) = i < row_size class.IntegerParameter
+IsThere (loc.Dimension i) = i < row_size class.DimensionParameter
+IsThere (loc.Glue i) = i < row_size class.GlueParameter
+IsThere (loc.Tokens i) = i < row_size class.TokenParameter
 IsThere (loc.Means n) = ⊥
 IsThere l = Unit {0}
 

@@ -48,7 +48,8 @@ has_row_in (Some row) = true
 abbrev pub has_row : Head → Bool
 has_row h = has_row_in (find_row h)
 
--- a command that has no row, which is never begun, counts as one that reads a token
+-- A command that has no row counts as one that reads a token. `\jobname` and the conditionals whose test reads nothing have none and begin: they end at
+-- once, before they are asked for anything.
 abbrev pub row_or_token : Option (Row × Action) → Row × Action
 row_or_token None = (One AnyToken, action.Nothing)
 row_or_token (Some row) = row

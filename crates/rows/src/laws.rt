@@ -1,6 +1,6 @@
 // Laws of the readings: the functions have no bodies, their contracts are the laws.
 ghost use Rattle.rows.specs.Worked.{WorkedRows};
-ghost use Rattle.rows.specs.Laws.{ReadingsStart, ReadingsBeginLower, RowsHaveNoValue, NotesAreSingle, MacrosHaveBodies, EffectsSuit};
+ghost use Rattle.rows.specs.Laws.{ReadingsStart, ReadingsBeginLower, NotesAreSingle, MacrosHaveBodies, EffectsSuit};
 
 /// A command that was fed with nothing asks for a token or begins another reading.
 pub fn readings_start()
@@ -10,11 +10,6 @@ pub fn readings_start()
 /// A command begins only readings of a lower rank.
 pub fn readings_begin_lower()
     ensures { ReadingsBeginLower }
-{}
-
-/// A command never ends with a value.
-pub fn rows_have_no_value()
-    ensures { RowsHaveNoValue }
 {}
 
 /// Behind a report none comes before something else was read.

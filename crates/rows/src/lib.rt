@@ -25,7 +25,7 @@ pub use internal::{
 };
 pub use laws::{
     effects_suit, macros_have_bodies, notes_are_single, readings_begin_lower, readings_start,
-    rows_have_no_value, worked_rows,
+    worked_rows,
 };
 pub use stage::{Complaint, Got, Met, Next, Note, Stage, Start};
 pub use words::{Datum, DimenKind, Keyword, Phrase, Relation, Value};

@@ -1,4 +1,4 @@
--- What the words of the scanner of a dimension stand for, and the ranges of what it keeps.
+-- What a dimension may answer with (`DimenAsk`), and what its scanner keeps at a place, with the ranges of these.
 use Rattle.std.specs.Prelude.{ℕ, ℤ, pos, ◌≤◌, ◌<◌, List, take, Option, Some, None, nat_abs}
 use Rattle.equivalents.specs.declared.values.Loc.{Loc}
 use Rattle.equivalents.specs.declared.values.Loc.TheVariants as loc

@@ -1,4 +1,4 @@
--- What the words of the scanner of glue stand for, and the ranges of what it keeps.
+-- What glue may answer with (`GlueAsk`), and what its scanner keeps at a place.
 use Rattle.std.specs.Prelude.{◌≤◌, true, false}
 use Rattle.equivalents.specs.declared.values.Glue.{Glue}
 use Rattle.equivalents.specs.declared.values.Loc.{Loc}

@@ -1,4 +1,4 @@
--- What the words of the scanner of the integer before a fraction stand for, and what it keeps.
+-- What the integer before a fraction may answer with (`FactorAsk`), and what its scanner keeps.
 use Rattle.std.specs.Prelude.{◌≡◌, Bool, false, List, Option, Some, None}
 use Rattle.rows.specs.Internal.{IsFetchable}
 use Rattle.rows.specs.Readings as reading

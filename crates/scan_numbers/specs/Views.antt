@@ -1,4 +1,4 @@
--- What the scanner's words stand for, and the range of its values.
+-- What an integer may answer with (`NumberAsk`), and what its scanner keeps at a place.
 use Rattle.std.specs.Prelude.{ℕ, ℤ, pos, negsuc, ◌≤ℤ◌}
 use Rattle.equivalents.specs.declared.values.Loc.{Loc}
 use Rattle.equivalents.specs.declared.values.Loc.TheVariants as loc

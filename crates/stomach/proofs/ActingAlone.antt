@@ -23,6 +23,8 @@ use Rattle.rows.specs.declared.command.Call.{Call}
 use Rattle.rows.specs.declared.command.Shorthand.{Shorthand}
 use Rattle.rows.specs.declared.command.Effect.{Effect}
 use Rattle.rows.specs.declared.command.Effect.TheVariants as effect
+use Rattle.plain_machine.specs.declared.broken.Broken.{Broken}
+use Rattle.plain_machine.specs.declared.broken.Broken.TheVariants as broken
 use Rattle.plain_machine.specs.States.{State, Move, Set}
 use Rattle.plain_machine.specs.Plan.{Page, behind_assignment}
 use Rattle.plain_machine.specs.Does.{Did}
@@ -32,8 +34,6 @@ use Rattle.plain_machine.proofs.GroupNumbers.{set_of, set_demands_of}
 use Rattle.plain_machine.proofs.Holders.{set_cases}
 use Rattle.world_io.specs.Contents.{FilesTold, SinkTold, world}
 use Rattle.input_state.specs.Stored.{Stored, KeepsShared}
-use Rattle.engine_state.specs.declared.broken.Broken.{Broken}
-use Rattle.engine_state.specs.declared.broken.Broken.TheVariants as broken
 use Rattle.engine_state.specs.declared.engine.Engine.{Engine}
 use Rattle.engine_state.specs.Book.{Book}
 use Rattle.engine_state.specs.Making.{IsInFront}

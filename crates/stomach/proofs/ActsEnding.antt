@@ -32,6 +32,8 @@ use Rattle.reading_frames.specs.Resumes.{resume}
 use Rattle.reading_frames.specs.Stack.{asks_in}
 use Rattle.reading_frames.specs.Frames as frames
 use Rattle.reading_frames.specs.declared.frame.Frame.{Frame}
+use Rattle.plain_machine.specs.declared.broken.Broken.{Broken}
+use Rattle.plain_machine.specs.declared.broken.Broken.TheVariants as broken
 use Rattle.plain_machine.specs.States.{State, Move, Closed, Begun, Reported, Written, made}
 use Rattle.plain_machine.specs.Demands.{refusal}
 use Rattle.plain_machine.specs.Plan as plan
@@ -40,8 +42,6 @@ use Rattle.plain_machine.specs.Runs.{steps}
 use Rattle.plain_machine.specs.Does.{Did}
 use Rattle.plain_machine.proofs.Doing.{did_join, did_one}
 use Rattle.plain_machine.proofs.Pulls.{acts_none}
-use Rattle.engine_state.specs.declared.broken.Broken.{Broken}
-use Rattle.engine_state.specs.declared.broken.Broken.TheVariants as broken
 use Rattle.engine_state.specs.declared.engine.Engine.{Engine}
 use Rattle.gullet.specs.declared.expansion.Once.{Once}
 use Rattle.gullet.specs.declared.expansion.Once.TheVariants as once

@@ -16,6 +16,8 @@ use Rattle.plain_tokens.specs.Tables.{refused}
 use Rattle.equivalents.specs.Groups.{Groups, placed, placed_demands, place_of, set_placed, set_name, name_demands}
 use Rattle.equivalents.specs.Holding.{list_of, lists_held}
 use Rattle.meanings.specs.Kept.{IsPlaced, without_list}
+use Rattle.plain_machine.specs.declared.broken.Broken.{Broken}
+use Rattle.plain_machine.specs.declared.broken.Broken.TheVariants as broken
 use Rattle.plain_machine.specs.States.{Move, Assigned}
 use Rattle.plain_machine.specs.Plan.{Page, put_one}
 use Rattle.plain_machine.specs.Numbers.{groups_of, meaning_of, meanings_of}
@@ -26,8 +28,6 @@ use Rattle.plain_machine.proofs.Renumbering.{meaning_to_let_of}
 use Rattle.plain_machine.proofs.Holders.{name_cases}
 use Rattle.plain_machine.proofs.Ties.{given_meant, name_held}
 use Rattle.input_state.specs.Stored.{Stored, KeepsShared}
-use Rattle.engine_state.specs.declared.broken.Broken.{Broken}
-use Rattle.engine_state.specs.declared.broken.Broken.TheVariants as broken
 use Rattle.engine_state.specs.declared.engine.Engine.{Engine}
 use Rattle.engine_state.specs.Book.{Book}
 use Rattle.engine_state.specs.Rules.{Cuts}

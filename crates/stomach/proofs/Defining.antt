@@ -20,6 +20,7 @@ use Rattle.reading_frames.specs.Views.{top_list}
 use Rattle.reading_frames.specs.Stack.{Stack, innermost_count, lists_beneath}
 use Rattle.reading_frames.specs.Frames as frames
 use Rattle.reading_frames.specs.Frames.{AreShallow}
+use Rattle.plain_machine.specs.declared.broken.Broken.TheVariants as broken
 use Rattle.plain_machine.specs.States.{State, Closed, Defined, made}
 use Rattle.plain_machine.specs.Plan.{Page, is_global, macro_defined, behind_assignment}
 use Rattle.plain_machine.proofs.Doing.{did_one}
@@ -30,7 +31,6 @@ use Rattle.meanings.specs.Kept.{IsPlaced}
 use Rattle.input_state.specs.Calls.{Defines}
 use Rattle.input_state.specs.HeldLists as held
 use Rattle.input_state.specs.Stored.{Stored, KeepsShared}
-use Rattle.engine_state.specs.declared.broken.Broken.TheVariants as broken
 use Rattle.engine_state.specs.declared.engine.Engine.{Engine}
 use Rattle.engine_state.specs.Book.{Book, with_work}
 use Rattle.engine_state.specs.CutReadings.{CutsIn}

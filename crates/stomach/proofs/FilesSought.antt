@@ -18,6 +18,7 @@ use Rattle.reading_frames.specs.Stack.{asks_in}
 use Rattle.reading_frames.specs.Weights.{frames_weight, innermost_weight, stack_weight}
 use Rattle.plain_readings.specs.Weights.{act_frame, act_weight}
 use Rattle.stomach.proofs.RuleCloses.{closed_lighter_behind}
+use Rattle.plain_machine.specs.declared.broken.Broken.{Broken}
 use Rattle.plain_machine.specs.States.{Move, Spelt, Closed, NameInProgress, ListsEnded, made}
 use Rattle.plain_machine.specs.Plan.{given_back}
 use Rattle.plain_machine.specs.Does.{Did}
@@ -25,7 +26,6 @@ use Rattle.plain_machine.proofs.Doing.{did_join, did_one}
 use Rattle.plain_machine.proofs.Renumbering.{settle_of}
 use Rattle.input_state.specs.Stored.{Stored, KeepsShared, spelt}
 use Rattle.input_state.specs.Callings.{NotCalling, Calling, call_in}
-use Rattle.engine_state.specs.declared.broken.Broken.{Broken}
 use Rattle.engine_state.specs.declared.engine.Engine.{Engine}
 use Rattle.engine_state.specs.Book.{Book, with_work}
 use Rattle.engine_state.specs.CutReadings.{CutsIn}

@@ -18,6 +18,7 @@ use Rattle.plain_readings.specs.Weights.{act_frame, act_weight}
 use Rattle.reading_frames.specs.Stack.{asks_in}
 use Rattle.reading_frames.specs.Weights.{frames_weight, innermost_weight, IsEnd}
 use Rattle.reading_frames.proofs.Rules.{ends_frame, ends_heavy}
+use Rattle.plain_machine.specs.declared.broken.Broken.{Broken}
 use Rattle.plain_machine.specs.States.{State, Move, Begun, Closed, ConditionClosed, Reported, Written, made}
 use Rattle.plain_machine.specs.Plan.{Page, ended_by, reached, skips, style_of}
 use Rattle.plain_machine.specs.Runs.{steps}
@@ -26,7 +27,6 @@ use Rattle.plain_machine.proofs.Doing.{did_none, did_one}
 use Rattle.world_io.specs.Contents.{FilesTold, SinkTold}
 use Rattle.input_state.specs.Stored.{Stored}
 use Rattle.input_state.specs.Callings.{NotCalling}
-use Rattle.engine_state.specs.declared.broken.Broken.{Broken}
 use Rattle.engine_state.specs.declared.engine.Engine.{Engine}
 use Rattle.engine_state.specs.Book.{Book, with_work}
 use Rattle.engine_state.specs.CutReadings.{CutsIn}

@@ -6,6 +6,7 @@ use Rattle.save_stack.specs.declared.GroupKind.TheVariants.{Simple}
 use Rattle.tex_defs.specs.declared.Sizes.{Sizes}
 use Rattle.tex_defs.specs.declared.Token.{Token}
 use Rattle.tex_defs.specs.Places.{World}
+use Rattle.plain_machine.specs.declared.broken.Broken.{Broken}
 use Rattle.plain_machine.specs.States.{State, Move}
 use Rattle.plain_machine.specs.Plan.{Page, put_one, put_each, group_ended, right_brace, endgroup_met, reported}
 use Rattle.plain_machine.specs.Runs.{steps}
@@ -13,7 +14,6 @@ use Rattle.plain_machine.specs.Does.{Did}
 use Rattle.plain_machine.proofs.Doing.{did_join}
 use Rattle.plain_machine.proofs.Joins.{steps_join}
 use Rattle.world_io.specs.Contents.{FilesTold, SinkTold, world}
-use Rattle.engine_state.specs.declared.broken.Broken.{Broken}
 use Rattle.engine_state.specs.declared.engine.Engine.{Engine}
 use Rattle.engine_state.specs.declared.outcome.Ruled.{Ruled}
 use Rattle.engine_state.specs.Book.{Book}

@@ -16,12 +16,13 @@ use Rattle.reading_frames.specs.Stack.{asks_in}
 use Rattle.reading_frames.specs.Frames as frames
 use Rattle.reading_frames.specs.Frames.{OpenCall}
 use Rattle.reading_frames.specs.declared.frame.Frame.{Frame}
+use Rattle.plain_machine.specs.declared.broken.Broken.{Broken}
 use Rattle.plain_machine.specs.States.{State, Move}
 use Rattle.plain_machine.specs.Plan.{Page, expansion, expanded, expanded_as, command}
-use Rattle.engine_state.specs.declared.broken.Broken.{Broken}
 use Rattle.input_state.specs.Callings.{Calling, NotCalling, Gathering, Stopped, Gathered, call_in}
 use Rattle.macro_call.specs.PlainScans.{resume_scan}
 use Rattle.plain_tokens.specs.Arguments.{Called}
+use Rattle.plain_tokens.specs.Meanings.{is_expandable}
 use Rattle.engine_state.specs.Calls.{AllStand, ended_answer, open_call_of}
 use Rattle.engine_state.specs.declared.engine.Engine.{Engine}
 use Rattle.engine_state.specs.declared.outcome.Next.{Next}
@@ -30,7 +31,7 @@ use Rattle.engine_state.specs.declared.outcome.Ruled.TheVariants.{Step, Free, Ha
 use Rattle.engine_state.specs.Book.{Book, with_work}
 use Rattle.engine_state.specs.Stands.{state_of, page_of}
 use Rattle.engine_state.specs.Steps.{IsFree, IsHalted, NextStepsIf, StepsIf, asked_by, asks_now}
-use Rattle.gullet.specs.Stepping.{Stays, expands}
+use Rattle.gullet.specs.Stepping.{Stays}
 use Rattle.engine_state.specs.Rules.{onward_of, feeds_of, Takes, Comes, DoesRule, DoesOnward}
 use Rattle.engine_state.proofs.Coming.{comes_went, comes_halts}
 use Rattle.gullet.proofs.Stepping.{no}
@@ -38,7 +39,7 @@ use Rattle.stomach.specs.Obeying.{is_dropped}
 
 -- A TOKEN THAT STAYS
 
-unexpanded_as : (page : Page) (t : Token) (m : Meaning Unit) (moves : List Move) → expands m ≡ false → expanded_as page t m moves ≡ moves
+unexpanded_as : (page : Page) (t : Token) (m : Meaning Unit) (moves : List Move) → is_expandable m ≡ false → expanded_as page t m moves ≡ moves
 unexpanded_as page t means.Undefined moves is = no (sym is)
 unexpanded_as page t (means.Macro long outer list) moves is = no (sym is)
 unexpanded_as page t (means.Prim n) moves is = ap (λ (b : Bool). if b then expansion page t n else moves) is
@@ -49,7 +50,7 @@ unexpanded_as page t (means.MathGiven n) moves is = refl
 unexpanded_as page t (means.Register r n) moves is = refl
 
 module _ (page : Page) (work : List Reading) (x : Seen) where
-  unexpanded : (moves : List Move) → expands x.meaning ≡ false → expanded page x moves ≡ moves
+  unexpanded : (moves : List Move) → is_expandable x.meaning ≡ false → expanded page x moves ≡ moves
   unexpanded moves is = unexpanded_as page x.token x.meaning moves is
 
   -- where no reading is open it is obeyed

@@ -21,13 +21,13 @@ use Rattle.reading_frames.specs.Weights.{frames_weight, opening_frame, innermost
 use Rattle.reading_frames.specs.declared.ask.Opening.TheVariants as opening
 use Rattle.reading_frames.specs.declared.frame.Frame.{Frame}
 use Rattle.reading_frames.proofs.Rules.{falls}
+use Rattle.plain_machine.specs.declared.broken.Broken.TheVariants as broken
 use Rattle.plain_machine.specs.States.{Begun as BegunMove, BegunWith, Ended, made}
 use Rattle.plain_machine.specs.Demands.{refusal}
 use Rattle.plain_machine.specs.Does.{Did}
 use Rattle.plain_machine.specs.Plan.{inner_begun, given_back, done, value_tokens}
 use Rattle.plain_machine.proofs.Doing.{did_join, did_one}
 use Rattle.plain_machine.proofs.Joins.{steps_join}
-use Rattle.engine_state.specs.declared.broken.Broken.TheVariants as broken
 use Rattle.engine_state.specs.declared.engine.Engine.{Engine}
 use Rattle.engine_state.specs.Book.{Book, with_work}
 use Rattle.engine_state.specs.CutReadings.{CutsIn}

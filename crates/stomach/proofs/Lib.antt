@@ -32,6 +32,8 @@ pub mod FilesFound
 pub mod Known
 pub mod Knowing
 pub mod OneRule
+pub mod Wanted
+pub mod AtHand
 pub mod Opening
 pub mod Magnifying
 pub mod Lighter

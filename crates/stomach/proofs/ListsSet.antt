@@ -26,6 +26,8 @@ use Rattle.reading_frames.specs.Stack.{Stack, innermost_count, lists_beneath, as
 use Rattle.reading_frames.specs.Frames as frames
 use Rattle.reading_frames.specs.Frames.{AreShallow}
 use Rattle.reading_frames.specs.Weights.{stack_weight}
+use Rattle.plain_machine.specs.declared.broken.Broken.{Broken}
+use Rattle.plain_machine.specs.declared.broken.Broken.TheVariants as broken
 use Rattle.plain_machine.specs.States.{State, Move, Closed, ListSet, Set}
 use Rattle.plain_machine.specs.Plan.{Page, acts_above, behind_assignment, copies, is_copying, is_global, list_given, list_number, list_set}
 use Rattle.plain_machine.specs.Does.{Did}
@@ -40,8 +42,6 @@ use Rattle.input_state.specs.AtLocations.{SetsList}
 use Rattle.input_state.specs.Stored.{Stored, KeepsShared}
 use Rattle.input_state.specs.Callings.{NotCalling}
 use Rattle.gullet.proofs.Stepping.{free_of}
-use Rattle.engine_state.specs.declared.broken.Broken.{Broken}
-use Rattle.engine_state.specs.declared.broken.Broken.TheVariants as broken
 use Rattle.engine_state.specs.declared.engine.Engine.{Engine}
 use Rattle.engine_state.specs.Book.{Book, with_work}
 use Rattle.engine_state.specs.CutReadings.{CutsIn}

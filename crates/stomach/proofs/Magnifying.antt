@@ -13,13 +13,13 @@ use Rattle.equivalents.specs.First.{magnification}
 use Rattle.equivalents.specs.Parameters.{integer_in}
 use Rattle.rows.specs.declared.command.Head.TheVariants.{Primitive}
 use Rattle.plain_readings.specs.Readings.{Reading}
+use Rattle.plain_machine.specs.declared.broken.Broken.{Broken}
 use Rattle.plain_machine.specs.States.{State, Move, MagnificationSet, Reported, Written}
 use Rattle.plain_machine.specs.Plan.{Page, is_magnification, legal_or_not, magnification_checked, magnification_set, noting, reported, style_of}
 use Rattle.plain_machine.specs.Runs.{steps}
 use Rattle.plain_machine.specs.Does.{Did}
 use Rattle.plain_machine.proofs.Doing.{did_one}
 use Rattle.world_io.specs.Contents.{FilesTold, SinkTold}
-use Rattle.engine_state.specs.declared.broken.Broken.{Broken}
 use Rattle.engine_state.specs.declared.engine.Engine.{Engine}
 use Rattle.engine_state.specs.Book.{Book}
 use Rattle.engine_state.specs.CutReadings.{CutsIn}

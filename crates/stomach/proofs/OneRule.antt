@@ -9,9 +9,11 @@ use Rattle.tex_defs.specs.Places.{World}
 use Rattle.tex_defs.specs.declared.Sizes.{Sizes}
 use Rattle.plain_tokens.specs.Pending.{Pending, Source, end_token_lists, with_begun, with_end, source_of}
 use Rattle.plain_tokens.specs.Tables.{Demand, file_levels, open_files}
+use Rattle.plain_machine.specs.declared.broken.Broken.{Broken}
+use Rattle.plain_machine.specs.declared.broken.Broken.TheVariants as broken
 use Rattle.plain_machine.specs.States.{State, Move, ListsEnded, FileClosed}
 use Rattle.plain_machine.specs.Plan.{plan, ruled}
-use Rattle.plain_machine.specs.Does.{Did, Cut, Why, IsFull, IsFault, IsWant, Refuses}
+use Rattle.plain_machine.specs.Does.{Did, Cut, Refuses}
 use Rattle.plain_machine.specs.Runs.{made_all, steps}
 use Rattle.plain_machine.specs.Extended as plain
 use Rattle.plain_machine.specs.Extended.{Rests, closes, extended, next_extended, rests_before, IsFirstReady}
@@ -20,14 +22,12 @@ use Rattle.plain_machine.proofs.Doing.{plan_did, plan_cut, CutOff}
 use Rattle.plain_machine.proofs.Renumbering.{text_level_of}
 use Rattle.world_io.specs.Contents.{FilesTold, SinkTold}
 use Rattle.line_reader.specs.Readers.{OpenReader, OpenReaders, MayLeave}
-use Rattle.engine_state.specs.declared.broken.Broken.{Broken}
 use Rattle.engine_state.specs.declared.engine.Engine.{Engine}
 use Rattle.engine_state.specs.declared.outcome.Ruled.{Ruled}
 use Rattle.engine_state.specs.declared.outcome.Ruled.TheVariants as ruled
 use Rattle.engine_state.specs.Book.{Book}
 use Rattle.engine_state.specs.Calls.{AllStand}
 use Rattle.engine_state.specs.CutReadings.{FramesAtCut, CutsIn}
-use Rattle.engine_state.specs.Faults.{why_of}
 use Rattle.engine_state.specs.Rules.{IsMoment, world_of, plan_of, Cuts, Went}
 use Rattle.engine_state.specs.Stands.{state_of}
 use Rattle.engine_state.specs.Steps.{stepping, asks_now, asks_start}
@@ -38,7 +38,7 @@ use Rattle.stomach.specs.Halting.{DoesRuleIn, HaltsIn}
 use Rattle.stomach.specs.Ran.{Came, CameOn, Stops, CutBy, RuledSo, step_count, whole_state}
 use Rattle.stomach.specs.Read.{AreTied, ReadsTo}
 use Rattle.stomach.proofs.CallSteps.{plan_steps}
-use Rattle.stomach.proofs.FilesKept.{Counts, MayRefuse, count, one_if, counts_behind, gone_before, plan_counts}
+use Rattle.stomach.proofs.FilesKept.{Counts, MayRefuse, count, one_if, counts_behind, gone_before, open_before, plan_counts}
 use Rattle.stomach.proofs.Knowing.{first_known, is_known}
 use Rattle.stomach.proofs.Reading.{reads_none, reads_map}
 use Rattle.stomach.proofs.Running.{IsKnown, rule_went, rule_halts, rule_cut, same_moment, whole_moment}
@@ -50,38 +50,53 @@ pub count_of : (e : Engine) (book : Book) → count (state_of e book) ≡ open_f
 count_of e book = ap (λ (d : Demand). d.used) (text_level_of book.number e.input.pending)
 
 -- neither of the first moves of a file's end is refused
-settled_goes : (sizes : Sizes) (why : Why) (m : Move) (at : State) → m ≡ ListsEnded → Refuses sizes why m at → ⊥
+settled_goes : (sizes : Sizes) (why : Broken) (m : Move) (at : State) → m ≡ ListsEnded → Refuses sizes why m at → ⊥
 settled_goes sizes why m at is h = goes why (subst (λ (x : Move). Refuses sizes why x at) is h) where
-  goes : (why : Why) → Refuses sizes why ListsEnded at → ⊥
-  goes (IsFull full) k = absurd cc
-  goes IsFault k = k
-  goes IsWant k = k
+  goes : (why : Broken) → Refuses sizes why ListsEnded at → ⊥
+  goes (broken.Full full) k = absurd cc
+  goes broken.WriteFault k = k
+  goes broken.Want k = k
 
-closed_goes : (sizes : Sizes) (why : Why) (m : Move) (at : State) → m ≡ FileClosed → Refuses sizes why m at → ⊥
+closed_goes : (sizes : Sizes) (why : Broken) (m : Move) (at : State) → m ≡ FileClosed → Refuses sizes why m at → ⊥
 closed_goes sizes why m at is h = goes why (subst (λ (x : Move). Refuses sizes why x at) is h) where
-  goes : (why : Why) → Refuses sizes why FileClosed at → ⊥
-  goes (IsFull full) k = absurd cc
-  goes IsFault k = k
-  goes IsWant k = k
+  goes : (why : Broken) → Refuses sizes why FileClosed at → ⊥
+  goes (broken.Full full) k = absurd cc
+  goes broken.WriteFault k = k
+  goes broken.Want k = k
 
 none_refused : MayRefuse []
 none_refused m tail is = absurd cc
 
-some_refused : (sizes : Sizes) (why : Why) (m : Move) (rest : List Move) (at : State) → Refuses sizes why m at → MayRefuse (m ∷ rest)
+some_refused : (sizes : Sizes) (why : Broken) (m : Move) (rest : List Move) (at : State) → Refuses sizes why m at → MayRefuse (m ∷ rest)
 some_refused sizes why m rest at h n tail is = (λ e. settled_goes sizes why m at (same ∙ e) h, λ e. closed_goes sizes why m at (same ∙ e) h) where
   same : m ≡ n
   same = cc
 
-moment_count : (why : Why) (at s : State) → IsMoment why at s → count at ≡ count s
-moment_count (IsFull full) at s h = ap count h
-moment_count IsFault at s h = ap count h
-moment_count IsWant at s h = ap count h
+moment_count : (why : Broken) (at s : State) → IsMoment why at s → count at ≡ count s
+moment_count (broken.Full full) at s h = ap count h
+moment_count broken.WriteFault at s h = ap count h
+moment_count broken.Want at s h = ap count h
 
 -- THE RULE AND THE READERS
 
-module _ (rs rs' : OpenReaders) (e e' : Engine) (s s' : SinkTold) (unopened : e.input.pending.next ≡ None) (never : asks_start (asks_now e) ≡ false) (knows : AreTied rs e → Knows e rs.readers)
-    (stays : open_files e'.input.pending ≤ length rs.readers → length rs'.readers ≡ open_files e'.input.pending) (most : rs'.most ≡ rs.most)
-    (all left : Rests) (may : MayLeave rs.readers all.left) (gone : AreGone all left (length rs.readers - length rs'.readers)) (sizes : Sizes) (f : FilesTold) (book : Book) (stands : AllStand sizes e book) (tied : AreTied rs e) where
+-- what is known of the readers behind a rule by which one file fewer is open, or as many
+abbrev pub ReadersBehind : (rs' : OpenReaders) (e e' : Engine) (all left : Rests) (book : Book) → Type 0
+ReadersBehind rs' e e' all left book =
+    open_files e.input.pending ≡ one_if (closes (plan_of e book)) + open_files e'.input.pending → (length rs'.readers ≡ open_files e'.input.pending) × ((lost : List ℕ) × (all ≡ rests_before lost (plan_of e book) left))
+
+-- those of the files that ended were closed
+pub readers_closed : (rs rs' : OpenReaders) (e e' : Engine) → (open_files e'.input.pending ≤ length rs.readers → length rs'.readers ≡ open_files e'.input.pending) → (all left : Rests) → AreGone all left (length rs.readers - length rs'.readers) → (book : Book) → AreTied rs e →
+    ReadersBehind rs' e e' all left book
+readers_closed rs rs' e e' stays all left gone book tied h =
+    let own : length rs'.readers ≡ open_files e'.input.pending = stays (omega (arith, h, tied.count)) in
+    (own, gone_before all left (plan_of e book) (subst (λ (n : ℕ). AreGone all left n) (omega (arith, h, tied.count, own)) gone))
+
+-- none was, where the innermost file goes on
+pub readers_kept : (rs : OpenReaders) (e e' : Engine) (left : Rests) (book : Book) → closes (plan_of e book) ≡ false → AreTied rs e → ReadersBehind rs e e' left left book
+readers_kept rs e e' left book stays tied h = (omega (arith, h, tied.count, ap one_if stays), ([], sym (open_before [] (plan_of e book) left stays)))
+
+module _ (rs rs' : OpenReaders) (e e' : Engine) (s s' : SinkTold) (unopened : e.input.pending.next ≡ None) (never : asks_start (asks_now e) ≡ false) (knows : AreTied rs e → Knows e rs.readers) (most : rs'.most ≡ rs.most)
+    (all left : Rests) (may : MayLeave rs.readers all.left) (sizes : Sizes) (f : FilesTold) (book : Book) (stands : AllStand sizes e book) (tied : AreTied rs e) (readers : ReadersBehind rs' e e' all left book) where
   abbrev moves : List Move
   moves = plan_of e book
 
@@ -96,11 +111,11 @@ module _ (rs rs' : OpenReaders) (e e' : Engine) (s s' : SinkTold) (unopened : e.
   IsFewer = open_files e.input.pending ≡ one_if (closes moves) + open_files e'.input.pending
 
   own_readers : IsFewer → length rs'.readers ≡ open_files e'.input.pending
-  own_readers h = stays (omega (arith, h, tied.count))
+  own_readers h = (readers h).0
 
   -- what was left of a file that went with the rule
   went_with : IsFewer → (lost : List ℕ) × (all ≡ rests_before lost moves left)
-  went_with h = gone_before all left moves (subst (λ (n : ℕ). AreGone all left n) (omega (arith, h, tied.count, own_readers h)) gone)
+  went_with h = (readers h).1
 
   known : (lost : List ℕ) → all ≡ rests_before lost moves left → IsKnown sizes e lost left book
   known lost is = is_known sizes e book stands lost left unopened never rs.readers (knows tied) (subst (λ (r : Rests). MayLeave rs.readers r.left) is may)
@@ -147,8 +162,8 @@ module _ (rs rs' : OpenReaders) (e e' : Engine) (s s' : SinkTold) (unopened : e.
   pub rule_broken : (b : Broken) → CutsIn sizes (state_of e book) e' w w' moves b → CutBy sizes (whole_state all e book) (step_count (needs_step e)) e' left w w' b
   rule_broken b cuts =
       let c = cuts.cuts.cut in
-      let same : count cuts.cuts.at ≡ open_files e'.input.pending = moment_count (why_of b) cuts.cuts.at (state_of e' cuts.book') cuts.cuts.same ∙ count_of e' cuts.book' in
-      let h : IsFewer = fewer c.done (c.m ∷ c.rest) cuts.cuts.at c.all (some_refused sizes (why_of b) c.m c.rest cuts.cuts.at c.refuses) c.state same in
+      let same : count cuts.cuts.at ≡ open_files e'.input.pending = moment_count b cuts.cuts.at (state_of e' cuts.book') cuts.cuts.same ∙ count_of e' cuts.book' in
+      let h : IsFewer = fewer c.done (c.m ∷ c.rest) cuts.cuts.at c.all (some_refused sizes b c.m c.rest cuts.cuts.at c.refuses) c.state same in
       let lost = went_with h in
       subst (λ (r : Rests). CutBy sizes (whole_state r e book) (step_count (needs_step e)) e' left w w' b) (sym lost.1) (rule_cut sizes e lost.0 left book (known lost.0 lost.1) e' w w' (step_count (needs_step e)) b few cuts)
 
@@ -185,11 +200,10 @@ module _ (rs : OpenReaders) (e e' : Engine) (bytes : List ℕ) (is : e.input.pen
 
   pub begun_cut : (w w' : World) (b : Broken) → FramesAtCut b e' book.work → Cuts sizes (state_of e book) e' book w w' (ruled (state_of e book) e.input.pending.next) b → CutBy sizes here (step_count (needs_step e)) e' left w w' b
   begun_cut w w' b frames h =
-      let why = why_of b in
-      let cut = begins_cut sizes (state_of e book) bytes left is first h.at w w' why (subst (λ (o : Option (List ℕ)). Cut sizes (state_of e book) h.at w w' (ruled (state_of e book) o) why) is h.cut) in
-      let off : CutOff sizes here (extended left h.at) (step_count (needs_step e)) w w' why =
-      plan_cut sizes here (extended left h.at) (step_count (needs_step e)) w w' (ruled here (Some (bytes ++ plain.first_left left.left))) why cut (omega (arith, one_step)) refl opens in
-      record { t = off.t; cut = off.cut; book' = book; frames = frames; same = same_moment why off.t (extended left h.at) (whole_state left e' book) off.same (whole_moment why left h.at (state_of e' book) h.same) }
+      let cut = begins_cut sizes (state_of e book) bytes left is first h.at w w' b (subst (λ (o : Option (List ℕ)). Cut sizes (state_of e book) h.at w w' (ruled (state_of e book) o) b) is h.cut) in
+      let off : CutOff sizes here (extended left h.at) (step_count (needs_step e)) w w' b =
+      plan_cut sizes here (extended left h.at) (step_count (needs_step e)) w w' (ruled here (Some (bytes ++ plain.first_left left.left))) b cut (omega (arith, one_step)) refl opens in
+      record { t = off.t; cut = off.cut; book' = book; frames = frames; same = same_moment b off.t (extended left h.at) (whole_state left e' book) off.same (whole_moment b left h.at (state_of e' book) h.same) }
 
 -- as many files are open then
 begun_count : (p : Pending) (end : ℤ) (o : Option (List ℕ)) → p.next ≡ o → IsSome o → open_files (with_end end (with_begun (end_token_lists p))) ≡ open_files p

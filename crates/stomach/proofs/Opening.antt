@@ -24,10 +24,12 @@ use Rattle.reading_frames.specs.Views.{Lists, ask_of}
 use Rattle.reading_frames.specs.Stack.{asked_in, asked_of}
 use Rattle.reading_frames.specs.Frames as frames
 use Rattle.reading_frames.specs.declared.ask.Ask.{Ask}
+use Rattle.plain_machine.specs.declared.broken.Broken.{Broken}
+use Rattle.plain_machine.specs.declared.broken.Broken.TheVariants as broken
 use Rattle.plain_machine.specs.States.{State, Move, FileOpened, Written, Stopped, later, made}
 use Rattle.plain_machine.specs.Plan.{Page, plan, ruled, answered, page_of, input_begun, unless_found, given_back, reports_room, style_of}
 use Rattle.plain_machine.specs.Runs.{made_all, steps}
-use Rattle.plain_machine.specs.Does.{Did, Cut, IsFull, ToOpen, but_due}
+use Rattle.plain_machine.specs.Does.{Did, Cut, ToOpen, but_due}
 use Rattle.plain_machine.specs.Demands.{refusal}
 use Rattle.plain_machine.specs.Extended as plain
 use Rattle.plain_machine.specs.Extended.{Rests, AreStill, extended, extended_pending, next_extended, rests_before_opening}
@@ -38,14 +40,11 @@ use Rattle.plain_machine.proofs.Extending.{moves_did, moves_cut}
 use Rattle.plain_machine.proofs.Joins.{Moment, plan_moment, steps_join, stopped_ends}
 use Rattle.plain_machine.proofs.Pulls.{begun_reads, pulls, steps_read}
 use Rattle.plain_machine.proofs.Renumbering.{text_level_of}
-use Rattle.engine_state.specs.declared.broken.Broken.{Broken}
-use Rattle.engine_state.specs.declared.broken.Broken.TheVariants as broken
 use Rattle.engine_state.specs.declared.engine.Engine.{Engine}
 use Rattle.engine_state.specs.Book.{Book, with_work}
 use Rattle.engine_state.specs.Calls.{AllStand, FramesOf}
 use Rattle.engine_state.specs.CutReadings.{CutsIn, FramesAtCut}
 use Rattle.engine_state.specs.Rules.{Halts, Cuts, CountsReports}
-use Rattle.engine_state.specs.Faults.{why_of}
 use Rattle.engine_state.specs.Stands.{Stands, state_of}
 use Rattle.engine_state.proofs.CuttingReadings.{near_all, near_none, near_still}
 use Rattle.engine_state.proofs.Uncalled.{all_of, framed, frames_none, no_call}
@@ -117,10 +116,9 @@ module _ (sizes : Sizes) (e : Engine) (c : Call) (back : Bool) (ts : List Token)
   sought_cut e' left w w' n b is h = subst (λ (x : Rests). CutBy sizes s n e' x w w' b) is (cut_all (subst (λ (ms : List Move). CutsIn sizes (state_of e at) e' w w' ms b) (append-nil front) h)) where
     cut_all : CutsIn sizes (state_of e at) e' w w' front b → CutBy sizes s n e' all w w' b
     cut_all k =
-        let why = why_of b in
-        let cut = cut_first sizes s (extended all k.cuts.at) w w' front behind why (moves_cut sizes (state_of e at) k.cuts.at all front why (front_still page back named) w w' k.cuts.cut) in
-        let off : CutOff sizes s (extended all k.cuts.at) n w w' why = plan_cut sizes s (extended all k.cuts.at) n w w' (front ++ behind) why cut (omega (arith, opening_free)) refl opening in
-        record { t = off.t; cut = off.cut; book' = k.book'; frames = k.near; same = same_moment why off.t (extended all k.cuts.at) (whole_state all e' k.book') off.same (whole_moment why all k.cuts.at (state_of e' k.book') k.cuts.same) }
+        let cut = cut_first sizes s (extended all k.cuts.at) w w' front behind b (moves_cut sizes (state_of e at) k.cuts.at all front b (front_still page back named) w w' k.cuts.cut) in
+        let off : CutOff sizes s (extended all k.cuts.at) n w w' b = plan_cut sizes s (extended all k.cuts.at) n w w' (front ++ behind) b cut (omega (arith, opening_free)) refl opening in
+        record { t = off.t; cut = off.cut; book' = k.book'; frames = k.near; same = same_moment b off.t (extended all k.cuts.at) (whole_state all e' k.book') off.same (whole_moment b all k.cuts.at (state_of e' k.book') k.cuts.same) }
 
   module _ (e' : Engine) (w : World) (n : ℕ) (sought : Sought sizes (state_of e at) e' (with_work rs book) w front named n) where
     abbrev sought_at : State
@@ -136,8 +134,8 @@ module _ (sizes : Sizes) (e : Engine) (c : Call) (back : Bool) (ts : List Token)
     -- a file more has no room
     pub levels_cut : (left : Rests) (full : Full) (j : ℕ) → all ≡ left → refused e'.input.sizes (text_level e'.input.pending ∷ []) ≡ Some full → CutBy sizes s j e' left w w (broken.Full full)
     levels_cut left full j is h =
-        let cut = cut_later sizes s sought_at sought_at w w w front behind (IsFull full) sought_did (cut_full sizes (FileOpened named) (unless_found page named (all.files 0 named)) sought_at w full (opens_if ∙ h)) in
-        let off : CutOff sizes s sought_at j w w (IsFull full) = plan_cut sizes s sought_at j w w (front ++ behind) (IsFull full) cut (omega (arith, opening_free)) refl opening in
+        let cut = cut_later sizes s sought_at sought_at w w w front behind (broken.Full full) sought_did (cut_full sizes (FileOpened named) (unless_found page named (all.files 0 named)) sought_at w full (opens_if ∙ h)) in
+        let off : CutOff sizes s sought_at j w w (broken.Full full) = plan_cut sizes s sought_at j w w (front ++ behind) (broken.Full full) cut (omega (arith, opening_free)) refl opening in
         subst (λ (x : Rests). CutBy sizes s j e' x w w (broken.Full full)) is
         (record { t = off.t; cut = off.cut; book' = with_work rs book; frames = near_all sizes (broken.Full full) e' (with_work rs book) (all_of sizes e' (with_work rs book) sought.stands); same = off.same })
 
@@ -278,13 +276,12 @@ module _ (sizes : Sizes) (e : Engine) (c : Call) (back : Bool) (ts : List Token)
 
     pub missing_cut : (e2 : Engine) (w' : World) (b : Broken) (j : ℕ) → Cuts sizes (state_of e' (with_work rs book)) e2 (with_work rs book) w w' (unless_found (page_of (state_of e' (with_work rs book))) name None) b → FramesAtCut b e2 rs → CutBy sizes s0 j e2 left w w' b
     missing_cut e2 w' b j h frames =
-        let why = why_of b in
-        let k : Cut sizes (state_of e' (with_work rs book)) h.at w w' missed why = subst (λ (ms : List Move). Cut sizes (state_of e' (with_work rs book)) h.at w w' ms why) (page_kept back sought.did.state) h.cut in
-        let more = moves_cut sizes (state_of e' (with_work rs book)) h.at left missed why missed_still w w' k in
-        let cut : Cut sizes s0 (extended left h.at) w w' (front_moves ++ FileOpened name ∷ missed) why =
-        subst (λ (ms : List Move). Cut sizes s0 (extended left h.at) w w' ms why) (split missed) (cut_later sizes s0 (whole_state left e' (with_work rs book)) (extended left h.at) w w w' (front_moves ++ FileOpened name ∷ []) missed why missing_did more) in
-        let off : CutOff sizes s0 (extended left h.at) j w w' why = plan_cut sizes s0 (extended left h.at) j w w' (front_moves ++ FileOpened name ∷ missed) why cut (omega (arith, missing_free)) refl missing_plans in
-        record { t = off.t; cut = off.cut; book' = with_work rs book; frames = frames; same = same_moment why off.t (extended left h.at) (whole_state left e2 (with_work rs book)) off.same (whole_moment why left h.at (state_of e2 (with_work rs book)) h.same) }
+        let k : Cut sizes (state_of e' (with_work rs book)) h.at w w' missed b = subst (λ (ms : List Move). Cut sizes (state_of e' (with_work rs book)) h.at w w' ms b) (page_kept back sought.did.state) h.cut in
+        let more = moves_cut sizes (state_of e' (with_work rs book)) h.at left missed b missed_still w w' k in
+        let cut : Cut sizes s0 (extended left h.at) w w' (front_moves ++ FileOpened name ∷ missed) b =
+        subst (λ (ms : List Move). Cut sizes s0 (extended left h.at) w w' ms b) (split missed) (cut_later sizes s0 (whole_state left e' (with_work rs book)) (extended left h.at) w w w' (front_moves ++ FileOpened name ∷ []) missed b missing_did more) in
+        let off : CutOff sizes s0 (extended left h.at) j w w' b = plan_cut sizes s0 (extended left h.at) j w w' (front_moves ++ FileOpened name ∷ missed) b cut (omega (arith, missing_free)) refl missing_plans in
+        record { t = off.t; cut = off.cut; book' = with_work rs book; frames = frames; same = same_moment b off.t (extended left h.at) (whole_state left e2 (with_work rs book)) off.same (whole_moment b left h.at (state_of e2 (with_work rs book)) h.same) }
 
 -- HOW MANY FILES ARE OPEN
 

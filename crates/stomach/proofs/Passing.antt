@@ -18,6 +18,8 @@ use Rattle.reading_frames.specs.Views.{top_list, kept_list_of}
 use Rattle.reading_frames.specs.Stack.{Stack, innermost_count, lists_beneath}
 use Rattle.reading_frames.specs.Frames as frames
 use Rattle.reading_frames.specs.Frames.{AreShallow}
+use Rattle.plain_machine.specs.declared.broken.Broken.{Broken}
+use Rattle.plain_machine.specs.declared.broken.Broken.TheVariants as broken
 use Rattle.plain_machine.specs.States.{State, Move, made, beneath}
 use Rattle.plain_machine.specs.Demands.{refusal}
 use Rattle.plain_machine.specs.Does.{Did}
@@ -30,8 +32,6 @@ use Rattle.input_state.specs.HeldLists as held
 use Rattle.input_state.specs.Macros.{list_at, is_shared}
 use Rattle.input_state.specs.Stored.{Stored, KeepsShared, gathered}
 use Rattle.input_state.specs.Callings.{NotCalling}
-use Rattle.engine_state.specs.declared.broken.Broken.{Broken}
-use Rattle.engine_state.specs.declared.broken.Broken.TheVariants as broken
 use Rattle.engine_state.specs.declared.engine.Engine.{Engine}
 use Rattle.engine_state.specs.Book.{Book, AreBodies, with_work}
 use Rattle.engine_state.specs.CutReadings.{CutsIn}

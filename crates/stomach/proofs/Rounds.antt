@@ -178,7 +178,7 @@ open_if false h = refl
 
 module _ (sizes : Sizes) (e : Engine) (left : Rests) (rs : List OpenReader) (knows : Knows e rs) (may : MayLeave rs left.left) (book : Book) (stands : AllStand sizes e book) where
   -- the file goes by no step
-  keeps_open : e.input.pending.next ≡ None → stepping e ≡ true → closes (plan_of e book) ≡ false
+  pub keeps_open : e.input.pending.next ≡ None → stepping e ≡ true → closes (plan_of e book) ≡ false
   keeps_open unopened waits =
       let never : asks_start (asks_now e) ≡ false = wants_no_start e (wants_step (wants_token (asks_now e)) (gives_step (pulled e.input.groups.now.categories e.input.pending)) waits) in
       let one : steps (plan_of e book) ≡ 1 = plan_one sizes e waits book stands in

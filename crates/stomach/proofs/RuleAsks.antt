@@ -16,6 +16,7 @@ use Rattle.reading_frames.specs.Stack.{asked_in, asked_of, asks_in}
 use Rattle.reading_frames.specs.Weights.{IsReported}
 use Rattle.reading_frames.specs.declared.ask.Ask.{Ask}
 use Rattle.reading_frames.specs.declared.ask.Ask.TheVariants as asks
+use Rattle.plain_machine.specs.declared.broken.Broken.{Broken}
 use Rattle.plain_machine.specs.States.{Move, Files}
 use Rattle.plain_machine.specs.Plan.{Page, acts_in, acts_on, answered}
 use Rattle.plain_machine.specs.Extended.{starts}
@@ -24,7 +25,6 @@ use Rattle.input_state.specs.Reads.{gives_step}
 use Rattle.input_state.specs.declared.answer.Call.{Call}
 use Rattle.input_state.specs.Callings.{NotCalling, call_in, Calling}
 use Rattle.engine_state.specs.declared.engine.Engine.{Engine}
-use Rattle.engine_state.specs.declared.broken.Broken.{Broken}
 use Rattle.engine_state.specs.declared.outcome.Ruled.{Ruled}
 use Rattle.engine_state.specs.Book.{Book, with_work}
 use Rattle.engine_state.specs.CutReadings.{CutsIn}

@@ -7,12 +7,14 @@ use Rattle.tex_defs.specs.Places.{World}
 use Rattle.tex_defs.specs.declared.Sizes.{Sizes}
 use Rattle.plain_tokens.specs.Lines.{first_line}
 use Rattle.plain_tokens.specs.Pending.{Pending, end_token_lists}
+use Rattle.plain_machine.specs.declared.broken.Broken.{Broken}
+use Rattle.plain_machine.specs.declared.broken.Broken.TheVariants as broken
 use Rattle.plain_machine.specs.States.{State, Move, ListsEnded, FirstTaken}
 use Rattle.plain_machine.specs.Plan.{plan, planned, ruled}
 use Rattle.plain_machine.specs.Runs.{steps}
 use Rattle.plain_machine.specs.Extended.{Rests, Reads, extended, next_extended, first_left, rests_before, closes}
 use Rattle.plain_machine.specs.Bounded.{Comes, End}
-use Rattle.plain_machine.specs.Does.{Did, Cut, CutAt, ReadAt, Why, IsFull, IsFault, IsWant, but_due}
+use Rattle.plain_machine.specs.Does.{Did, Cut, CutAt, ReadAt, but_due}
 use Rattle.plain_machine.proofs.Doing.{wrote_join, wrote_none, plan_did, steps_end, steps_wrote, CutOff, plan_cut, cut_behind, cut_within}
 use Rattle.plain_machine.proofs.Joins.{fits_join, steps_join, stopped_ends, StepComes, plan_needs}
 use Rattle.plain_machine.proofs.Renumbering.{settle_of}
@@ -24,8 +26,6 @@ use Rattle.engine_state.specs.declared.outcome.Ruled.{Ruled}
 use Rattle.engine_state.specs.declared.outcome.Ruled.TheVariants as ruled
 use Rattle.stomach.specs.declared.runs.Ended.{Ended}
 use Rattle.stomach.specs.declared.runs.Ended.TheVariants as ended
-use Rattle.engine_state.specs.declared.broken.Broken.{Broken}
-use Rattle.engine_state.specs.Faults.{why_of}
 use Rattle.engine_state.specs.Book.{Book}
 use Rattle.engine_state.specs.Calls.{AllStand}
 use Rattle.engine_state.specs.Stands.{SameFrames, state_of}
@@ -41,16 +41,16 @@ use Rattle.engine_state.proofs.Storing.{store_settled, sound_still}
 use Rattle.stomach.proofs.FilesKept.{still_before, open_before}
 
 -- a moment, but for what is due
-pub same_moment : (why : Why) (t at s : State) → but_due t ≡ but_due at → IsMoment why at s → IsMoment why (but_due t) (but_due s)
-same_moment (IsFull full) t at s e h = e ∙ ap but_due h
-same_moment IsFault t at s e h = ap (λ (x : State). record x { in_line = s.in_line }) e ∙ ap but_due h
-same_moment IsWant t at s e h = ap (λ (x : State). record x { in_line = s.in_line }) e ∙ ap but_due h
+pub same_moment : (why : Broken) (t at s : State) → but_due t ≡ but_due at → IsMoment why at s → IsMoment why (but_due t) (but_due s)
+same_moment (broken.Full full) t at s e h = e ∙ ap but_due h
+same_moment broken.WriteFault t at s e h = ap (λ (x : State). record x { in_line = s.in_line }) e ∙ ap but_due h
+same_moment broken.Want t at s e h = ap (λ (x : State). record x { in_line = s.in_line }) e ∙ ap but_due h
 
 -- and with so much left of the files
-pub whole_moment : (why : Why) (left : Rests) (at s : State) → IsMoment why at s → IsMoment why (extended left at) (extended left s)
-whole_moment (IsFull full) left at s h = ap (extended left) h
-whole_moment IsFault left at s h = ap (extended left) h
-whole_moment IsWant left at s h = ap (extended left) h
+pub whole_moment : (why : Broken) (left : Rests) (at s : State) → IsMoment why at s → IsMoment why (extended left at) (extended left s)
+whole_moment (broken.Full full) left at s h = ap (extended left) h
+whole_moment broken.WriteFault left at s h = ap (extended left) h
+whole_moment broken.Want left at s h = ap (extended left) h
 
 -- What is known of the files is enough for the next rule, with so much left behind it, and this of a file that goes by it: for its reading, or
 -- it reads nothing.
@@ -84,10 +84,10 @@ module _ (sizes : Sizes) (e : Engine) (gone : List ℕ) (left : Rests) (book : B
   steps_by (inl reads) = extended_steps sizes (state_of e book) gone left reads
   steps_by (inr still) = subst Counted (sym (still_before gone (plan_of e book) left still.1)) (unread_steps sizes (state_of e book) left still.0 still.1)
 
-  abbrev IsCut : (at : State) (w w' : World) (why : Why) → Rests → Type 0
+  abbrev IsCut : (at : State) (w w' : World) (why : Broken) → Rests → Type 0
   IsCut at w w' why r = Cut sizes (whole_state r e book) (extended left at) w w' (whole_plan r e book) why
 
-  cut_by : IsKnown sizes e gone left book → (at : State) (w w' : World) (why : Why) → Cut sizes (state_of e book) at w w' (plan_of e book) why → IsCut at w w' why all
+  cut_by : IsKnown sizes e gone left book → (at : State) (w w' : World) (why : Broken) → Cut sizes (state_of e book) at w w' (plan_of e book) why → IsCut at w w' why all
   cut_by (inl reads) at w w' why c = extended_cut sizes (state_of e book) gone left reads at w w' why c
   cut_by (inr still) at w w' why c = subst (IsCut at w w' why) (sym (still_before gone (plan_of e book) left still.1)) (unread_cut sizes (state_of e book) left still.0 still.1 at w w' why c)
 
@@ -134,9 +134,9 @@ module _ (sizes : Sizes) (e : Engine) (gone : List ℕ) (left : Rests) (book : B
   pub rule_cut : (e' : Engine) (w w' : World) (n : ℕ) (b : Broken) → steps (plan_of e book) ≤ n → CutsIn sizes (state_of e book) e' w w' (plan_of e book) b → CutBy sizes s n e' left w w' b
   rule_cut e' w w' n b le h =
       let few : steps (whole_plan all e book) ≤ n = omega (arith, le, steps_by known) in
-      let cut = cut_by known h.cuts.at w w' (why_of b) h.cuts.cut in
-      let off : CutOff sizes s (extended left h.cuts.at) n w w' (why_of b) = plan_cut sizes s (extended left h.cuts.at) n w w' (whole_plan all e book) (why_of b) cut few refl plans in
-      record { t = off.t; cut = off.cut; book' = h.book'; frames = h.near; same = same_moment (why_of b) off.t (extended left h.cuts.at) (whole_state left e' h.book') off.same (whole_moment (why_of b) left h.cuts.at (state_of e' h.book') h.cuts.same) }
+      let cut = cut_by known h.cuts.at w w' b h.cuts.cut in
+      let off : CutOff sizes s (extended left h.cuts.at) n w w' b = plan_cut sizes s (extended left h.cuts.at) n w w' (whole_plan all e book) b cut few refl plans in
+      record { t = off.t; cut = off.cut; book' = h.book'; frames = h.near; same = same_moment b off.t (extended left h.cuts.at) (whole_state left e' h.book') off.same (whole_moment b left h.cuts.at (state_of e' h.book') h.cuts.same) }
 
 pub came_none : (sizes : Sizes) (e : Engine) (left : Rests) (book : Book) (w : World) → AllStand sizes e book → Came sizes (whole_state left e book) e left w w 0
 came_none sizes e left book w stands = record { ms = []; book' = book; stands = stands; moves = refl; count = refl; written = wrote_none w }
@@ -172,7 +172,7 @@ module _ (sizes : Sizes) (s : State) (e e' : Engine) (left : Rests) (w w' w'' : 
       }
 
   -- and a run that is cut off
-  cut_on : (j n : ℕ) (t : State) (why : Why) → k + j ≤ n → CutAt sizes (whole_state left e came.book') j t w' w'' why → CutAt sizes s n t w w'' why
+  cut_on : (j n : ℕ) (t : State) (why : Broken) → k + j ≤ n → CutAt sizes (whole_state left e came.book') j t w' w'' why → CutAt sizes s n t w w'' why
   cut_on j n t why le cut =
       cut_within sizes s t (k + j) n w w'' why le (cut_behind sizes s (whole_state left e came.book') t k j w w' w'' came.ms why came.moves (omega (arith, came.count)) came.written cut)
 
@@ -188,7 +188,7 @@ module _ (sizes : Sizes) (s : State) (e e' : Engine) (left : Rests) (w w' w'' : 
   pub cut_by_join : (more : Rests) (j n : ℕ) (b : Broken) → k + j ≤ n → ((book : Book) → AllStand sizes e book → CutBy sizes (whole_state left e book) j e' more w' w'' b) → CutBy sizes s n e' more w w'' b
   cut_by_join more j n b le on =
       let h = on came.book' came.stands in
-      record { t = h.t; cut = cut_on j n h.t (why_of b) le h.cut; book' = h.book'; frames = h.frames; same = h.same }
+      record { t = h.t; cut = cut_on j n h.t b le h.cut; book' = h.book'; frames = h.frames; same = h.same }
 
   -- of whichever cause
   pub stopped_join : (more : Rests) (j n : ℕ) (x : Early) → k + j ≤ n → ((book : Book) → AllStand sizes e book → StoppedBy sizes (whole_state left e book) j e' more w' w'' x) → StoppedBy sizes s n e' more w w'' x

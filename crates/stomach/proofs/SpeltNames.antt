@@ -16,6 +16,8 @@ use Rattle.plain_tokens.specs.Tables.{Demand, spelt_name, refused}
 use Rattle.plain_tokens.specs.Tokens.{character_codes, is_undefined}
 use Rattle.input_state.specs.HeldLists.{first_list}
 use Rattle.reading_frames.specs.Views.{kept_list_of}
+use Rattle.plain_machine.specs.declared.broken.Broken.{Broken}
+use Rattle.plain_machine.specs.declared.broken.Broken.TheVariants as broken
 use Rattle.plain_machine.specs.States.{State, Move, Assigned, Spelt}
 use Rattle.plain_machine.specs.Demands.{refusal}
 use Rattle.plain_machine.specs.Numbers.{meanings_of}
@@ -23,8 +25,6 @@ use Rattle.plain_machine.specs.Plan.{Page, spelt, newly_spelt, relax_if_undefine
 use Rattle.plain_machine.specs.Does.{Did}
 use Rattle.plain_machine.proofs.Doing.{did_join, did_none, did_one}
 use Rattle.plain_machine.proofs.Renumbering.{name_seen_of, spelt_name_of}
-use Rattle.engine_state.specs.declared.broken.Broken.{Broken}
-use Rattle.engine_state.specs.declared.broken.Broken.TheVariants as broken
 use Rattle.engine_state.specs.declared.engine.Engine.{Engine}
 use Rattle.engine_state.specs.Book.{Book}
 use Rattle.engine_state.specs.Entering.{all_entered, with_names, EntryFits, EntryRefused}

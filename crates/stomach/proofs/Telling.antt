@@ -15,6 +15,7 @@ use Rattle.plain_state.specs.Reports.{report_bytes}
 use Rattle.plain_readings.specs.Readings.{Reading, fed_with}
 use Rattle.reading_frames.specs.Stack.{asks_in}
 use Rattle.reading_frames.specs.Weights.{IsReported}
+use Rattle.plain_machine.specs.declared.broken.Broken.{Broken}
 use Rattle.plain_machine.specs.States.{State, Move, Assigned, Written, Reported}
 use Rattle.plain_machine.specs.Plan as plan
 use Rattle.plain_machine.specs.Runs.{steps}
@@ -23,7 +24,6 @@ use Rattle.plain_machine.specs.Does.{Did}
 use Rattle.plain_machine.proofs.Doing.{did_join}
 use Rattle.plain_machine.proofs.Pulls.{answered_none}
 use Rattle.world_io.specs.Contents.{FilesTold, SinkTold, world}
-use Rattle.engine_state.specs.declared.broken.Broken.{Broken}
 use Rattle.input_state.specs.Callings.{NotCalling}
 use Rattle.engine_state.specs.declared.engine.Engine.{Engine}
 use Rattle.engine_state.specs.Book.{Book, with_work}

@@ -5,12 +5,12 @@ use Rattle.tex_defs.specs.declared.Sizes.{Sizes}
 use Rattle.plain_tokens.specs.Tables.{open_lines}
 use Rattle.line_reader.specs.Readers.{told_left}
 use Rattle.plain_readings.specs.Readings.{Reading}
+use Rattle.plain_machine.specs.declared.broken.Broken.{Broken}
 use Rattle.plain_machine.specs.States.{State, Move, Closed, ListsEnded, Spelt, NameInProgress}
 use Rattle.plain_machine.specs.Plan.{Page, given_back}
 use Rattle.plain_machine.specs.Does.{Did}
 use Rattle.plain_machine.specs.Extended.{Rests}
 use Rattle.input_state.specs.Stored.{spelt}
-use Rattle.engine_state.specs.declared.broken.Broken.{Broken}
 use Rattle.engine_state.specs.declared.engine.Engine.{Engine}
 use Rattle.engine_state.specs.Book.{Book, with_work}
 use Rattle.engine_state.specs.CutReadings.{CutsIn}

@@ -1,4 +1,5 @@
 pub mod Ahead
+pub mod AtHand
 pub mod Clauses
 pub mod Effects
 pub mod Files

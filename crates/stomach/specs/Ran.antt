@@ -4,13 +4,13 @@ use Rattle.tex_syntax.specs.declared.words.Outcome.{Outcome}
 use Rattle.tex_defs.specs.Places.{World}
 use Rattle.tex_defs.specs.declared.Sizes.{Sizes}
 use Rattle.world_io.specs.Contents.{FilesTold, SinkTold}
+use Rattle.plain_machine.specs.declared.broken.Broken.{Broken}
 use Rattle.plain_machine.specs.States.{State, Move, FileOpened}
 use Rattle.plain_machine.specs.Plan.{Ends, Goes, next}
 use Rattle.plain_machine.specs.Runs.{Wrote, steps}
 use Rattle.plain_machine.specs.Bounded.{FitMoves, Bounded, End, AtEnd, AtSteps}
 use Rattle.plain_machine.specs.Does.{CutAt, ReadAt, but_due}
 use Rattle.plain_machine.specs.Extended.{Rests, extended}
-use Rattle.engine_state.specs.declared.broken.Broken.{Broken}
 use Rattle.engine_state.specs.declared.engine.Engine.{Engine}
 use Rattle.stomach.specs.declared.runs.Ended.{Ended}
 use Rattle.stomach.specs.declared.runs.Ended.TheVariants.{Halted, Steps}
@@ -21,7 +21,6 @@ use Rattle.engine_state.specs.declared.outcome.Ruled.{Ruled}
 use Rattle.engine_state.specs.declared.outcome.Ruled.TheVariants as ruled
 use Rattle.stomach.specs.Ahead.{Lacks, needs_step}
 use Rattle.stomach.specs.Read.{AreTied}
-use Rattle.engine_state.specs.Faults.{why_of}
 use Rattle.engine_state.specs.Book.{Book}
 use Rattle.engine_state.specs.Calls.{AllStand, FramesOf}
 use Rattle.engine_state.specs.CutReadings.{FramesAtCut}
@@ -86,10 +85,10 @@ pub record Ran (sizes : Sizes) (s : State) (n : ℕ) (e' : Engine) (left : Rests
 -- that of the bytes really written.
 pub record CutBy (sizes : Sizes) (s : State) (n : ℕ) (e' : Engine) (left : Rests) (w w' : World) (b : Broken) : Type 0 where
   pub t : State
-  pub cut : CutAt sizes s n t w w' (why_of b)
+  pub cut : CutAt sizes s n t w w' b
   pub book' : Book
   pub frames : FramesAtCut b e' book'.work
-  pub same : IsMoment (why_of b) (but_due t) (whole_state left e' book')
+  pub same : IsMoment b (but_due t) (whole_state left e' book')
 
 -- Why something of the files was needed at this moment: what the engine holds doesn't tell the next reading, or a file is to be opened next.
 pub data IsUnread (e' : Engine) (t : State) : Type 0 where

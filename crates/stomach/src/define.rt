@@ -3,10 +3,10 @@ ghost use Rattle.std.specs.Prelude.{◌≡◌, ◌≢◌, ◌<◌, [], ◌∷◌
 ghost use Rattle.rows.specs.Readings.{Defines};
 ghost use Rattle.reading_frames.specs.Views.{top_list, kept_list_of};
 ghost use Rattle.reading_frames.specs.Stack.{asks_in, innermost_count};
+ghost use Rattle.plain_machine.specs.declared.broken.Broken.TheVariants as broken;
 ghost use Rattle.plain_machine.specs.States.{Defined};
 ghost use Rattle.plain_machine.specs.Plan.{is_global as plain_global, macro_defined};
 ghost use Rattle.input_state.specs.Callings.{NotCalling};
-ghost use Rattle.engine_state.specs.declared.broken.Broken.TheVariants as broken;
 ghost use Rattle.engine_state.specs.Clauses.{CutsAtReading};
 ghost use Rattle.engine_state.specs.CutReadings.{CutsIn};
 ghost use Rattle.engine_state.specs.Rules.{Went};

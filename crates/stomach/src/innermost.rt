@@ -1,6 +1,7 @@
 // The innermost reading, by what it asks for.
-ghost use Rattle.std.specs.Prelude.{◌≡◌};
+ghost use Rattle.std.specs.Prelude.{◌≡◌, IfSome};
 ghost use Rattle.engine_state.specs.Steps.{asks_now, wants_token};
+ghost use Rattle.stomach.specs.AtHand.{IsWanted};
 ghost use Rattle.stomach.specs.Innermost.{IsInnermost, innermost_wants, innermost_opens};
 ghost use Rattle.input_state.specs.Callings.{NotCalling};
 
@@ -9,6 +10,7 @@ use input_state::Call;
 use macro_call::CallAsk;
 use reading_frames::Ask;
 use rows::Effect;
+use tex_syntax::Want;
 
 /// The innermost reading: a call that gathers its arguments, or a frame by what it asks for, or none. It is looked at where a rule begins.
 #[derive(Clone, Copy)]
@@ -75,5 +77,23 @@ impl Innermost {
             self,
             Innermost::Frame(Some(Ask::ActsOn(_, Effect::StartInput(_), _)))
         )
+    }
+}
+
+/// How the innermost reading wants the next token, where it is a call that takes one, a body or, where none is open, the stomach.
+#[inline(always)]
+pub fn wanted(engine: &Engine) -> Option<Option<Want>>
+    ensures { IfSome result (λ want. IsWanted engine.now want) }
+{
+    match engine.input.call() {
+        Some(call) => match call.ask {
+            CallAsk::More => Some(Some(Want::Raw)),
+            _ => None,
+        },
+        None if engine.readings.count() == 0 => Some(None),
+        None => match engine.readings.body_want() {
+            Some(want) => Some(Some(want)),
+            None => None,
+        },
     }
 }

@@ -16,6 +16,7 @@ ghost use Rattle.engine_state.specs.CutReadings.{CutsIn};
 ghost use Rattle.engine_state.specs.Stands.{Stands, SameFrames, page_of};
 ghost use Rattle.engine_state.specs.Rules.{plan_of, onward_of, next_moves, DoesOnward, DoesRule};
 ghost use Rattle.engine_state.specs.Steps.{asked, stepping, stops_run, IsStep, IsFree, IsHalted, StepsIf, weight, asks_now, asks_start};
+ghost use Rattle.stomach.specs.AtHand.{IsWanted};
 ghost use Rattle.stomach.specs.Clauses.{DoesIf};
 ghost use Rattle.stomach.specs.Innermost.{IsAsked, IsInnermost};
 ghost use Rattle.stomach.specs.Halting.{DoesRuleIn, DoesPlanIn, CutsPlanIn, DoesRuleAtReading, CutsRuleAtReading};
@@ -64,6 +65,7 @@ fn meet_token<S: Sink>(
 }
 
 /// The next token, and what becomes of it where it is wanted: by a call, a frame, or, where none is open, the stomach.
+#[inline(always)]
 fn token_rule<S: Sink>(
     engine: &mut Engine,
     out: &mut S,
@@ -85,6 +87,25 @@ fn token_rule<S: Sink>(
         Next::Skipped => Ok(Ruled::Free),
         Next::Over(outcome) => Ok(Ruled::Halted(outcome)),
     }
+}
+
+/// The rule of the innermost reading where it wants a token so.
+#[inline(always)]
+fn wanted_rule<S: Sink>(
+    engine: &mut Engine,
+    out: &mut S,
+    want: Option<Want>,
+) -> Result<Ruled, Broken>
+    requires wanted { IsWanted engine.old want }
+    requires idle { engine.old.input.making ≡ None }
+    requires running { engine.old.stopped ≡ false }
+    ensures light { IfOk result (λ ruled. IsFree ruled → weight engine.new < weight engine.old) }
+    ensures step { IfOk result (λ ruled. StepsIf ruled (stepping engine.old)) }
+    ensures rule { IfOk result (λ ruled. DoesPlanIn engine.old engine.new (S.told out.old) (S.told out.new) ruled) }
+    ensures err { IfErr result (λ b. CutsPlanIn engine.old engine.new (S.told out.old) (S.told out.new) b) }
+    ensures idle { OnOk result (engine.new.input.making ≡ None) }
+{
+    token_rule(engine, out, want)
 }
 
 /// The list on top, if it is listed, and else that of no token, is reported as an error, and the command ends.
@@ -208,9 +229,9 @@ fn frame_rule<S: Sink>(engine: &mut Engine, out: &mut S, ask: &Option<Ask>) -> R
     ensures idle { OnOk result (engine.new.input.making ≡ None) }
 {
     match ask {
-        None => token_rule(engine, out, None),
+        None => wanted_rule(engine, out, None),
         Some(ask) => match ask {
-            Ask::More(want) => token_rule(engine, out, Some(*want)),
+            Ask::More(want) => wanted_rule(engine, out, Some(*want)),
             _ => ask_rule(engine, out, *ask),
         },
     }
@@ -228,7 +249,7 @@ fn call_rule<S: Sink>(engine: &mut Engine, out: &mut S, call: MacroCall) -> Resu
     ensures idle { OnOk result (engine.new.input.making ≡ None) }
 {
     match call.ask {
-        CallAsk::More => token_rule(engine, out, Some(Want::Raw)),
+        CallAsk::More => wanted_rule(engine, out, Some(Want::Raw)),
         CallAsk::ExtraBrace => {
             let report = Report::ExtraBrace(call.name);
             tell(engine, out, report, Some(PAR), true)
@@ -266,6 +287,30 @@ fn innermost_rule<S: Sink>(
         Innermost::Call(call) => call_rule(engine, out, *call),
         Innermost::Frame(ask) => frame_rule(engine, out, ask),
     }
+}
+
+/// Does the rule of the innermost reading where it wants a token so.
+///
+/// # Errors
+/// There is no room for what comes, or a write failed: the engine stands for the moment before.
+#[inline(always)]
+pub(crate) fn rule_of_token<S: Sink>(
+    engine: &mut Engine,
+    out: &mut S,
+    want: Option<Want>,
+) -> Result<Ruled, Broken>
+    requires wanted { IsWanted engine.old want }
+    requires idle { engine.old.input.making ≡ None }
+    requires running { engine.old.stopped ≡ false }
+    ensures step { IfOk result (λ ruled. StepsIf ruled (stepping engine.old)) }
+    ensures rule { IfOk result (λ ruled. DoesPlanIn engine.old engine.new (S.told out.old) (S.told out.new) ruled) }
+    ensures err { IfErr result (λ b. CutsPlanIn engine.old engine.new (S.told out.old) (S.told out.new) b) }
+    ensures idle { OnOk result (engine.new.input.making ≡ None) }
+    ensures stopped { MatchResult result (λ ruled. engine.new.stopped ≡ stops_run ruled) (λ _. engine.new.stopped ≡ true) }
+{
+    let ruled = wanted_rule(engine, out, want);
+    engine.stopped = stops(&ruled);
+    ruled
 }
 
 /// Does one rule of the machine, with at most one step; it isn't one that opens or begins a file.

@@ -1,11 +1,12 @@
 // Runs: rules, one after another.
-ghost use Rattle.std.specs.Prelude.{◌≡◌, ◌<◌, IfOk, IfErr, OnOk, MatchResult, None, true, false};
+ghost use Rattle.std.specs.Prelude.{◌≡◌, ◌<◌, IfOk, IfErr, IfSome, OnOk, MatchResult, None, true, false};
 ghost use Rattle.tex_defs.specs.Places.{Rose};
 ghost use Rattle.world_io.specs.declared.traits.Fault.TheVariants.{Failed, NoMemory};
 ghost use Rattle.line_reader.specs.Readers.{AreOpen};
 ghost use Rattle.engine_state.specs.Steps.{weight, stops_run, IsFree, StepsIf, asks_now, wants_token};
 ghost use Rattle.stomach.specs.declared.early.Early.TheVariants as early;
 ghost use Rattle.stomach.specs.Ahead.{Knows, needs_step as plain_needs_step};
+ghost use Rattle.stomach.specs.AtHand.{IsAtHand};
 ghost use Rattle.stomach.specs.Innermost.{IsInnermost};
 ghost use Rattle.stomach.specs.Read.{ReadsTo, AreTied};
 ghost use Rattle.stomach.specs.Ran.{RuledTo, FreeTo, RanTo, StoppedTo};
@@ -13,11 +14,11 @@ ghost use Rattle.stomach.specs.Ran.{RuledTo, FreeTo, RanTo, StoppedTo};
 use crate::ahead::{has_token, read_ahead};
 use crate::early::Early;
 use crate::files::{close_ended, open_file};
-use crate::innermost::Innermost;
-use crate::rules::rule;
+use crate::innermost::{Innermost, wanted};
+use crate::rules::{rule, rule_of_token};
 use engine_state::{Engine, Ruled};
 use line_reader::Readers;
-use tex_syntax::Outcome;
+use tex_syntax::{Outcome, Want};
 use world_io::{Files, Sink};
 
 /// How a run came to its end.
@@ -34,6 +35,17 @@ fn needs_step(engine: &Engine, wants: bool) -> bool
     ensures { result ≡ plain_needs_step engine.now }
 {
     engine.input.has_next() || wants && engine.input.is_ready()
+}
+
+/// How the next token is wanted, where it is at hand: a list or a call in front has it left.
+#[inline(always)]
+fn at_hand(engine: &Engine) -> Option<Option<Want>>
+    ensures { IfSome result (λ want. IsAtHand engine.now want) }
+{
+    match wanted(engine) {
+        Some(want) if has_token(engine, true) => Some(want),
+        _ => None,
+    }
 }
 
 /// Does one rule of the machine, with at most one step. The reader of a file that ends is closed.
@@ -141,7 +153,8 @@ pub fn run_steps<F: Files, S: Sink>(
     ended
 }
 
-/// Goes on for at most n steps; that the run has stopped isn't noted.
+/// Goes on for at most n steps; that the run has stopped isn't noted. The first case is the step of a token at hand.
+#[inline(never)]
 fn make_run<F: Files, S: Sink>(
     engine: &mut Engine,
     readers: &mut Readers,
@@ -163,6 +176,18 @@ fn make_run<F: Files, S: Sink>(
     let mut taken = 0;
     let mut innermost = Innermost::none();
     loop {
+        if taken != n {
+            if let Some(want) = at_hand(engine) {
+                match rule_of_token(engine, out, want)? {
+                    Ruled::Halted(outcome) => return Ok(Ended::Halted(outcome)),
+                    Ruled::Step => {
+                        taken += 1;
+                        continue;
+                    }
+                    Ruled::Free => unreachable!(),
+                }
+            }
+        }
         if let Some(outcome) = run_to_step(engine, &mut innermost, readers, files, out)? {
             return Ok(Ended::Halted(outcome));
         }

@@ -13,6 +13,8 @@ use Rattle.plain_tokens.specs.Pending.{Pending, bottom, with_next}
 use Rattle.plain_tokens.specs.Tables.{string, full, refused, text_level, open_files}
 use Rattle.equivalents.specs.Parameters.{style_in}
 use Rattle.plain_state.specs.Reports.{missing_file_bytes, emergency, no_file_line}
+use Rattle.plain_machine.specs.declared.broken.Broken.{Broken}
+use Rattle.plain_machine.specs.declared.broken.Broken.TheVariants as broken
 use Rattle.plain_machine.specs.States.{State, Files, Move, Kept, Written, Reported, Stopped, made, no_files}
 use Rattle.plain_machine.specs.Demands.{refusal}
 use Rattle.plain_machine.specs.Extended.{Rests, extended, extended_pending, first_left}
@@ -20,7 +22,7 @@ use Rattle.plain_machine.specs.Numbers.{pending_of}
 use Rattle.plain_machine.specs.Plan.{Page, style_of, behind_report, no_file, file_missing, job_due, unless_found}
 use Rattle.plain_machine.specs.Runs.{Wrote, made_all, steps}
 use Rattle.plain_machine.specs.Bounded.{FitMoves}
-use Rattle.plain_machine.specs.Does.{Did, Cut, IsCause, Why, IsFault, CutAt, IsFull, IsWant, Refuses, but_due, front_of}
+use Rattle.plain_machine.specs.Does.{Did, Cut, IsCause, CutAt, Refuses, but_due, front_of}
 use Rattle.plain_machine.specs.Meaning.{First, Line, Whole, Ending, Status, IsFinished, IsFlawed, IsFatal, IsFullTable, IsSteps, IsReadFault, IsWriteFault, IsNoMemory, Says, IsHeldAs, AreHeldAs, MeansRun, Means, sizes_of, steps_line, full_line, read_fault_line, write_fault_line, no_memory_line}
 use Rattle.plain_machine.proofs.Extending.{moves_did, moves_cut}
 use Rattle.plain_machine.proofs.Doing.{later_on, rose_to, did_join, due_did, due_cut, cut_later, CutOff, full_end, full_wrote, wrote_none}
@@ -34,9 +36,6 @@ use Rattle.line_reader.specs.Readers as readers
 use Rattle.engine_state.specs.declared.engine.Engine.{Engine}
 use Rattle.stomach.specs.declared.runs.Ended.{Ended}
 use Rattle.stomach.specs.declared.runs.Ended.TheVariants.{Halted, Steps}
-use Rattle.engine_state.specs.declared.broken.Broken.{Broken}
-use Rattle.engine_state.specs.declared.broken.Broken.TheVariants as broken
-use Rattle.engine_state.specs.Faults.{why_of}
 use Rattle.engine_state.specs.First.{Begins}
 use Rattle.engine_state.specs.Book.{first_book}
 use Rattle.engine_state.specs.Stands.{Stands, state_of, page_of, own_style}
@@ -53,19 +52,19 @@ use Rattle.engine_state.proofs.CallKept.{frames_kept}
 -- A RUN'S STATUS
 
 module _ (sizes : Sizes) (s t : State) (n : ℕ) (w m w' : World) where
-  pub broken_fault : (b : Broken) → b ≡ broken.WriteFault → CutAt sizes s n t w m (why_of b) → Line m w' write_fault_line → SaysSo sizes s n w w' 6
+  pub broken_fault : (b : Broken) → b ≡ broken.WriteFault → CutAt sizes s n t w m b → Line m w' write_fault_line → SaysSo sizes s n w w' 6
   broken_fault b is cut last =
-      let c : CutAt sizes s n t w m IsFault = subst (λ (x : Broken). CutAt sizes s n t w m (why_of x)) is cut in
+      let c : CutAt sizes s n t w m broken.WriteFault = subst (CutAt sizes s n t w m) is cut in
       record { is = IsWriteFault; says = record { t = t; between = m; cut = c; last = last } }
 
-  pub broken_want : (b : Broken) → b ≡ broken.Want → CutAt sizes s n t w m (why_of b) → Line m w' no_memory_line → SaysSo sizes s n w w' 7
+  pub broken_want : (b : Broken) → b ≡ broken.Want → CutAt sizes s n t w m b → Line m w' no_memory_line → SaysSo sizes s n w w' 7
   broken_want b is cut last =
-      let c : CutAt sizes s n t w m IsWant = subst (λ (x : Broken). CutAt sizes s n t w m (why_of x)) is cut in
+      let c : CutAt sizes s n t w m broken.Want = subst (CutAt sizes s n t w m) is cut in
       record { is = IsNoMemory; says = inl (record { t = t; between = m; cut = c; last = last }) }
 
-  pub broken_full : (b : Broken) (full : FullTable) → b ≡ broken.Full full → CutAt sizes s n t w m (why_of b) → Line m w' (full_line full) → SaysSo sizes s n w w' 3
+  pub broken_full : (b : Broken) (full : FullTable) → b ≡ broken.Full full → CutAt sizes s n t w m b → Line m w' (full_line full) → SaysSo sizes s n w w' 3
   broken_full b full is cut last =
-      let c : CutAt sizes s n t w m (IsFull full) = subst (λ (x : Broken). CutAt sizes s n t w m (why_of x)) is cut in
+      let c : CutAt sizes s n t w m (broken.Full full) = subst (CutAt sizes s n t w m) is cut in
       record {
         is = IsFullTable;
         says = record {
@@ -136,7 +135,7 @@ due_moves : (sizes : Sizes) (s s' : State) (w w' : World) (ms : List Move) → s
 due_moves sizes s s' w w' ms none d =
     subst (FitMoves sizes (record s { due = ms }) ms) (due_none s' none) (due_did sizes (record s { due = ms }) (record s' { due = ms }) w w' ms refl (did_due sizes s s' w w' ms ms d))
 
-cut_due : (sizes : Sizes) (s s' : State) (w w' : World) (ms x : List Move) (why : Why) → Cut sizes s s' w w' ms why → Cut sizes (record s { due = x }) (record s' { due = x }) w w' ms why
+cut_due : (sizes : Sizes) (s s' : State) (w w' : World) (ms x : List Move) (why : Broken) → Cut sizes s s' w w' ms why → Cut sizes (record s { due = x }) (record s' { due = x }) w w' ms why
 cut_due sizes s s' w w' ms x why c = record {
   done = c.done;
   m = c.m;
@@ -150,7 +149,7 @@ cut_due sizes s s' w w' ms x why c = record {
   written = c.written;
 }
 
-cut_from_due : (sizes : Sizes) (s at : State) (w w' : World) (ms : List Move) (n : ℕ) (why : Why) → steps ms ≤ n → Cut sizes s at w w' ms why →
+cut_from_due : (sizes : Sizes) (s at : State) (w w' : World) (ms : List Move) (n : ℕ) (why : Broken) → steps ms ≤ n → Cut sizes s at w w' ms why →
     (t : State) × CutAt sizes (record s { due = ms }) n t w w' why
 cut_from_due sizes s at w w' ms n why le cut =
     let off : CutOff sizes (record s { due = ms }) (record at { due = ms }) n w w' why =
@@ -167,7 +166,7 @@ kept_wrote : (w : World) (bytes : List ℕ) → Wrote w w (Kept bytes ∷ [])
 kept_wrote w bytes = kept_on w w bytes (wrote_none w)
 
 -- one move is cut off: it is this that is refused
-module _ (sizes : Sizes) (s : State) (m : Move) (why : Why) where
+module _ (sizes : Sizes) (s : State) (m : Move) (why : Broken) where
   refused_first : (done : List Move) (x : Move) (rest : List Move) (at : State) → m ∷ [] ≡ done ++ x ∷ rest → made_all done s ≡ at → Refuses sizes why x at → Refuses sizes why m s
   refused_first [] x rest at all state h =
       let same : x ≡ m = cc (all) in
@@ -176,11 +175,11 @@ module _ (sizes : Sizes) (s : State) (m : Move) (why : Why) where
   refused_first (y ∷ z ∷ done) x rest at all state h = absurd (cc (all))
 
 -- whether a name has room is told by the names and the strings
-refused_alike : (sizes : Sizes) (why : Why) (bytes : List ℕ) (s t : State) → s.names ≡ t.names → s.strings ≡ t.strings → Refuses sizes why (Kept bytes) s → Refuses sizes why (Kept bytes) t
-refused_alike sizes (IsFull full) bytes s t names strings h =
+refused_alike : (sizes : Sizes) (why : Broken) (bytes : List ℕ) (s t : State) → s.names ≡ t.names → s.strings ≡ t.strings → Refuses sizes why (Kept bytes) s → Refuses sizes why (Kept bytes) t
+refused_alike sizes (broken.Full full) bytes s t names strings h =
     subst (λ (x : List (List ℕ)). refused sizes (string bytes x t.strings) ≡ Some full) names (subst (λ (x : List (List ℕ)). refused sizes (string bytes s.names x) ≡ Some full) strings h)
-refused_alike sizes IsFault bytes s t names strings h = absurd h
-refused_alike sizes IsWant bytes s t names strings h = absurd h
+refused_alike sizes broken.WriteFault bytes s t names strings h = absurd h
+refused_alike sizes broken.Want bytes s t names strings h = absurd h
 
 -- an engine that was just made keeps the job's name
 module _ (sizes : Sizes) (e e' : Engine) (quiet : Bool) (file name : List ℕ) (is : name ≡ job_name file) (begins : Begins sizes e quiet) (f : FilesTold) (a : SinkTold) where
@@ -204,13 +203,13 @@ module _ (sizes : Sizes) (e e' : Engine) (quiet : Bool) (file name : List ℕ) (
       }
 
   -- a name for which a table has no room is refused whatever the file is
-  pub name_refused : (job : Option (List ℕ)) (all : Files) (n : ℕ) (b : Broken) (column : Bool) → column ≡ false → Cuts sizes (state_of e first_book) e' first_book first_world first_world (Kept name ∷ []) b → CutAt sizes (First quiet file job all) n (First quiet file job all) first_world (world f a column) (why_of b)
+  pub name_refused : (job : Option (List ℕ)) (all : Files) (n : ℕ) (b : Broken) (column : Bool) → column ≡ false → Cuts sizes (state_of e first_book) e' first_book first_world first_world (Kept name ∷ []) b → CutAt sizes (First quiet file job all) n (First quiet file job all) first_world (world f a column) b
   name_refused job all n b column none h =
       let cuts : Cuts sizes (state_of e first_book) e' first_book first_world first_world (Kept (job_name file) ∷ []) b =
       subst (λ (x : List ℕ). Cuts sizes (state_of e first_book) e' first_book first_world first_world (Kept x ∷ []) b) is h in
       let c = cuts.cut in
       let s = state_of e first_book in
-      subst (λ (x : Bool). CutAt sizes (First quiet file job all) n (First quiet file job all) first_world (world f a x) (why_of b)) (sym none) (record {
+      subst (λ (x : Bool). CutAt sizes (First quiet file job all) n (First quiet file job all) first_world (world f a x) b) (sym none) (record {
         ms = [];
         m = Kept (job_name file);
         u = made (Kept (job_name file)) (record (First quiet file job all) { due = file_missing first_style file job });
@@ -218,8 +217,8 @@ module _ (sizes : Sizes) (e e' : Engine) (quiet : Bool) (file name : List ℕ) (
         moves = refl;
         goes = next_due (First quiet file job all) (Kept (job_name file)) (file_missing first_style file job) refl;
         room = omega arith;
-        refuses = refused_alike sizes (why_of b) (job_name file) s (First quiet file job all) (ap (λ (x : State). x.names) (begins.state file)) (ap (λ (x : State). x.strings) (begins.state file))
-            (refused_first sizes s (Kept (job_name file)) (why_of b) c.done c.m c.rest cuts.at c.all c.state c.refuses);
+        refuses = refused_alike sizes b (job_name file) s (First quiet file job all) (ap (λ (x : State). x.names) (begins.state file)) (ap (λ (x : State). x.strings) (begins.state file))
+            (refused_first sizes s (Kept (job_name file)) b c.done c.m c.rest cuts.at c.all c.state c.refuses);
         cause = c.cause;
         written = wrote_none first_world;
       })
@@ -378,15 +377,15 @@ module _ (sizes : Sizes) (e e' : Engine) (quiet : Bool) (file : List ℕ) (h : N
         };
       }
 
-  pub refused_cut : (k : Broken) → Cuts sizes (state_of e first_book) e' first_book (world_of f a e) after (unless_found (page_of e first_book) file None) k → (t : State) × CutAt sizes (First quiet file None all) n t before after (why_of k)
+  pub refused_cut : (k : Broken) → Cuts sizes (state_of e first_book) e' first_book (world_of f a e) after (unless_found (page_of e first_book) file None) k → (t : State) × CutAt sizes (First quiet file None all) n t before after k
   refused_cut k cuts =
       let s = but_due (First quiet file None all) in
       let x : Cuts sizes (state_of e first_book) e' first_book before after (no_file first_style file) k =
       subst (λ (y : World). Cuts sizes (state_of e first_book) e' first_book y after (no_file first_style file) k) same_world
       (subst (λ (y : List Move). Cuts sizes (state_of e first_book) e' first_book (world_of f a e) after y k) first_page cuts) in
-      let cut = moves_cut sizes (state_of e first_book) x.at none_left (no_file first_style file) (why_of k) (tt, (tt, (tt, (tt, tt)))) before after x.cut in
-      cut_from_due sizes s (extended none_left x.at) before after (job_due first_style file None) n (why_of k) (omega arith)
-      (cut_later sizes s (extended none_left (state_of e first_book)) (extended none_left x.at) before before after (Kept (job_name file) ∷ []) (no_file first_style file) (why_of k) (named_did sizes e quiet file h all before) cut)
+      let cut = moves_cut sizes (state_of e first_book) x.at none_left (no_file first_style file) k (tt, (tt, (tt, (tt, tt)))) before after x.cut in
+      cut_from_due sizes s (extended none_left x.at) before after (job_due first_style file None) n k (omega arith)
+      (cut_later sizes s (extended none_left (state_of e first_book)) (extended none_left x.at) before before after (Kept (job_name file) ∷ []) (no_file first_style file) k (named_did sizes e quiet file h all before) cut)
 
 -- AND THEN NOTHING IS WRITTEN
 
@@ -402,14 +401,14 @@ module _ (w m w' : World) (quiet : Wrote m w' []) where
   line_on : (line : List ℕ) → Line w m line → Line w w' line
   line_on line h = record { count = h.count; written = wrote_on _ h.written; whole = line_whole _ h.whole }
 
-  cause_still : (why : Why) → IsCause why w m → IsCause why w w'
-  cause_still (IsFull full) h = tt
-  cause_still IsFault (inl h) = inl (rose_to _ _ _ h quiet.later.file_faults)
-  cause_still IsFault (inr h) = inr (rose_to _ _ _ h quiet.later.sink_faults)
-  cause_still IsWant (inl h) = inl (rose_to _ _ _ h quiet.later.file_wants)
-  cause_still IsWant (inr h) = inr (rose_to _ _ _ h quiet.later.sink_wants)
+  cause_still : (why : Broken) → IsCause why w m → IsCause why w w'
+  cause_still (broken.Full full) h = tt
+  cause_still broken.WriteFault (inl h) = inl (rose_to _ _ _ h quiet.later.file_faults)
+  cause_still broken.WriteFault (inr h) = inr (rose_to _ _ _ h quiet.later.sink_faults)
+  cause_still broken.Want (inl h) = inl (rose_to _ _ _ h quiet.later.file_wants)
+  cause_still broken.Want (inr h) = inr (rose_to _ _ _ h quiet.later.sink_wants)
 
-  cut_on : (sizes : Sizes) (s : State) (n : ℕ) (t : State) (why : Why) → CutAt sizes s n t w m why → CutAt sizes s n t w w' why
+  cut_on : (sizes : Sizes) (s : State) (n : ℕ) (t : State) (why : Broken) → CutAt sizes s n t w m why → CutAt sizes s n t w w' why
   cut_on sizes s n t why h = record {
     ms = h.ms;
     m = h.m;
@@ -424,7 +423,7 @@ module _ (w m w' : World) (quiet : Wrote m w' []) where
   }
 
   pub stopped_on : (sizes : Sizes) (s : State) (n : ℕ) (e : Engine) (left : Rests) (x : Early) → StoppedBy sizes s n e left w m x → StoppedBy sizes s n e left w w' x
-  stopped_on sizes s n e left (early.Broken b) h = record { t = h.t; cut = cut_on sizes s n h.t (why_of b) h.cut; book' = h.book'; frames = h.frames; same = h.same }
+  stopped_on sizes s n e left (early.Broken b) h = record { t = h.t; cut = cut_on sizes s n h.t b h.cut; book' = h.book'; frames = h.frames; same = h.same }
   stopped_on sizes s n e left (early.Unread fault) h = record {
     t = h.t;
     read = record { ms = h.read.ms; moves = h.read.moves; within = h.read.within; needs = h.read.needs; written = wrote_on h.read.ms h.read.written };
@@ -633,7 +632,7 @@ bare_alike a a' = record { file = λ name. refl; read_faults = omega arith; writ
 
 -- over whatever files: a write to the transcript failed
 module _ (f : FilesTold) (none : f.write_faults ≡ 0) (a b : SinkTold) (c d : Bool) where
-  of_cause : (m : World) → IsCause IsFault (world bare a c) m → Later m (world f b d) → Rose a.faults b.faults
+  of_cause : (m : World) → IsCause broken.WriteFault (world bare a c) m → Later m (world f b d) → Rose a.faults b.faults
   of_cause m (inl h) later =
       let rose : Rose 0 m.file_faults = h in
       let on : m.file_faults ≤ f.write_faults = later.file_faults in

@@ -2,6 +2,7 @@
 use Rattle.std.specs.Prelude.{◌≡◌, ℕ, Bool, false, List, Some, None}
 use Rattle.tex_defs.specs.Places.{World, Rose}
 use Rattle.tex_defs.specs.declared.Sizes.{Sizes}
+use Rattle.plain_machine.specs.declared.broken.Broken.{Broken}
 use Rattle.plain_machine.specs.States.{State, Files}
 use Rattle.plain_machine.specs.Does.{CutAt}
 use Rattle.plain_machine.specs.Meaning.{First, MeansRun}
@@ -10,16 +11,14 @@ use Rattle.world_io.specs.Contents.{FilesTold, SinkTold, world}
 use Rattle.line_reader.specs.Readers.{OpenReaders}
 use Rattle.stomach.specs.Read.{AreTied}
 use Rattle.stomach.specs.declared.early.Early.{Early}
-use Rattle.engine_state.specs.declared.broken.Broken.{Broken}
 use Rattle.engine_state.specs.declared.engine.Engine.{Engine}
-use Rattle.engine_state.specs.Faults.{why_of}
 use Rattle.tex_program.specs.Says.{SaysSo, ReadAlike, HasReadCause}
 use Rattle.tex_program.specs.Named.{Named, Opened}
 use Rattle.tex_program.specs.declared.run.RunEnd.{RunEnd}
 
 -- Of whatever run was cut off so, the status and what is written then say so.
 abbrev pub TellsCut : (before after : SinkTold) → (in_line : Bool) → Broken → RunEnd → Type 0
-TellsCut before after in_line b told = (sizes : Sizes) (f : FilesTold) (s t : State) (n : ℕ) (w : World) → CutAt sizes s n t w (world f before in_line) (why_of b) →
+TellsCut before after in_line b told = (sizes : Sizes) (f : FilesTold) (s t : State) (n : ℕ) (w : World) → CutAt sizes s n t w (world f before in_line) b →
     SaysSo sizes s n w (world f after told.in_line) told.status
 
 -- Of whatever run stopped so, for such a cause, they say so.

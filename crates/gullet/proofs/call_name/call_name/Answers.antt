@@ -4,6 +4,7 @@ use Rattle.tex_defs.specs.declared.Sizes.{Sizes}
 use Rattle.tex_defs.specs.declared.Seen.{Seen}
 use Rattle.tex_defs.specs.Places.{World}
 use Rattle.plain_tokens.specs.Meanings.{name_meaning, seen_as}
+use Rattle.plain_machine.specs.declared.broken.Broken.TheVariants as broken
 use Rattle.plain_machine.specs.Plan.{Page, called}
 use Rattle.input_state.specs.Calls.{call_kind}
 use Rattle.input_state.specs.Stored.{Stored}
@@ -12,7 +13,6 @@ use Rattle.engine_state.specs.Clauses.{GoesFree}
 use Rattle.engine_state.specs.Rules.{Cuts, Went}
 use Rattle.engine_state.specs.Stands.{Stands, state_of, page_of}
 use Rattle.plain_machine.specs.Weights.{pending_weight}
-use Rattle.engine_state.specs.declared.broken.Broken.TheVariants as broken
 use Rattle.engine_state.specs.declared.engine.Engine.{Engine}
 use Rattle.engine_state.proofs.Uncalled.{all_of}
 use Rattle.engine_state.proofs.Counting.{counts_of}

@@ -7,9 +7,9 @@ use Rattle.plain_readings.specs.Weights.{act_weight}
 use Rattle.reading_frames.specs.Stack.{Stack}
 use Rattle.reading_frames.specs.Weights.{frames_weight, innermost_weight}
 use Rattle.reading_frames.specs.declared.ask.Opening.TheVariants.{Reads as OpensRow}
+use Rattle.plain_machine.specs.declared.broken.Broken.TheVariants as broken
 use Rattle.plain_machine.specs.Plan.{conditional_begun}
 use Rattle.plain_machine.specs.States.{Begun, ConditionOpened}
-use Rattle.engine_state.specs.declared.broken.Broken.TheVariants as broken
 use Rattle.engine_state.specs.declared.engine.Engine.{Engine}
 use Rattle.engine_state.specs.Book.{with_work}
 use Rattle.engine_state.specs.Stands.{state_of, page_of}

@@ -3,9 +3,9 @@ use Rattle.tex_syntax.specs.declared.words.Report.TheVariants.{UndefinedName}
 use Rattle.input_state.specs.Stored.{Stored}
 use Rattle.reading_frames.specs.Views.{reading_kind}
 use Rattle.conditionals.specs.Open.{constant_test}
+use Rattle.plain_machine.specs.declared.broken.Broken.TheVariants as broken
 use Rattle.plain_machine.specs.Plan.{reported, called, input_met, conditional_begun, ender_met, expanded}
 use Rattle.plain_machine.specs.States.{Begun, FileEnds}
-use Rattle.engine_state.specs.declared.broken.Broken.TheVariants as broken
 use Rattle.engine_state.specs.declared.engine.Engine.{Engine}
 use Rattle.engine_state.specs.Stands.{state_of, page_of}
 use Rattle.plain_machine.specs.Weights.{pending_weight}

@@ -1,9 +1,9 @@
 use Rattle.std.proofs.Common.{[], ◌∷◌, ◌++◌}
 use Rattle.reading_frames.specs.Views.{reading_kind}
 use Rattle.plain_readings.specs.Readings.{opened}
+use Rattle.plain_machine.specs.declared.broken.Broken.TheVariants as broken
 use Rattle.plain_machine.specs.Plan.{job_in, put_characters}
 use Rattle.plain_machine.specs.States.{Begun, Closed}
-use Rattle.engine_state.specs.declared.broken.Broken.TheVariants as broken
 use Rattle.engine_state.specs.Book.{with_work}
 use Rattle.engine_state.proofs.Counting.{counts_of}
 use Rattle.gullet.proofs.JobName.{full_in, name_stands, job_cuts, job_went}

@@ -2,9 +2,9 @@ use Rattle.std.proofs.Common.{◌≡◌, ◌∙◌, [], ◌∷◌, refl, List}
 use Rattle.rows.specs.Readings.{Defines}
 use Rattle.reading_frames.specs.Views.{kept_list_of, top_list}
 use Rattle.reading_frames.specs.Stack.{innermost_count}
+use Rattle.plain_machine.specs.declared.broken.Broken.TheVariants as broken
 use Rattle.plain_machine.specs.States.{Move, Defined}
 use Rattle.plain_machine.specs.Plan.{is_global}
-use Rattle.engine_state.specs.declared.broken.Broken.TheVariants as broken
 use Rattle.engine_state.specs.Book.{with_work}
 use Rattle.engine_state.specs.Stands.{page_of, state_of}
 use Rattle.engine_state.proofs.CuttingReadings.{in_by}

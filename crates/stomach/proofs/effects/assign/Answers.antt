@@ -1,5 +1,5 @@
 use Rattle.plain_tokens.specs.Meanings.{meaning_to_let}
-use Rattle.engine_state.specs.declared.broken.Broken.TheVariants as broken
+use Rattle.plain_machine.specs.declared.broken.Broken.TheVariants as broken
 use Rattle.engine_state.specs.Stands.{page_of}
 use Rattle.engine_state.proofs.Joining.{same_err}
 use Rattle.stomach.proofs.Assigning.{assigned_did, assigned_stands, named_cuts}

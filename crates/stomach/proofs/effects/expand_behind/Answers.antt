@@ -1,7 +1,7 @@
 use Rattle.std.proofs.Common.{[], ◌∙◌}
 use Rattle.plain_readings.specs.Readings.{Behind}
-use Rattle.engine_state.specs.declared.broken.Broken.TheVariants as broken
 use Rattle.engine_state.specs.declared.outcome.Ruled.TheVariants.{Step, Halted}
+use Rattle.plain_machine.specs.declared.broken.Broken.TheVariants as broken
 use Rattle.plain_machine.specs.Plan.{put_one}
 use Rattle.engine_state.proofs.Counting.{counts_of}
 use Rattle.gullet.proofs.Expanding.{stayed}

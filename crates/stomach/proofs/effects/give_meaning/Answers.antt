@@ -1,5 +1,5 @@
 use Rattle.meanings.specs.Kept.{without_list}
-use Rattle.engine_state.specs.declared.broken.Broken.TheVariants as broken
+use Rattle.plain_machine.specs.declared.broken.Broken.TheVariants as broken
 use Rattle.engine_state.proofs.Joining.{same_err}
 use Rattle.stomach.proofs.Assigning.{bare_did, bare_stands, named_cuts}
 use Rattle.stomach.proofs.effects.give_meaning.Goals as goal

@@ -1,5 +1,5 @@
 use Rattle.equivalents.specs.declared.values.Val.TheVariants as val
-use Rattle.engine_state.specs.declared.broken.Broken.TheVariants as broken
+use Rattle.plain_machine.specs.declared.broken.Broken.TheVariants as broken
 use Rattle.engine_state.proofs.Joining.{same_err, when_true}
 use Rattle.stomach.proofs.ActingAlone.{value_did, value_cuts, value_stands, glue_location}
 use Rattle.stomach.proofs.effects.set_glue.Goals as goal

@@ -1,7 +1,7 @@
 use Rattle.std.proofs.lemmas.Int.{to_z-of_z}
 use Rattle.std.proofs.Common.{w32}
 use Rattle.equivalents.specs.declared.values.Val.TheVariants as val
-use Rattle.engine_state.specs.declared.broken.Broken.TheVariants as broken
+use Rattle.plain_machine.specs.declared.broken.Broken.TheVariants as broken
 use Rattle.engine_state.proofs.Joining.{same_err}
 use Rattle.stomach.proofs.ActingAlone.{value_did, value_cuts, value_stands}
 use Rattle.stomach.proofs.effects.set_number.Goals as goal

@@ -5,11 +5,11 @@ use Rattle.tex_defs.specs.declared.Fatal.TheVariants as fatal
 use Rattle.equivalents.specs.First.{magnification}
 use Rattle.equivalents.specs.declared.values.Loc.TheVariants as loc
 use Rattle.equivalents.specs.declared.values.Val.TheVariants as val
+use Rattle.plain_machine.specs.declared.broken.Broken.TheVariants as broken
 use Rattle.plain_machine.specs.States.{MagnificationSet, Set}
 use Rattle.plain_machine.specs.Plan.{magnification_set, noting}
 use Rattle.plain_machine.proofs.Doing.{did_join}
 use Rattle.input_state.specs.Stored.{Stored}
-use Rattle.engine_state.specs.declared.broken.Broken.TheVariants as broken
 use Rattle.engine_state.specs.Book.{with_work}
 use Rattle.engine_state.specs.Rules.{world_of}
 use Rattle.engine_state.specs.Stands.{state_of}

@@ -1,10 +1,10 @@
 use Rattle.std.proofs.Common.{◌≡◌, Bool, [], ◌∷◌, subst, rules}
 use Rattle.tex_defs.specs.declared.Meaning.TheVariants as means
 use Rattle.plain_tokens.specs.Names.{relax_primitive}
+use Rattle.plain_machine.specs.declared.broken.Broken.TheVariants as broken
 use Rattle.plain_machine.specs.Plan.{is_global, noting}
 use Rattle.plain_machine.specs.States.{Assigned}
 use Rattle.plain_machine.specs.Does.{Did}
-use Rattle.engine_state.specs.declared.broken.Broken.TheVariants as broken
 use Rattle.engine_state.specs.Book.{with_work}
 use Rattle.engine_state.specs.Rules.{Cuts}
 use Rattle.engine_state.specs.Stands.{page_of, state_of}

@@ -1,6 +1,7 @@
 use Rattle.std.proofs.Common.{◌≡◌, ◌∙◌, ℕ, List, [], ◌∷◌, refl, sym, ap, subst}
 use Rattle.std.specs.Prelude.{Bool, true, false, Option, None, Some, Ok, Err, Result}
 use Rattle.plain_readings.specs.Readings.{Reading}
+use Rattle.plain_machine.specs.declared.broken.Broken.TheVariants as broken
 use Rattle.plain_machine.specs.Extended.{Rests, rests_before_opening}
 use Rattle.plain_machine.specs.Plan.{unless_found}
 use Rattle.input_state.specs.Stored.{Stored}
@@ -21,7 +22,6 @@ use Rattle.reading_frames.specs.Frames as frames
 use Rattle.world_io.specs.Contents.{world}
 use Rattle.engine_state.specs.declared.engine.Engine.{Engine}
 use Rattle.engine_state.specs.declared.outcome.Ruled.{Ruled}
-use Rattle.engine_state.specs.declared.broken.Broken.TheVariants as broken
 use Rattle.engine_state.specs.Book.{Book, with_work}
 use Rattle.engine_state.specs.Steps.{asked}
 use Rattle.stomach.specs.declared.early.Early.{Early}

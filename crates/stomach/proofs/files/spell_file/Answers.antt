@@ -4,10 +4,10 @@ use Rattle.plain_tokens.specs.Tokens.{character_codes}
 use Rattle.plain_tokens.specs.Tables.{spelt_name, refused}
 use Rattle.command_words.specs.Words.{has, behind_area, file_name}
 use Rattle.reading_frames.specs.Views.{kept_list_of}
+use Rattle.plain_machine.specs.declared.broken.Broken.TheVariants as broken
 use Rattle.plain_machine.specs.States.{Spelt}
 use Rattle.plain_machine.specs.Does.{Did}
 use Rattle.input_state.specs.Stored.{Stored}
-use Rattle.engine_state.specs.declared.broken.Broken.TheVariants as broken
 use Rattle.engine_state.specs.Stands.{state_of}
 use Rattle.engine_state.proofs.Joining.{same_err}
 use Rattle.stomach.specs.Naming.{OnlySpelt}

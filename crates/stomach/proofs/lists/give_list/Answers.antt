@@ -1,9 +1,9 @@
 use Rattle.std.proofs.Common.{◌∙◌, [], ◌∷◌, ◌++◌, List, ap, refl, sym, true, false}
 use Rattle.std.proofs.lemmas.List.{append-nil}
+use Rattle.plain_machine.specs.declared.broken.Broken.TheVariants as broken
 use Rattle.plain_machine.specs.States.{Move, Closed}
 use Rattle.plain_machine.specs.Plan.{list_given, list_number}
 use Rattle.plain_machine.proofs.Doing.{did_one}
-use Rattle.engine_state.specs.declared.broken.Broken.TheVariants as broken
 use Rattle.engine_state.specs.Book.{with_work}
 use Rattle.engine_state.specs.Lists.{with_list}
 use Rattle.engine_state.specs.Stands.{page_of, state_of}

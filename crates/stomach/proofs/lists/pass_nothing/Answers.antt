@@ -1,10 +1,10 @@
 use Rattle.std.proofs.Common.{◌∙◌, ◌∷◌, ap, refl, None, Some}
 use Rattle.equivalents.specs.declared.values.Val.TheVariants as val
+use Rattle.plain_machine.specs.declared.broken.Broken.TheVariants as broken
 use Rattle.plain_machine.specs.States.{Set, Closed}
 use Rattle.plain_machine.proofs.Doing.{did_one}
 use Rattle.plain_machine.proofs.GroupNumbers.{set_demands_of}
 use Rattle.input_state.specs.Stored.{Stored}
-use Rattle.engine_state.specs.declared.broken.Broken.TheVariants as broken
 use Rattle.engine_state.specs.Book.{with_work}
 use Rattle.engine_state.specs.Stands.{state_of}
 use Rattle.plain_machine.specs.Weights.{pending_weight}

@@ -4,9 +4,9 @@ use Rattle.rows.specs.Readings.{ActsOn}
 use Rattle.rows.specs.declared.command.Effect.TheVariants.{SetList}
 use Rattle.reading_frames.specs.Views.{kept_list_of, top_list}
 use Rattle.reading_frames.specs.Stack.{innermost_count}
+use Rattle.plain_machine.specs.declared.broken.Broken.TheVariants as broken
 use Rattle.plain_machine.specs.States.{Move, Closed, ListSet, Set}
 use Rattle.plain_machine.specs.Plan.{is_global}
-use Rattle.engine_state.specs.declared.broken.Broken.TheVariants as broken
 use Rattle.engine_state.specs.Book.{with_work}
 use Rattle.engine_state.specs.Stands.{page_of, state_of}
 use Rattle.engine_state.proofs.CuttingReadings.{in_by}

@@ -1,6 +1,6 @@
 use Rattle.equivalents.specs.Locations.{IsTokens}
 use Rattle.equivalents.specs.Tables.{get}
-use Rattle.engine_state.specs.declared.broken.Broken.TheVariants as broken
+use Rattle.plain_machine.specs.declared.broken.Broken.TheVariants as broken
 use Rattle.engine_state.specs.Stands.{page_of}
 use Rattle.engine_state.proofs.Joining.{same_err}
 use Rattle.stomach.proofs.ActingAlone.{value_cuts}

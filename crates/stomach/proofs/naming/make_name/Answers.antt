@@ -2,8 +2,8 @@ use Rattle.std.proofs.Common.{◌++◌}
 use Rattle.tex_defs.specs.declared.Token.TheVariants.{Named}
 use Rattle.plain_tokens.specs.Tokens.{character_codes}
 use Rattle.reading_frames.specs.Views.{kept_list_of}
+use Rattle.plain_machine.specs.declared.broken.Broken.TheVariants as broken
 use Rattle.plain_machine.specs.Plan.{put_one}
-use Rattle.engine_state.specs.declared.broken.Broken.TheVariants as broken
 use Rattle.input_state.specs.Stored.{spelt}
 use Rattle.engine_state.specs.Stands.{page_of}
 use Rattle.engine_state.proofs.Counting.{counts_of}

@@ -2,7 +2,7 @@ use Rattle.std.proofs.Common.{ap}
 use Rattle.plain_tokens.specs.Tokens.{character_codes}
 use Rattle.reading_frames.specs.Views.{kept_list_of}
 use Rattle.input_state.specs.Stored.{Stored}
-use Rattle.engine_state.specs.declared.broken.Broken.TheVariants as broken
+use Rattle.plain_machine.specs.declared.broken.Broken.TheVariants as broken
 use Rattle.engine_state.proofs.Joining.{same_err}
 use Rattle.stomach.proofs.SpeltNames.{spelling_cuts, top_too_long}
 use Rattle.stomach.proofs.naming.spell_list.Goals as goal

@@ -2,8 +2,8 @@ use Rattle.std.proofs.Common.{[], ◌∷◌, sym, ap, refl, false}
 use Rattle.rows.specs.declared.command.Call.{Call}
 use Rattle.rows.specs.declared.words.Phrase.TheVariants.{Command}
 use Rattle.plain_readings.specs.Readings.{Reads}
+use Rattle.plain_machine.specs.declared.broken.Broken.TheVariants as broken
 use Rattle.plain_machine.specs.States.{Begun}
-use Rattle.engine_state.specs.declared.broken.Broken.TheVariants as broken
 use Rattle.engine_state.specs.Stands.{state_of}
 use Rattle.engine_state.proofs.Counting.{counts_of}
 use Rattle.engine_state.proofs.Joining.{same_err, went_by}

@@ -1,12 +1,12 @@
 use Rattle.std.proofs.lemmas.Grind.{common_steps}
-use Rattle.std.proofs.Common.{arith, true, false, ◌∷◌, [], ap, sym, subst, ◌∙◌}
+use Rattle.std.proofs.Common.{arith, true, false, ◌∷◌, [], refl, ap, sym, subst, ◌∙◌}
 use Rattle.std.specs.Prelude.{Option}
 use Rattle.plain_tokens.specs.Pending.{end_token_lists}
+use Rattle.plain_machine.specs.declared.broken.Broken.TheVariants as broken
 use Rattle.plain_machine.specs.States.{Closed}
 use Rattle.reading_frames.specs.Stack.{asks_in}
 use Rattle.reading_frames.specs.Weights.{IsReported}
 use Rattle.input_state.specs.declared.answer.Call.{Call}
-use Rattle.engine_state.specs.declared.broken.Broken.TheVariants as broken
 use Rattle.macro_call.specs.declared.ask.CallAsk.TheVariants as asked
 use Rattle.engine_state.specs.Book.{with_work}
 use Rattle.engine_state.specs.CutReadings.{CutsIn}
@@ -15,30 +15,22 @@ use Rattle.engine_state.specs.Steps as steps
 use Rattle.engine_state.specs.Stands.{state_of}
 use Rattle.engine_state.specs.Rules.{world_of, Cuts, Went}
 use Rattle.engine_state.proofs.CallEnding.{by_call}
-use Rattle.engine_state.proofs.CallWeighing.{call_steps, steps_as_one, free_steps}
+use Rattle.engine_state.proofs.CallWeighing.{call_steps, free_steps}
 use Rattle.engine_state.proofs.CallsIn.{complete_at}
 use Rattle.engine_state.proofs.Cutting.{cuts_by}
 use Rattle.engine_state.proofs.Joining.{column_went, err_both, err_to, ok_both, ok_to, same_err}
 use Rattle.engine_state.proofs.CuttingReadings.{cuts_in, column_in}
 use Rattle.engine_state.proofs.AtLocations.{list_frames}
 use Rattle.gullet.proofs.CallPutting.{put_rule, put_cut}
-use Rattle.gullet.proofs.CallRules.{asks_this, away_is, call_wants}
+use Rattle.gullet.proofs.CallRules.{asks_this, away_is}
 use Rattle.gullet.proofs.Ending.{no_ok, no_on}
+use Rattle.stomach.specs.AtHand.{ByCall}
 use Rattle.stomach.specs.Halting.{DoesRuleIn}
 use Rattle.stomach.proofs.RuleHalts.{rules_by, rules_in}
 use Rattle.stomach.proofs.rules.call_rule.Goals as goal
 
-pub returns-in-More-clause-rule : goal.returns-in-More-clause-rule
-returns-in-More-clause-rule g c = let e = c.args.engine.now in let n = c.token_rule in
-    let is = asks_this e c.args.call asked.More c.requires.call c.in-More.is in
-    ok_both n.result (λ ruled h same sizes f. by_call sizes e _ (λ book plan. DoesRuleIn sizes (state_of e book) n.new.engine (world_of f (g.S.Sink.told c.args.out.now) e) (world_of f (g.S.Sink.told n.new.out) n.new.engine) plan ruled) is
-    (λ book r rs st k. rules_in sizes e n.new.engine (with_work (r ∷ rs) book) _ _ _ ruled st same (h sizes f (with_work (r ∷ rs) book) (call_wants e c.args.call.name is, st)))) n.ensures.rule n.ensures.halts
-
-pub returns-in-More-clause-err : goal.returns-in-More-clause-err
-returns-in-More-clause-err g c = let e = c.args.engine.now in let n = c.token_rule in
-    let is = asks_this e c.args.call asked.More c.requires.call c.in-More.is in
-    err_to n.result (λ b h sizes f. by_call sizes e _ (λ book plan. CutsIn sizes (state_of e book) n.new.engine (world_of f (g.S.Sink.told c.args.out.now) e) (world_of f (g.S.Sink.told n.new.out) n.new.engine) plan b) is
-    (λ book r rs st k. h sizes f (with_work (r ∷ rs) book) (call_wants e c.args.call.name is, st))) n.ensures.err
+pub wanted_rule-requires-clause-wanted : goal.wanted_rule-requires-clause-wanted
+wanted_rule-requires-clause-wanted g c = ByCall c.args.call c.requires.call c.in-More.is refl
 
 pub returns-in-ExtraBrace-clause-rule : goal.returns-in-ExtraBrace-clause-rule
 returns-in-ExtraBrace-clause-rule g c = let e = c.args.engine.now in let n = c.tell in
@@ -99,16 +91,6 @@ returns-in_err-put_call-in-Gathered-clause-err g c = let e = c.args.engine.now i
     (list_frames e n.new.engine (end_token_lists e.input.pending) i.ensures.err) st))
 
 -- WHAT BECOMES LIGHTER, AND WHETHER THERE IS A STEP
-
-pub returns-in-More-clause-light : goal.returns-in-More-clause-light
-returns-in-More-clause-light g c = c.token_rule.ensures.light
-
-pub returns-in-More-clause-step : goal.returns-in-More-clause-step
-returns-in-More-clause-step g c =
-    steps_as_one c.token_rule.result _ _ (sym (call_steps c.args.engine.now _ (asks_this c.args.engine.now c.args.call asked.More c.requires.call c.in-More.is))) c.token_rule.ensures.step
-
-pub returns-in-More-clause-idle : goal.returns-in-More-clause-idle
-returns-in-More-clause-idle g c = c.token_rule.ensures.idle
 
 pub returns-in-ExtraBrace-clause-light : goal.returns-in-ExtraBrace-clause-light
 returns-in-ExtraBrace-clause-light g c =

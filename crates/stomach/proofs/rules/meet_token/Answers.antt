@@ -1,11 +1,12 @@
 use Rattle.std.proofs.Common.{◌≡◌, [], ap, true, false}
+use Rattle.plain_tokens.specs.Meanings.{is_expandable}
 use Rattle.plain_machine.specs.Plan.{expanded}
 use Rattle.engine_state.specs.Stands.{state_of, page_of}
 use Rattle.engine_state.specs.Rules.{onward_of}
 use Rattle.engine_state.proofs.Uncalled.{framed}
 use Rattle.engine_state.proofs.CuttingReadings.{in_by}
 use Rattle.engine_state.proofs.Joining.{ok_to, err_to, onward_by, when_true, when_false}
-use Rattle.gullet.specs.Stepping.{wants_raw, Stays, expands}
+use Rattle.gullet.specs.Stepping.{wants_raw, Stays}
 use Rattle.gullet.proofs.Expanding.{onward_expands}
 use Rattle.stomach.proofs.rules.meet_token.Goals as goal
 
@@ -36,7 +37,7 @@ expand-requires-clause-expands g c = when_false _ _ c.stays.result c.if-stays.fa
 pub returns-clause-rule : goal.returns-clause-rule
 returns-clause-rule g c = let e = c.args.engine.now in let e2 = c.expand.new.engine in let x = c.args.seen in
     let raw : wants_raw c.args.want ≡ false = when_false _ _ c.stays.result c.if-stays.false c.stays.ensures.stays in
-    let is : expands x.meaning ≡ true = when_false _ _ c.stays.result c.if-stays.false c.stays.ensures.expands in
+    let is : is_expandable x.meaning ≡ true = when_false _ _ c.stays.result c.if-stays.false c.stays.ensures.expands in
     ok_to c.expand.result (λ ruled h sizes f book t.
     onward_by sizes (state_of e book) e2 book _ _ (expanded (page_of e book) x []) (onward_of (page_of e book) c.args.want book.work x) ruled (onward_expands (page_of e book) c.args.want book.work x raw is)
     (h sizes f book (framed sizes e book (c.requires.uncalled raw) t.1))) c.expand.ensures.rule
@@ -44,7 +45,7 @@ returns-clause-rule g c = let e = c.args.engine.now in let e2 = c.expand.new.eng
 pub returns-clause-err : goal.returns-clause-err
 returns-clause-err g c = let e = c.args.engine.now in let e2 = c.expand.new.engine in let x = c.args.seen in
     let raw : wants_raw c.args.want ≡ false = when_false _ _ c.stays.result c.if-stays.false c.stays.ensures.stays in
-    let is : expands x.meaning ≡ true = when_false _ _ c.stays.result c.if-stays.false c.stays.ensures.expands in
+    let is : is_expandable x.meaning ≡ true = when_false _ _ c.stays.result c.if-stays.false c.stays.ensures.expands in
     err_to c.expand.result (λ b h sizes f book t.
     in_by sizes (state_of e book) e2 _ _ (expanded (page_of e book) x []) (onward_of (page_of e book) c.args.want book.work x) b (onward_expands (page_of e book) c.args.want book.work x raw is)
     (h sizes f book (framed sizes e book (c.requires.uncalled raw) t.1))) c.expand.ensures.err

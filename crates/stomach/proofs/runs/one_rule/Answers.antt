@@ -12,7 +12,7 @@ use Rattle.stomach.specs.declared.early.Early.TheVariants as early
 use Rattle.stomach.specs.Ran.{Came, CutBy, RuledTo, step_count, whole_state}
 use Rattle.stomach.specs.Ahead.{needs_step}
 use Rattle.stomach.specs.Files.{AreGone}
-use Rattle.stomach.proofs.OneRule.{begun, begun_cut, begun_tied, opened_now, reads_same, rule_done, rule_broken}
+use Rattle.stomach.proofs.OneRule.{begun, begun_cut, begun_tied, opened_now, readers_closed, reads_same, rule_done, rule_broken}
 use Rattle.stomach.proofs.Reading.{reads_map}
 use Rattle.stomach.proofs.RuleAsks.{opens_same}
 use Rattle.stomach.proofs.Rounds.{of_err}
@@ -68,7 +68,7 @@ returns-in_err-ruled-clause-rule g c =
     let k = c.close_ended.ensures in
     reads_map (λ (all left : Rests). AreGone all left _) rs.readers rs'.readers _ _ (λ (all left : Rests). RuledTo rs e s rs' e' s' all left c.from_residual-in_err-ruled.result) k.closed
     (λ all left may may' gone. of_err c.from_residual-in_err-ruled.result (early.Broken b) (λ (r : Result Ruled Early). RuledTo rs e s rs' e' s' all left r) c.from_residual-in_err-ruled.ensures.1
-    (λ sizes f book stands tied. rule_broken rs rs' e e' s s' c.if-has_next.ensures (sym (opens_same e c.args.innermost.now c.requires.innermost) ∙ (sym c.opens_file.ensures ∙ c.if-opens_file.false)) c.requires.knows k.stays k.most all left may gone sizes f book stands tied b (i.ensures.err sizes f book stands)))
+    (λ sizes f book stands tied. rule_broken rs rs' e e' s s' c.if-has_next.ensures (sym (opens_same e c.args.innermost.now c.requires.innermost) ∙ (sym c.opens_file.ensures ∙ c.if-opens_file.false)) c.requires.knows k.most all left may sizes f book stands tied (readers_closed rs rs' e e' k.stays all left gone book tied) b (i.ensures.err sizes f book stands)))
 
 pub returns-clause-rule : goal.returns-clause-rule
 returns-clause-rule g c =
@@ -81,4 +81,4 @@ returns-clause-rule g c =
     let i = c.in_ok-ruled in
     let k = c.close_ended.ensures in
     reads_map (λ (all left : Rests). AreGone all left _) rs.readers rs'.readers _ _ (λ (all left : Rests). RuledTo rs e s rs' e' s' all left (Ok i.field-0)) k.closed
-    (λ all left may may' gone sizes f book stands tied. rule_done rs rs' e e' s s' c.if-has_next.ensures (sym (opens_same e c.args.innermost.now c.requires.innermost) ∙ (sym c.opens_file.ensures ∙ c.if-opens_file.false)) c.requires.knows k.stays k.most all left may gone sizes f book stands tied i.field-0 (i.ensures.rule sizes f book stands))
+    (λ all left may may' gone sizes f book stands tied. rule_done rs rs' e e' s s' c.if-has_next.ensures (sym (opens_same e c.args.innermost.now c.requires.innermost) ∙ (sym c.opens_file.ensures ∙ c.if-opens_file.false)) c.requires.knows k.most all left may sizes f book stands tied (readers_closed rs rs' e e' k.stays all left gone book tied) i.field-0 (i.ensures.rule sizes f book stands))

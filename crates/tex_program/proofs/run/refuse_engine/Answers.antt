@@ -3,7 +3,6 @@ use Rattle.plain_machine.specs.Plan.{reports_room}
 use Rattle.plain_machine.specs.Does.{CutAt}
 use Rattle.plain_machine.specs.Meaning.{First}
 use Rattle.world_io.specs.Contents.{world}
-use Rattle.engine_state.specs.Faults.{why_of}
 use Rattle.engine_state.specs.Book.{first_book}
 use Rattle.tex_program.specs.Says.{SaysSo}
 use Rattle.tex_program.proofs.Meanings.{named_reports, refused_fails, refused_cut}
@@ -32,4 +31,4 @@ returns-in-Err-clause-says g c = λ sizes f quiet all n named.
     let few : e.reports ≤ reports_room = omega (arith, named_reports sizes e quiet file named) in
     let cut = refused_cut sizes e e' quiet file named all f a b n i.broken (i.ensures.err sizes f first_book few) in
     c.tell_broken.ensures.says sizes f (First quiet file None all) cut.0 n (world f a false)
-    (subst (λ (x : Bool). CutAt sizes (First quiet file None all) n cut.0 (world f a false) (world f b x) (why_of i.broken)) (sym c.is_in_line-in-Err.ensures) cut.1)
+    (subst (λ (x : Bool). CutAt sizes (First quiet file None all) n cut.0 (world f a false) (world f b x) i.broken) (sym c.is_in_line-in-Err.ensures) cut.1)

@@ -1,6 +1,6 @@
 use Rattle.std.proofs.Common.{◌∙◌}
 use Rattle.std.specs.Prelude.{Some, None}
-use Rattle.engine_state.specs.declared.broken.Broken.TheVariants as broken
+use Rattle.plain_machine.specs.declared.broken.Broken.TheVariants as broken
 use Rattle.engine_state.proofs.FirstLines.{settled_input, settled_stays, settled_needs, begun_others, begun_pending, begun_stands, unbegun_stands, first_did, first_cuts}
 use Rattle.engine_state.proofs.Joining.{same_err}
 use Rattle.engine_state.proofs.engine.Engine.begin_file.Goals as goal

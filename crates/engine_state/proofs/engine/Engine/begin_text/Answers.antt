@@ -1,4 +1,4 @@
-use Rattle.engine_state.specs.declared.broken.Broken.TheVariants as broken
+use Rattle.plain_machine.specs.declared.broken.Broken.TheVariants as broken
 use Rattle.std.specs.Prelude.{Some, []}
 use Rattle.engine_state.proofs.Joining.{same_err}
 use Rattle.engine_state.proofs.TextPutting.{begun_cuts, done_begun, begun_front, begun_none}

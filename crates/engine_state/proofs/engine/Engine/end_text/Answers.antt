@@ -1,5 +1,5 @@
 use Rattle.input_state.specs.HeldLists.{made}
-use Rattle.engine_state.specs.declared.broken.Broken.TheVariants as broken
+use Rattle.plain_machine.specs.declared.broken.Broken.TheVariants as broken
 use Rattle.engine_state.proofs.Joining.{same_err, when_true}
 use Rattle.engine_state.proofs.TextPutting.{made_done, unput_cuts, some_made, same_front}
 use Rattle.engine_state.proofs.engine.Engine.end_text.Goals as goal

@@ -1,5 +1,5 @@
 use Rattle.std.proofs.Common.{arith}
-use Rattle.engine_state.specs.declared.broken.Broken.TheVariants as broken
+use Rattle.plain_machine.specs.declared.broken.Broken.TheVariants as broken
 use Rattle.engine_state.proofs.Grouping.{kept_did, kept_stands, unkept_cuts}
 use Rattle.engine_state.proofs.Joining.{same_err}
 use Rattle.engine_state.proofs.engine.Engine.keep_for_group.Goals as goal

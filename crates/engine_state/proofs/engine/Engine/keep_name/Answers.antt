@@ -1,5 +1,5 @@
 use Rattle.std.specs.Prelude.{true}
-use Rattle.engine_state.specs.declared.broken.Broken.TheVariants as broken
+use Rattle.plain_machine.specs.declared.broken.Broken.TheVariants as broken
 use Rattle.engine_state.proofs.Putting.{kept_cuts}
 use Rattle.engine_state.proofs.Stopping.{noted_cuts}
 use Rattle.engine_state.proofs.engine.Engine.keep_name.Goals as goal

@@ -1,7 +1,7 @@
 use Rattle.std.proofs.Common.{◌≡◌, subst, Bool}
 use Rattle.plain_tokens.specs.Lookup.{token_of, new_name}
 use Rattle.engine_state.specs.Entering.{with_names, EntryFits, EntryRefused}
-use Rattle.engine_state.specs.declared.broken.Broken.TheVariants as broken
+use Rattle.plain_machine.specs.declared.broken.Broken.TheVariants as broken
 use Rattle.engine_state.specs.Rules.{scanning_of}
 use Rattle.engine_state.proofs.Joining.{same_err, ok_to, err_to}
 use Rattle.engine_state.proofs.CuttingReadings.{cuts_in}

@@ -1,8 +1,8 @@
 use Rattle.std.proofs.Common.{[], sym, ap, arith}
 use Rattle.tex_syntax.specs.declared.words.Report.TheVariants.{InvalidCharacter}
+use Rattle.plain_machine.specs.declared.broken.Broken.TheVariants as broken
 use Rattle.plain_machine.specs.Plan.{Page, reported}
 use Rattle.input_state.specs.Reads.{gives_step}
-use Rattle.engine_state.specs.declared.broken.Broken.TheVariants as broken
 use Rattle.engine_state.specs.declared.outcome.Last.TheVariants.{NoEnd}
 use Rattle.engine_state.specs.Begins.{last_moves}
 use Rattle.engine_state.specs.Stands.{page_of}

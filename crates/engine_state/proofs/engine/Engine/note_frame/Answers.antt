@@ -1,11 +1,11 @@
 use Rattle.std.proofs.Common.{◌∷◌, sym, subst}
 use Rattle.rows.specs.Readings.{Noted}
 use Rattle.reading_frames.specs.Stack.{Stack}
+use Rattle.plain_machine.specs.declared.broken.Broken.TheVariants as broken
 use Rattle.plain_machine.specs.Plan.{noting}
 use Rattle.engine_state.specs.Book.{with_work}
 use Rattle.engine_state.specs.CutReadings.{CutsIn}
 use Rattle.engine_state.specs.Stands.{state_of}
-use Rattle.engine_state.specs.declared.broken.Broken.TheVariants as broken
 use Rattle.engine_state.proofs.ReadingsFed.{feeds_stands, feeds_did, feeds_cut, noting_moves, moves_did, moves_in}
 use Rattle.engine_state.proofs.engine.Engine.note_frame.Goals as goal
 

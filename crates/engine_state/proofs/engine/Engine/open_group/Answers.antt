@@ -1,4 +1,4 @@
-use Rattle.engine_state.specs.declared.broken.Broken.TheVariants as broken
+use Rattle.plain_machine.specs.declared.broken.Broken.TheVariants as broken
 use Rattle.engine_state.proofs.Grouping.{opened_did, opened_stands, unopened_cuts}
 use Rattle.engine_state.proofs.Joining.{same_err}
 use Rattle.engine_state.proofs.engine.Engine.open_group.Goals as goal

@@ -1,12 +1,12 @@
 use Rattle.std.proofs.Common.{List, map, ◌++◌, sym, subst}
 use Rattle.tex_defs.specs.declared.Token.{Token}
+use Rattle.plain_machine.specs.declared.broken.Broken.TheVariants as broken
 use Rattle.plain_machine.specs.States.{ListGrown}
 use Rattle.plain_machine.specs.Plan.{put_made, put_text}
 use Rattle.plain_machine.specs.Does.{Did}
 use Rattle.equivalents.specs.Cases.{case_codes, case_changed}
 use Rattle.reading_frames.specs.Views.{kept_list_of}
 use Rattle.input_state.specs.HeldLists.{made}
-use Rattle.engine_state.specs.declared.broken.Broken.TheVariants as broken
 use Rattle.engine_state.specs.declared.engine.Engine.{Engine}
 use Rattle.engine_state.specs.Making.{IsInFront, changed_list}
 use Rattle.engine_state.specs.Rules.{Cuts}

@@ -1,10 +1,10 @@
 use Rattle.std.proofs.Common.{ℕ, List, map, ◌++◌, sym, subst}
 use Rattle.plain_tokens.specs.Tokens.{made_text}
+use Rattle.plain_machine.specs.declared.broken.Broken.TheVariants as broken
 use Rattle.plain_machine.specs.States.{ListGrown}
 use Rattle.plain_machine.specs.Plan.{put_made, put_text}
 use Rattle.plain_machine.specs.Does.{Did}
 use Rattle.input_state.specs.HeldLists.{made}
-use Rattle.engine_state.specs.declared.broken.Broken.TheVariants as broken
 use Rattle.engine_state.specs.declared.engine.Engine.{Engine}
 use Rattle.engine_state.specs.Making.{IsInFront, characters_in, characters_of}
 use Rattle.engine_state.specs.Rules.{Cuts}

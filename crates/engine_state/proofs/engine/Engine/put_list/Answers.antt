@@ -2,7 +2,7 @@ use Rattle.std.proofs.Common.{ap}
 use Rattle.input_state.specs.Calls.{after_call}
 use Rattle.input_state.specs.AtLocations.{location_put}
 use Rattle.input_state.specs.Stored.{Stored}
-use Rattle.engine_state.specs.declared.broken.Broken.TheVariants as broken
+use Rattle.plain_machine.specs.declared.broken.Broken.TheVariants as broken
 use Rattle.engine_state.proofs.Joining.{same_err}
 use Rattle.engine_state.proofs.ListsGiven.{given_cuts, given_did, given_sound}
 use Rattle.engine_state.proofs.SharedPut.{pending_stands}

@@ -1,7 +1,7 @@
 use Rattle.std.proofs.Common.{◌∷◌, [], ap, ◌∙◌}
+use Rattle.plain_machine.specs.declared.broken.Broken.TheVariants as broken
 use Rattle.plain_machine.specs.States.{ListGrown, Put}
 use Rattle.input_state.specs.Stored.{Stored}
-use Rattle.engine_state.specs.declared.broken.Broken.TheVariants as broken
 use Rattle.engine_state.proofs.Joining.{same_err}
 use Rattle.engine_state.proofs.Putting.{settled_still, begin_cuts, grow_cuts, put_cuts, done_put, begun_store, grown_store, unput_store, put_store}
 use Rattle.engine_state.proofs.engine.Engine.put_one.Goals as goal

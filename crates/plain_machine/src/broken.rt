@@ -15,7 +15,7 @@ pub enum Broken {
 
 impl From<Fault> for Broken {
     ghost use Rattle.std.specs.Prelude.{◌≡◌};
-    ghost use Rattle.engine_state.specs.Faults.{broken_by};
+    ghost use Rattle.plain_machine.specs.Faults.{broken_by};
 
     ghost from_gives = { λ f e. e ≡ broken_by f };
 
@@ -29,7 +29,7 @@ impl From<Fault> for Broken {
 
 impl From<Full> for Broken {
     ghost use Rattle.std.specs.Prelude.{◌≡◌};
-    ghost use Rattle.engine_state.specs.declared.broken.Broken.TheVariants as broken;
+    ghost use Rattle.plain_machine.specs.declared.broken.Broken.TheVariants as broken;
 
     ghost from_gives = { λ full e. e ≡ broken.Full full };
 
