@@ -43,6 +43,7 @@ pub mod ReadingsOpened
 pub mod Reporting
 pub mod SharedPut
 pub mod Showing
+pub mod AtHand
 pub mod AtLocations
 pub mod Stopping
 pub mod Storing

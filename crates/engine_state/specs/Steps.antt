@@ -11,6 +11,7 @@ use Rattle.plain_readings.specs.Weights.{act_frame, ask_weight, behind_weight}
 use Rattle.reading_frames.specs.Stack.{asks_in}
 use Rattle.reading_frames.specs.Weights.{frames_weight, stack_weight}
 use Rattle.input_state.specs.Reads.{gives_step}
+use Rattle.input_state.specs.NextBytes.{KnowsNext}
 use Rattle.input_state.specs.declared.answer.Call.{Call}
 use Rattle.input_state.specs.Callings.{Calling, call_in}
 use Rattle.engine_state.specs.declared.engine.Engine.{Engine}
@@ -69,6 +70,11 @@ readings_weight (Some c) e = act_frame + frames_weight (drop 1 e.readings.frames
 abbrev pub weight : Engine → ℕ
 weight e = readings_weight (call_in e.input.call) e + pending_weight e.input.pending
 
+-- a token comes next, by a step, and no byte of a file is needed for it
+pub record IsReady (e : Engine) : Type 0 where
+  pub knows : KnowsNext e.input
+  pub steps : gives_step (pulled e.input.groups.now.categories e.input.pending) ≡ true
+
 -- RULES
 
 abbrev pub IsStep : Ruled → Type 0
@@ -109,6 +115,12 @@ IsSkipped n = ⊥
 abbrev pub IsOver : Next → Type 0
 IsOver (Over o) = Unit {0}
 IsOver n = ⊥
+
+-- a token was met, or the run has ended at it
+abbrev pub IsMet : Next → Type 0
+IsMet (Token x) = Unit {0}
+IsMet (Over o) = Unit {0}
+IsMet n = ⊥
 
 -- the run has ended
 abbrev pub ends_run : Next → Bool

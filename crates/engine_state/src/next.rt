@@ -1,5 +1,5 @@
 // The next token.
-ghost use Rattle.std.specs.Prelude.{◌≡◌, ◌<◌, IfOk, IfErr, OnOk, OnErr, MatchResult, Option, None, false, true};
+ghost use Rattle.std.specs.Prelude.{◌≡◌, ◌<◌, Bool, IfOk, IfErr, IfSome, IsSome, OnOk, OnErr, MatchResult, Option, None, false, true};
 ghost use Rattle.plain_tokens.specs.Pending.{pulled};
 ghost use Rattle.input_state.specs.Reads.{gives_step};
 ghost use Rattle.plain_tokens.specs.Lookup.{token_of, new_name};
@@ -9,7 +9,7 @@ ghost use Rattle.engine_state.specs.Entering.{EntryFits, EntryRefused};
 ghost use Rattle.engine_state.specs.Stands.{SameFrames, SameReadings};
 ghost use Rattle.engine_state.specs.Rules.{Meets};
 ghost use Rattle.engine_state.specs.OneRule.{ReadsNext, CutsNext};
-ghost use Rattle.engine_state.specs.Steps.{weight, IsSkipped, IsOver, NextStepsIf, ends_run, next_met, next_free};
+ghost use Rattle.engine_state.specs.Steps.{weight, IsReady, IsSkipped, IsOver, IsMet, NextStepsIf, ends_run, next_met, next_free};
 
 use crate::engine::Engine;
 use crate::names::resolve;
@@ -80,6 +80,32 @@ impl Engine {
         let next = self.next_reading(out, enters);
         self.stopped = has_stopped(&next);
         next
+    }
+
+    /// The next token, where a list in front has it at hand (`Input::quick`): a step, for which no byte of a file is needed. Else nothing changes. No stop is noted.
+    ///
+    /// # Errors
+    /// There is no room for what comes, or a write failed: the engine stands for the moment before.
+    #[inline(always)]
+    pub fn token_at_hand<S: Sink>(&mut self, out: &mut S) -> Result<Option<Next>, Broken>
+        requires idle { self.old.input.making ≡ None }
+        ensures none { IfOk result (λ next. next ≡ None → (self.new ≡ self.old) × (S.told out.new ≡ S.told out.old)) }
+        ensures ready { IfOk result (λ next. IsSome next → IsReady self.old) }
+        ensures cut { IfErr result (λ b. IsReady self.old) }
+        ensures met { IfOk result (λ next. IfSome next IsMet) }
+        ensures rule { IfOk result (λ next. IfSome next (λ n. (enters : Bool) → ReadsNext enters self.old self.new (S.told out.old) (S.told out.new) n)) }
+        ensures err { IfErr result (λ b. (enters : Bool) → CutsNext enters self.old self.new (S.told out.old) (S.told out.new) b) }
+        ensures halts { IfOk result (λ next. IfSome next (λ n. IsOver n → SameFrames self.old self.new)) }
+        ensures readings { SameReadings self.old self.new }
+        ensures idle { OnOk result (self.new.input.making ≡ None) }
+    {
+        match self.input.quick() {
+            Some(token) => {
+                let met = self.meet(out, token)?;
+                Ok(Some(met_next(met)))
+            }
+            None => Ok(None),
+        }
     }
 
     /// The next token or line; no stop is noted.

@@ -471,9 +471,9 @@ impl Input {
         }
     }
 
-    // The next token of a list in front, where it is at hand.
+    /// The next token of a list in front, where it is at hand: no list has to go first, and no argument's level opens. Else nothing changes.
     #[inline(always)]
-    fn quick(&mut self) -> Option<Token>
+    pub fn quick(&mut self) -> Option<Token>
         ensures gives { IfSome result (λ t. Pulls (pulled self.old.groups.now.categories self.old.pending) (answer.Token t) self.old self.new) }
         ensures room { IsSome result → pull_refusal self.old ≡ None }
         ensures stays { result ≡ None → self.new ≡ self.old }

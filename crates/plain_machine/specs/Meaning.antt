@@ -5,6 +5,8 @@ use Rattle.tex_syntax.specs.declared.words.Outcome.TheVariants.{Finished, AtFata
 use Rattle.tex_defs.specs.declared.Fatal.{Fatal}
 use Rattle.tex_defs.specs.declared.Full.{Full}
 use Rattle.tex_defs.specs.declared.Sizes.{Sizes}
+use Rattle.world_io.specs.declared.traits.Fault.{Fault}
+use Rattle.world_io.specs.declared.traits.Fault.TheVariants.{Failed, NoMemory}
 use Rattle.tex_defs.specs.Sizes.{table_name, default_sizes}
 use Rattle.tex_defs.specs.Places.{World, Rose, Transcript, File, Untold, NotHeld, Holds}
 use Rattle.equivalents.specs.Groups.{first_groups}
@@ -94,18 +96,17 @@ pub record CutShort (sizes : Sizes) (s : State) (n : ℕ) (w w' : World) (why : 
   pub last : Line between w' line
 
 -- Bytes of a file don't come, and it can't be opened, only where the count of failed reads, or of wants, rose.
-abbrev pub IsReadCause : Broken → World → World → Type 0
-IsReadCause (broken.Full full) w w' = ⊥
-IsReadCause broken.WriteFault w w' = Rose w.read_faults w'.read_faults
-IsReadCause broken.Want w w' = Rose w.file_wants w'.file_wants
+abbrev pub IsReadCause : Fault → World → World → Type 0
+IsReadCause Failed w w' = Rose w.read_faults w'.read_faults
+IsReadCause NoMemory w w' = Rose w.file_wants w'.file_wants
 
 -- A moment of the run is written at which a file's next bytes are needed and don't come, or a file can't be opened, for a cause, and then a
 -- stop line. How much of a file came isn't told, so neither is which of these moments it is.
-pub record Unread (sizes : Sizes) (s : State) (n : ℕ) (w w' : World) (why : Broken) (line : List ℕ) : Type 0 where
+pub record Unread (sizes : Sizes) (s : State) (n : ℕ) (w w' : World) (fault : Fault) (line : List ℕ) : Type 0 where
   pub t : State
   pub between : World
   pub read : ReadAt sizes s n t w between
-  pub cause : IsReadCause why w between
+  pub cause : IsReadCause fault w between
   pub last : Line between w' line
 
 -- The file could not be opened, once the job's name was kept: a read failed, nothing of the run is written, and the stop line follows.
@@ -143,9 +144,9 @@ Says sizes s n w w' _ IsFlawed = Ending sizes s n w w' true
 Says sizes s n w w' _ IsFatal = Fails sizes s n w w'
 Says sizes s n w w' _ IsFullTable = OutOfRoom sizes s n w w'
 Says sizes s n w w' _ IsSteps = Stops sizes s n w w' AtSteps (steps_line n)
-Says sizes s n w w' _ IsReadFault = Unread sizes s n w w' broken.WriteFault read_fault_line ⊎ Unopened sizes s w w'
+Says sizes s n w w' _ IsReadFault = Unread sizes s n w w' Failed read_fault_line ⊎ Unopened sizes s w w'
 Says sizes s n w w' _ IsWriteFault = CutShort sizes s n w w' broken.WriteFault write_fault_line
-Says sizes s n w w' _ IsNoMemory = CutShort sizes s n w w' broken.Want no_memory_line ⊎ (Unread sizes s n w w' broken.Want no_memory_line ⊎ NotBegun w w')
+Says sizes s n w w' _ IsNoMemory = CutShort sizes s n w w' broken.Want no_memory_line ⊎ (Unread sizes s n w w' NoMemory no_memory_line ⊎ NotBegun w w')
 
 -- what is told of a file may be this
 abbrev pub IsHeldAs : File → Option (List ℕ) → Type 0

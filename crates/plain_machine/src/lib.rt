@@ -1,6 +1,7 @@
 //! The plain machine: its next move, its runs, and what the program means by them.
 //!
-//! Everything here is definition. The functions have no bodies: their contracts are laws. The type [`Broken`] is for the code, too.
+//! Everything here is definition: the functions of this file have no bodies, and their contracts are laws. The type [`Broken`], with what it is
+//! made of, is cited by the definitions and used by the code.
 #![tactic(auto)]
 
 mod broken;

@@ -133,7 +133,7 @@ GivesValue (Glue mu) held (Fetches l) = Unit {0}
 GivesValue (Keyword w) held (Puts t more) = more ≤ 4
 GivesValue k held a = ⊥
 
--- it ends without one, asks neither for what stands at a location nor for the magnification, and puts no token back by itself
+-- a command's: it comes to no value, asks neither for what stands at a location nor for the magnification, and puts no token back by itself
 abbrev pub IsValueless : Ask → Type 0
 IsValueless (Done v back) = ⊥
 IsValueless (Fetches l) = ⊥

@@ -42,6 +42,8 @@ use Rattle.reading_frames.specs.declared.ask.Ask.TheVariants as answer
 use Rattle.reading_frames.specs.declared.ask.Found.{Found}
 use Rattle.reading_frames.specs.declared.ask.Found.TheVariants.{Builds, SkippedText}
 use Rattle.reading_frames.specs.declared.ask.Grown.{Grown}
+use Rattle.reading_frames.specs.declared.command.ListedAsk.{ListedAsk}
+use Rattle.reading_frames.specs.declared.command.ListedAsk.TheVariants as listed
 use Rattle.reading_frames.specs.declared.command.CommandScan.{CommandScan}
 use Rattle.reading_frames.specs.declared.command.CommandScan.TheVariants as command
 use Rattle.reading_frames.specs.declared.spelling.SpellPlace.{SpellPlace}
@@ -90,6 +92,12 @@ listed_count false = 0
 
 abbrev pub command_count : CommandScan → ℕ
 command_count s = listed_count (has_list s)
+
+-- how many it has of which it asks this: the list of which it speaks, where that is listed
+abbrev pub asked_count : ListedAsk → ℕ
+asked_count (listed.ActsOn c e l) = listed_count l
+asked_count (listed.Defines c n l) = listed_count l
+asked_count a = 0
 
 -- a list that came with a value is kept only where it has a token
 abbrev pub keeps : Value → (is_empty : Bool) → Bool

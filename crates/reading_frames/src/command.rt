@@ -8,15 +8,15 @@ ghost use Rattle.rows.specs.Run.{row};
 ghost use Rattle.row_frames.specs.Views as rows_view;
 ghost use Rattle.row_frames.specs.Resumes as rows_resume;
 ghost use Rattle.plain_readings.specs.Readings.{kept_list};
-ghost use Rattle.reading_frames.specs.Views.{ask_of, IsFetchedAt, has_no_token, kept_list_of, Lists};
-ghost use Rattle.reading_frames.specs.Resumes.{resume_command, command_lists, command_count, has_list, listed_count, with_list, IsOver, Owns};
+ghost use Rattle.reading_frames.specs.Views.{has_no_token, kept_list_of, listed_ask, Lists};
+ghost use Rattle.reading_frames.specs.Resumes.{asked_count, resume_command, command_lists, command_count, has_list, listed_count, with_list, IsOver};
 ghost use Rattle.reading_frames.specs.Resumes as resumes;
 
-use crate::ask::Ask;
 use equivalents::Val as StoredValue;
 use row_frames::{Kept, RowFrame, note_due};
 use rows::{Call, Effect, Phrase, Value};
-use tex_defs::{Name, Seen};
+use tex_defs::{Name, Seen, Token};
+use tex_syntax::{Report, Want};
 
 /// Where a command stands: in its row, or at what it does at its end. The list with which it does this is the one on top, if it is listed, and
 /// else the list of no token.
@@ -29,30 +29,53 @@ pub enum CommandScan {
     Ended,
 }
 
+/// What a command asks for, by its row or at its end. Where a list is spoken of, it is the one on top, if it is listed, and else the list of no
+/// token.
+#[must_use]
+#[derive(Clone, Copy)]
+pub enum ListedAsk {
+    More(Want),
+    /// An inner reading, and whether it begins with the last token.
+    Inner(Phrase, bool),
+    /// The command does this, and ends.
+    Acts(Call, Effect),
+    /// The command does this with the list, and whether that is listed, and ends.
+    ActsOn(Call, Effect, bool),
+    /// The list becomes that of the macro of this name, and whether it is listed, and the command ends.
+    Defines(Call, Name, bool),
+    Ends,
+    /// A report, and whether the last token is put back before it.
+    Tells(Report, bool),
+    /// A token that is inserted, the report behind it, and whether the last token is put back before.
+    Inserts(Token, Report, bool),
+    /// The name becomes `\relax`, by this command.
+    Relaxes(Call, Name),
+}
+
 /// What a command asks for by its row, over a list of no token.
-fn of_row(asked: row_frames::Ask) -> Ask
-    ensures is { (held : Lists) → ask_of held result ≡ command_ask (rows_view.ask_of [] asked) }
-    ensures owns { Owns result 0 }
-    ensures found { IsFetchedAt result }
+#[inline(always)]
+fn of_row(asked: row_frames::Ask) -> ListedAsk
+    ensures is { (held : Lists) → listed_ask held result ≡ rows_view.ask_of [] asked }
+    ensures count { asked_count result ≡ 0 }
 {
     match asked {
-        row_frames::Ask::More(want) => Ask::More(want),
-        row_frames::Ask::Inner(phrase, begins) => Ask::Inner(phrase, begins),
-        row_frames::Ask::Acts(call, effect) => Ask::Acts(call, effect),
-        row_frames::Ask::ActsOn(call, effect) => Ask::ActsOn(call, effect, false),
-        row_frames::Ask::Defines(call, name) => Ask::Defines(call, name, false),
-        row_frames::Ask::Ends => Ask::Ends,
-        row_frames::Ask::Tells(report, back) => Ask::Tells(report, back),
-        row_frames::Ask::Inserts(token, report, back) => Ask::Inserts(token, report, back),
-        row_frames::Ask::Relaxes(call, name) => Ask::Relaxes(call, name),
+        row_frames::Ask::More(want) => ListedAsk::More(want),
+        row_frames::Ask::Inner(phrase, begins) => ListedAsk::Inner(phrase, begins),
+        row_frames::Ask::Acts(call, effect) => ListedAsk::Acts(call, effect),
+        row_frames::Ask::ActsOn(call, effect) => ListedAsk::ActsOn(call, effect, false),
+        row_frames::Ask::Defines(call, name) => ListedAsk::Defines(call, name, false),
+        row_frames::Ask::Ends => ListedAsk::Ends,
+        row_frames::Ask::Tells(report, back) => ListedAsk::Tells(report, back),
+        row_frames::Ask::Inserts(token, report, back) => ListedAsk::Inserts(token, report, back),
+        row_frames::Ask::Relaxes(call, name) => ListedAsk::Relaxes(call, name),
     }
 }
 
 /// What a command asks for where it stands in its row.
-fn asked_in(row: &RowFrame) -> Ask
-    ensures is { (held : Lists) → ask_of held result ≡ command_ask (rows_resume.resume row.now []) }
-    ensures owns { Owns result 0 }
-    ensures found { IsFetchedAt result }
+#[inline(always)]
+fn asked_in(row: &RowFrame) -> ListedAsk
+    ensures is { (held : Lists) → listed_ask held result ≡ rows_resume.resume row.now [] }
+    ensures count { asked_count result ≡ 0 }
 {
     if row.left.is_none() {
         let mut at_end = *row;
@@ -61,9 +84,9 @@ fn asked_in(row: &RowFrame) -> Ask
     }
     match row.kept {
         Kept::Start => of_row(row.first_ask()),
-        Kept::Looking(_, want) => Ask::More(want),
-        Kept::Within(kind) => Ask::Inner(kind, true),
-        Kept::Numbered(_) => Ask::Inner(Phrase::Integer, false),
+        Kept::Looking(_, want) => ListedAsk::More(want),
+        Kept::Within(kind) => ListedAsk::Inner(kind, true),
+        Kept::Numbered(_) => ListedAsk::Inner(Phrase::Integer, false),
         Kept::Noting(note, _) => of_row(note_due(note)),
         Kept::Retrying(_, _, note) => of_row(note_due(note)),
     }
@@ -107,19 +130,17 @@ impl CommandScan {
     }
 
     /// What it asks for where it stands.
-    // Not inlined, as `Frame::ask`.
-    #[inline(never)]
-    pub fn ask(&self) -> Ask
-        ensures is { (held : Lists) → ask_of held result ≡ command_ask (resume_command self.now held []) }
-        ensures owns { Owns result (command_count self.now) }
-        ensures found { IsFetchedAt result }
+    #[inline(always)]
+    pub fn ask(&self) -> ListedAsk
+        ensures is { (held : Lists) → listed_ask held result ≡ resume_command self.now held [] }
+        ensures count { asked_count result ≡ command_count self.now }
     {
         match self {
             CommandScan::Reads(row) => asked_in(row),
-            CommandScan::Acts(call, effect) => Ask::Acts(*call, *effect),
-            CommandScan::ActsOn(call, effect, listed) => Ask::ActsOn(*call, *effect, *listed),
-            CommandScan::Defines(call, name, listed) => Ask::Defines(*call, *name, *listed),
-            CommandScan::Ended => Ask::Ends,
+            CommandScan::Acts(call, effect) => ListedAsk::Acts(*call, *effect),
+            CommandScan::ActsOn(call, effect, listed) => ListedAsk::ActsOn(*call, *effect, *listed),
+            CommandScan::Defines(call, name, listed) => ListedAsk::Defines(*call, *name, *listed),
+            CommandScan::Ended => ListedAsk::Ends,
         }
     }
 

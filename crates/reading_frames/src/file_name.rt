@@ -5,14 +5,13 @@ ghost use Rattle.tex_syntax.specs.declared.words.Want.TheVariants.{Nonblank};
 ghost use Rattle.rows.specs.declared.words.Value.{Value};
 ghost use Rattle.equivalents.specs.Locations.{SeenValue};
 ghost use Rattle.rows.specs.Readings.{Fed, Tok, Noted, Val, Fetched};
-ghost use Rattle.rows.specs.Commands.{command_ask};
 ghost use Rattle.plain_readings.specs.FileNames as names;
 ghost use Rattle.plain_readings.specs.FileNames.{file_naming, file_characters};
-ghost use Rattle.reading_frames.specs.Views.{ask_of, IsFetchedAt, grown, Lists, top_list};
-ghost use Rattle.reading_frames.specs.Resumes.{resume_file, file_list, Owns};
+ghost use Rattle.reading_frames.specs.Views.{file_ask, grown};
+ghost use Rattle.reading_frames.specs.Resumes.{resume_file, file_list};
 
-use crate::ask::{Ask, Grown};
-use rows::{Call, Effect};
+use crate::ask::Grown;
+use rows::Call;
 use tex_defs::{Meaning, Seen, Token};
 use tex_syntax::Want;
 
@@ -37,6 +36,16 @@ pub enum FilePlace {
 pub struct FileScan {
     pub call: Call,
     pub place: FilePlace,
+}
+
+/// What `\input` asks for.
+#[must_use]
+#[derive(Clone, Copy)]
+pub enum FileAsk {
+    More(Want),
+    /// That the file of its name be opened, and whether the last token is put back; it ends.
+    Opens(bool),
+    Ends,
 }
 
 /// The character that is meant, if it may stand in a name.
@@ -78,16 +87,14 @@ impl FileScan {
     }
 
     /// What it asks for where it stands.
-    pub fn ask(&self) -> Ask
-        ensures is { (held : Lists) → ask_of held result ≡ command_ask (resume_file self.now (top_list held) []) }
-        ensures owns { Owns result 1 }
-        ensures found { IsFetchedAt result }
+    pub fn ask(&self) -> FileAsk
+        ensures { (list : List Token) → file_ask self.now.call list result ≡ resume_file self.now list [] }
     {
         match self.place {
-            FilePlace::Before => Ask::More(Want::Nonblank),
-            FilePlace::Inside => Ask::More(Want::Expanded),
-            FilePlace::Whole(back) => Ask::ActsOn(self.call, Effect::StartInput(back), true),
-            FilePlace::Stopped => Ask::Ends,
+            FilePlace::Before => FileAsk::More(Want::Nonblank),
+            FilePlace::Inside => FileAsk::More(Want::Expanded),
+            FilePlace::Whole(back) => FileAsk::Opens(back),
+            FilePlace::Stopped => FileAsk::Ends,
         }
     }
 

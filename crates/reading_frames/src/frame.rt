@@ -4,9 +4,10 @@ ghost use Rattle.tex_defs.specs.declared.Token.{Token};
 ghost use Rattle.rows.specs.declared.words.Value.TheVariants as value_of;
 ghost use Rattle.equivalents.specs.declared.values.Loc.{Loc as Location};
 ghost use Rattle.rows.specs.Readings.{Fed, Tok, Noted, Val, Fetched, Fetches};
-ghost use Rattle.reading_frames.specs.Views.{ask_of, has_no_token, reading_kind, IsFetchedAt, Lists, on_top, top_list};
+ghost use Rattle.rows.specs.Commands.{command_ask};
+ghost use Rattle.reading_frames.specs.Views.{ask_of, file_ask, has_no_token, list_ask, listed_ask, reading_kind, skip_ask, spell_ask, IsFetchedAt, Lists, on_top, top_list};
 ghost use Rattle.reading_frames.specs.Frames.{Begins, opened_lists};
-ghost use Rattle.reading_frames.specs.Resumes.{resume, building, list_count, below, frame_status, groups, is_call, read_at, reads_unguarded, token_count, with_list, Owns};
+ghost use Rattle.reading_frames.specs.Resumes.{asked_count, command_count, resume, resume_command, building, list_count, below, frame_status, groups, is_call, read_at, reads_unguarded, token_count, with_list, Owns};
 ghost use Rattle.reading_frames.specs.Weights.{asks_weight, begun_weight, begun_with_weight, fed_weight, frame_end, opening_end, opening_frame, own_weight, put_count};
 ghost use Rattle.plain_readings.specs.Integers.{number_ask};
 ghost use Rattle.plain_readings.specs.Factors.{factor_ask};
@@ -19,11 +20,12 @@ ghost use Rattle.scan_dimens.specs.DimenViews as dimens;
 ghost use Rattle.scan_glue.specs.GlueViews as glues;
 
 use crate::ask::{Ask, Found, Grown, Opening};
-use crate::command::CommandScan;
-use crate::file_name::FileScan;
-use crate::skip::SkipScan;
-use crate::spelling::SpellScan;
-use crate::text::BuildScan;
+use crate::command::{CommandScan, ListedAsk};
+use crate::file_name::{FileAsk, FileScan};
+use crate::skip::{SkipAsk, SkipScan};
+use crate::spelling::{SpellAsk, SpellScan};
+use crate::text::{BuildScan, ListAsk};
+use conditionals::Aim;
 use equivalents::Val as StoredValue;
 use plain_readings::{DimenAsk, DimenInner, FactorAsk, GlueAsk, GlueInner, KeywordAsk, NumberAsk};
 use row_frames::reads_under_normal;
@@ -32,7 +34,7 @@ use scan_dimens::{DimenScan, KeywordScan};
 use scan_glue::GlueScan;
 use scan_numbers::{FactorScan, NumberScan};
 use tex_defs::{Name, Seen};
-use tex_syntax::Want;
+use tex_syntax::{Report, Want};
 
 /// An open reading.
 #[derive(Clone, Copy)]
@@ -157,6 +159,91 @@ fn of_keyword(asked: KeywordAsk) -> Ask
     }
 }
 
+// What the scanner of a list asks for.
+#[inline(always)]
+pub(crate) fn of_list(asked: ListAsk) -> Ask
+    ensures is { (held : Lists) → ask_of held result ≡ list_ask asked }
+    ensures owns { Owns result 1 }
+    ensures found { IsFetchedAt result }
+{
+    match asked {
+        ListAsk::More(want) => Ask::More(want),
+        ListAsk::Tells(report, back) => Ask::Tells(report, back),
+        ListAsk::Done => Ask::Done(Value::List, false),
+    }
+}
+
+// What a command asks for.
+#[inline(always)]
+fn of_command(asked: ListedAsk) -> Ask
+    ensures is { (held : Lists) → ask_of held result ≡ command_ask (listed_ask held asked) }
+    ensures owns { Owns result (asked_count asked) }
+    ensures found { IsFetchedAt result }
+{
+    match asked {
+        ListedAsk::More(want) => Ask::More(want),
+        ListedAsk::Inner(phrase, begins) => Ask::Inner(phrase, begins),
+        ListedAsk::Acts(call, effect) => Ask::Acts(call, effect),
+        ListedAsk::ActsOn(call, effect, listed) => Ask::ActsOn(call, effect, listed),
+        ListedAsk::Defines(call, name, listed) => Ask::Defines(call, name, listed),
+        ListedAsk::Ends => Ask::Ends,
+        ListedAsk::Tells(report, back) => Ask::Tells(report, back),
+        ListedAsk::Inserts(token, report, back) => Ask::Inserts(token, report, back),
+        ListedAsk::Relaxes(call, name) => Ask::Relaxes(call, name),
+    }
+}
+
+// What a command asks for where it stands.
+// Not inlined, as `Frame::ask`.
+#[inline(never)]
+fn asked_by(scan: &CommandScan) -> Ask
+    ensures is { (held : Lists) → ask_of held result ≡ command_ask (resume_command scan.now held []) }
+    ensures owns { Owns result (command_count scan.now) }
+    ensures found { IsFetchedAt result }
+{
+    of_command(scan.ask())
+}
+
+// What the scanner of `\csname` asks for; the list of its characters is on top.
+fn of_spelling(call: Call, asked: SpellAsk) -> Ask
+    ensures is { (held : Lists) → ask_of held result ≡ command_ask (spell_ask call (top_list held) asked) }
+    ensures owns { Owns result 1 }
+    ensures found { IsFetchedAt result }
+{
+    match asked {
+        SpellAsk::More => Ask::More(Want::Expanded),
+        SpellAsk::NoEnd => Ask::Tells(Report::MissingEndcsname, true),
+        SpellAsk::Makes => Ask::ActsOn(call, Effect::MakeName, true),
+        SpellAsk::Ends => Ask::Ends,
+    }
+}
+
+// What the scanner of `\input` asks for; the list of the name's characters is on top.
+fn of_file_name(call: Call, asked: FileAsk) -> Ask
+    ensures is { (held : Lists) → ask_of held result ≡ command_ask (file_ask call (top_list held) asked) }
+    ensures owns { Owns result 1 }
+    ensures found { IsFetchedAt result }
+{
+    match asked {
+        FileAsk::More(want) => Ask::More(want),
+        FileAsk::Opens(back) => Ask::ActsOn(call, Effect::StartInput(back), true),
+        FileAsk::Ends => Ask::Ends,
+    }
+}
+
+// What skipped text asks for.
+fn of_skip(call: Call, aim: Aim, asked: SkipAsk) -> Ask
+    ensures is { (held : Lists) → ask_of held result ≡ command_ask (skip_ask call aim asked) }
+    ensures owns { Owns result 0 }
+    ensures found { IsFetchedAt result }
+{
+    match asked {
+        SkipAsk::More => Ask::More(Want::Unentered),
+        SkipAsk::Reaches(ender) => Ask::Acts(call, Effect::Reach(aim, ender)),
+        SkipAsk::Ends => Ask::Ends,
+    }
+}
+
 impl Frame {
     /// A reading begins; one that builds a list has one of no token on top.
     pub fn begin(opening: Opening) -> Frame
@@ -199,17 +286,17 @@ impl Frame {
         ensures found { IsFetchedAt result }
     {
         match self {
-            Frame::Build(scan) => scan.ask(),
+            Frame::Build(scan) => of_list(scan.ask()),
             Frame::Integer(scan) => of_number(scan.ask()),
-            Frame::Command(scan, _) => scan.ask(),
+            Frame::Command(scan, _) => asked_by(scan),
             Frame::Factor(scan) => of_factor(scan.ask()),
             Frame::Dimension(scan) => of_dimension(scan.ask()),
             Frame::Glue(scan) => of_glue(scan.ask()),
             Frame::Keyword(scan) => of_keyword(scan.ask()),
-            Frame::Spelling(scan) => scan.ask(),
-            Frame::FileName(scan) => scan.ask(),
+            Frame::Spelling(scan) => of_spelling(scan.call, scan.ask()),
+            Frame::FileName(scan) => of_file_name(scan.call, scan.ask()),
             Frame::Behind(call, x) => Ask::Acts(*call, Effect::PutBack(*x)),
-            Frame::Skips(scan) => scan.ask(),
+            Frame::Skips(scan) => of_skip(scan.call, scan.aim, scan.ask()),
             Frame::Call(_) => Ask::More(Want::Raw),
         }
     }

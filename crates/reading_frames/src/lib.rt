@@ -16,14 +16,14 @@ mod spelling;
 mod text;
 
 pub use ask::{Ask, Found, Grown, Opening};
-pub use command::CommandScan;
-pub use file_name::{FilePlace, FileScan};
+pub use command::{CommandScan, ListedAsk};
+pub use file_name::{FileAsk, FilePlace, FileScan};
 pub use frame::Frame;
 pub use laws::{
     groups_have_braces, lists_are_held, readings_are_fed, readings_begin, readings_end,
     rules_are_light, tokens_enter, weights_are_small,
 };
 pub use readings::Readings;
-pub use skip::{SkipPlace, SkipScan};
-pub use spelling::{SpellPlace, SpellScan};
-pub use text::{BuildPlace, BuildScan};
+pub use skip::{SkipAsk, SkipPlace, SkipScan};
+pub use spelling::{SpellAsk, SpellPlace, SpellScan};
+pub use text::{BuildPlace, BuildScan, ListAsk};

@@ -15,7 +15,7 @@ ghost use Rattle.reading_frames.specs.declared.ask.Ask.TheVariants as asks;
 ghost use Rattle.reading_frames.specs.Weights.{frames_weight, opening_frame, opening_end, innermost_weight, innermost_end, innermost_fed, innermost_puts, begun_weight, begun_with_weight, IsReported};
 
 use crate::ask::{Ask, Found, Grown, Opening};
-use crate::frame::Frame;
+use crate::frame::{Frame, of_list};
 use equivalents::Val as StoredValue;
 use rows::Value;
 use std::alloc::{AllocError, Global};
@@ -154,7 +154,7 @@ impl Readings {
         };
         // Each token of a text comes here.
         if let Frame::Build(scan) = frame {
-            return Some(scan.ask());
+            return Some(of_list(scan.ask()));
         }
         Some(frame.ask())
     }

@@ -4,16 +4,13 @@ ghost use Rattle.tex_defs.specs.declared.Token.{Token};
 ghost use Rattle.rows.specs.declared.words.Value.{Value};
 ghost use Rattle.equivalents.specs.Locations.{SeenValue};
 ghost use Rattle.rows.specs.Readings.{Fed, Tok, Noted, Val, Fetched};
-ghost use Rattle.rows.specs.Commands.{command_ask};
 ghost use Rattle.plain_readings.specs.Skips.{skipping};
-ghost use Rattle.reading_frames.specs.Views.{ask_of, IsFetchedAt, Lists};
-ghost use Rattle.reading_frames.specs.Resumes.{resume_skip, Owns};
+ghost use Rattle.reading_frames.specs.Views.{skip_ask};
+ghost use Rattle.reading_frames.specs.Resumes.{resume_skip};
 
-use crate::ask::Ask;
 use conditionals::{Aim, Ender, Skip};
-use rows::{Call, Effect};
+use rows::Call;
 use tex_defs::Seen;
-use tex_syntax::Want;
 
 /// Where the reading of skipped text stands.
 #[derive(Clone, Copy)]
@@ -35,6 +32,17 @@ pub struct SkipScan {
     pub place: SkipPlace,
 }
 
+/// What skipped text asks for.
+#[must_use]
+#[derive(Clone, Copy)]
+pub enum SkipAsk {
+    /// A token, of which no name is entered.
+    More,
+    /// That what it seeks be reached with the `\fi`, the `\else` or the `\or` that came; it ends.
+    Reaches(Ender),
+    Ends,
+}
+
 impl SkipScan {
     /// The reading begins.
     pub fn new(call: Call, aim: Aim, line: u64) -> SkipScan
@@ -50,15 +58,13 @@ impl SkipScan {
     }
 
     /// What it asks for where it stands.
-    pub fn ask(&self) -> Ask
-        ensures is { (held : Lists) → ask_of held result ≡ command_ask (resume_skip self.now []) }
-        ensures owns { Owns result 0 }
-        ensures found { IsFetchedAt result }
+    pub fn ask(&self) -> SkipAsk
+        ensures { skip_ask self.now.call self.now.aim result ≡ resume_skip self.now [] }
     {
         match self.place {
-            SkipPlace::Inside(_) => Ask::More(Want::Unentered),
-            SkipPlace::Whole(ender) => Ask::Acts(self.call, Effect::Reach(self.aim, ender)),
-            SkipPlace::Stopped => Ask::Ends,
+            SkipPlace::Inside(_) => SkipAsk::More,
+            SkipPlace::Whole(ender) => SkipAsk::Reaches(ender),
+            SkipPlace::Stopped => SkipAsk::Ends,
         }
     }
 

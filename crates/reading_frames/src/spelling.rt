@@ -4,17 +4,15 @@ ghost use Rattle.tex_defs.specs.declared.Token.{Token};
 ghost use Rattle.rows.specs.declared.words.Value.{Value};
 ghost use Rattle.equivalents.specs.Locations.{SeenValue};
 ghost use Rattle.rows.specs.Readings.{Fed, Tok, Noted, Val, Fetched};
-ghost use Rattle.rows.specs.Commands.{command_ask};
 ghost use Rattle.rows.specs.Tokens as tokens;
 ghost use Rattle.plain_readings.specs.Spelling as names;
 ghost use Rattle.plain_readings.specs.Spelling.{spelling, characters};
-ghost use Rattle.reading_frames.specs.Views.{ask_of, IsFetchedAt, grown, Lists, top_list};
-ghost use Rattle.reading_frames.specs.Resumes.{resume_name, name_list, Owns};
+ghost use Rattle.reading_frames.specs.Views.{grown, spell_ask};
+ghost use Rattle.reading_frames.specs.Resumes.{resume_name, name_list};
 
-use crate::ask::{Ask, Grown};
-use rows::{Call, Effect};
+use crate::ask::Grown;
+use rows::Call;
 use tex_defs::{Meaning, Seen, Token};
-use tex_syntax::{Report, Want};
 
 /// `\endcsname`.
 const END_NAME: u16 = 4;
@@ -37,6 +35,19 @@ pub enum SpellPlace {
 pub struct SpellScan {
     pub call: Call,
     pub place: SpellPlace,
+}
+
+/// What `\csname` asks for.
+#[must_use]
+#[derive(Clone, Copy)]
+pub enum SpellAsk {
+    /// A token, by expansion.
+    More,
+    /// The report that `\endcsname` is missing, before which the last token is put back.
+    NoEnd,
+    /// That the name of its characters be made; it ends.
+    Makes,
+    Ends,
 }
 
 /// Whether it is a character.
@@ -72,16 +83,14 @@ impl SpellScan {
     }
 
     /// What it asks for where it stands.
-    pub fn ask(&self) -> Ask
-        ensures is { (held : Lists) → ask_of held result ≡ command_ask (resume_name self.now (top_list held) []) }
-        ensures owns { Owns result 1 }
-        ensures found { IsFetchedAt result }
+    pub fn ask(&self) -> SpellAsk
+        ensures { (list : List Token) → spell_ask self.now.call list result ≡ resume_name self.now list [] }
     {
         match self.place {
-            SpellPlace::Inside => Ask::More(Want::Expanded),
-            SpellPlace::NoEnd => Ask::Tells(Report::MissingEndcsname, true),
-            SpellPlace::Whole => Ask::ActsOn(self.call, Effect::MakeName, true),
-            SpellPlace::Stopped => Ask::Ends,
+            SpellPlace::Inside => SpellAsk::More,
+            SpellPlace::NoEnd => SpellAsk::NoEnd,
+            SpellPlace::Whole => SpellAsk::Makes,
+            SpellPlace::Stopped => SpellAsk::Ends,
         }
     }
 

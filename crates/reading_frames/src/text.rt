@@ -7,15 +7,14 @@ ghost use Rattle.rows.specs.Readings.{Fed, Tok, Noted, Val};
 ghost use Rattle.plain_readings.specs.Lists as lists;
 ghost use Rattle.plain_readings.specs.Lists.{build_ask, build_fed};
 ghost use Rattle.list_builder.specs.Stages as stages;
-ghost use Rattle.reading_frames.specs.Views.{ask_of, IsFetchedAt, grown, Lists, top_list};
-ghost use Rattle.reading_frames.specs.Resumes.{resume_build, next_in_body, groups_in, built_as, token_count, Owns};
+ghost use Rattle.reading_frames.specs.Views.{ask_of, grown, list_ask, Lists, top_list};
+ghost use Rattle.reading_frames.specs.Resumes.{resume_build, next_in_body, groups_in, built_as, token_count};
 ghost use Rattle.reading_frames.specs.declared.ask.Ask.TheVariants as asks;
 
-use crate::ask::{Ask, Grown};
+use crate::ask::Grown;
 use list_builder::{Due, Next, Stage, Step};
-use rows::Value;
 use tex_defs::{Name, Seen};
-use tex_syntax::{Manner, Scanned, Want};
+use tex_syntax::{Manner, Report, Scanned, Want};
 
 /// Where the reading of a list stands.
 #[derive(Clone, Copy)]
@@ -32,6 +31,17 @@ pub struct BuildScan {
     pub defines: bool,
     pub manner: Manner,
     pub place: BuildPlace,
+}
+
+/// What a balanced text or the list of a macro asks for.
+#[must_use]
+#[derive(Clone, Copy)]
+pub enum ListAsk {
+    More(Want),
+    /// A report, and whether the last token is put back before it.
+    Tells(Report, bool),
+    /// It is done, and the list is complete; no token is put back.
+    Done,
 }
 
 impl BuildScan {
@@ -94,17 +104,15 @@ impl BuildScan {
     }
 
     /// What it asks for where it stands.
-    pub fn ask(&self) -> Ask
-        ensures is { (held : Lists) → ask_of held result ≡ build_ask (resume_build self.now (top_list held) []) }
-        ensures owns { Owns result 1 }
-        ensures found { IsFetchedAt result }
+    pub fn ask(&self) -> ListAsk
+        ensures { (list : List Token) → list_ask result ≡ build_ask (resume_build self.now list []) }
     {
         match &self.place {
             BuildPlace::At(stage) => match stage.due(self.manner) {
-                Due::More(want) => Ask::More(want),
-                Due::Tells(report, back) => Ask::Tells(report, back),
+                Due::More(want) => ListAsk::More(want),
+                Due::Tells(report, back) => ListAsk::Tells(report, back),
             },
-            BuildPlace::Whole => Ask::Done(Value::List, false),
+            BuildPlace::Whole => ListAsk::Done,
         }
     }
 

@@ -1,4 +1,4 @@
--- What the engine's words stand for; the tokens are those of the list that was read last.
+-- What the values of this crate stand for; the tokens are those of the list that was read last.
 use Rattle.std.specs.Prelude.{List}
 use Rattle.tex_defs.specs.declared.Token.{Token}
 use Rattle.rows.specs.Readings as reading

@@ -1,6 +1,6 @@
 -- What a command asks for. It has a type of its own, in which no command can write an answer that none gives: a command has no value, calls no macro,
--- and asks neither for what stands at a location nor for the magnification. None asks only that a token be put back, as a keyword does: the last one may
--- be given back before a report, and what a command does in the end may put tokens back, as `\expandafter` does.
+-- asks neither for what stands at a location nor for the magnification, and puts no token back but the last one before a report. (At its end the effect
+-- may put back others, as that of `\expandafter` does.)
 use Rattle.std.specs.Prelude.{Bool, List}
 use Rattle.tex_defs.specs.declared.Name.{Name}
 use Rattle.tex_defs.specs.declared.Token.{Token}

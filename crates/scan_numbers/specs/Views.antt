@@ -1,4 +1,4 @@
--- What an integer may answer with (`NumberAsk`), and what its scanner keeps at a place.
+-- What an integer may answer with (`NumberAsk`), which numbers are in TeX's range (`IsInRange`), and what its scanner keeps at a place.
 use Rattle.std.specs.Prelude.{ℕ, ℤ, pos, negsuc, ◌≤ℤ◌}
 use Rattle.equivalents.specs.declared.values.Loc.{Loc}
 use Rattle.equivalents.specs.declared.values.Loc.TheVariants as loc
